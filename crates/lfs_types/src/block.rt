@@ -1,0 +1,7 @@
+//! The unit of storage.
+
+/// The number of bytes of a block (this project's profile).
+pub const BLOCK_SIZE: usize = 512;
+
+/// One block of the volume: 512 bytes.
+pub type Block = [u8; 512];
