@@ -1,1 +1,13 @@
+pub mod Caller
+pub mod Changes
+pub mod Credentials
+pub mod FlagNumbers
+pub mod Kinds
+pub mod Levels
 pub mod Naming
+pub mod Padded
+pub mod Paths
+pub mod RuleCodes
+pub mod Splicing
+pub mod Stored
+pub mod Tree

@@ -2,6 +2,17 @@
 //! answers, and the trait of a file store.
 #![tactic(auto)]
 
+pub mod answer;
+pub mod attrs;
 pub mod block;
+pub mod cred;
 pub mod fault;
+pub mod file_flags;
+pub mod level;
+pub mod mode;
 pub mod name;
+pub mod path;
+pub mod payload;
+pub mod request;
+pub mod rule;
+pub mod store;

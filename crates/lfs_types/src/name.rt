@@ -1,6 +1,6 @@
 //! Names in a directory.
 
-ghost use Rattle.std.specs.Prelude.{◌≡◌, ◌<◌, ◌≤◌, length};
+ghost use Rattle.std.specs.Prelude.{◌≡◌, ◌<◌, ◌≤◌, length, IfOk};
 ghost use Rattle.lfs_types.specs.Naming.{ParsesName, name_fault};
 
 use std::alloc::{AllocError, Global};
@@ -73,6 +73,25 @@ impl Name {
     {
         self.bytes.as_slice()
     }
+
+    /// A name equal to this one.
+    pub fn try_clone(&self, alloc: Global) -> Result<Name, AllocError>
+        ensures { IfOk result (λ copy. copy ≡ self.now) }
+    {
+        let bytes = Vec::from_slice(alloc, self.bytes.as_slice())?;
+        Ok(Name { bytes })
+    }
+}
+
+/// Names equal to these.
+pub fn clone_names(alloc: Global, names: &[Name]) -> Result<Vec<Name>, AllocError>
+    ensures { IfOk result (λ copies. copies.items ≡ names.now) }
+{
+    let mut copies = Vec::new(alloc);
+    for name in names {
+        copies.push(name.try_clone(alloc)?)?;
+    }
+    Ok(copies)
 }
 
 /// The first fault of bytes that are to be a name.

@@ -1,0 +1,158 @@
+//! Absolute paths.
+
+ghost use Rattle.std.specs.Prelude.{◌≡◌, ◌≤◌, length, option_copied, IfOk, MatchOption, false, ◌∷◌, position, ◌==◌};
+ghost use Rattle.lfs_types.specs.Paths.{ParsesPath, ParsesNames, IsCut, is_absolute, items_of, parts, path_text, slashed};
+
+use crate::name::{BadName, Name, clone_names};
+use std::alloc::{AllocError, Global};
+use std::marker::Model;
+use thiserror::Error;
+
+/// The most bytes that a path may have (4.4BSD's `PATH_MAX`).
+pub const PATH_MAX: usize = 1024;
+
+/// Why a text is no path: the first of these that holds (this project's profile).
+#[derive(Clone, Copy, PartialEq, Eq, Debug, Error)]
+pub enum BadPath {
+    /// The text does not begin with `/`.
+    #[error("the path does not begin with a slash")]
+    NotAbsolute,
+    /// There are more than 1,024 bytes.
+    #[error("the path has more than 1,024 bytes")]
+    Long,
+    /// The name of this component, counted from 1, is refused.
+    #[error("component {0}: {1}")]
+    Name(u32, BadName),
+    /// A growth was refused.
+    #[error("no memory")]
+    Memory,
+}
+
+/// An absolute path of at most 1,024 bytes, as its names from the root; `/` has none.
+#[derive(Drop, Debug)]
+pub struct Path {
+    names: Vec<Name>,
+}
+
+impl Model for Path {
+    ghost use Rattle.std.specs.Prelude.{List, ℕ, ◌≤◌, length};
+    ghost use Rattle.lfs_types.specs.Paths.{slashed};
+
+    ghost Value = { List (List ℕ) };
+
+    ghost view = { λ p. p.names.items };
+
+    ghost invariant = { λ p. length (slashed p.names.items) ≤ 1024 };
+}
+
+impl Path {
+    /// The path that this text spells, or the first fault in the order of `BadPath`.
+    pub fn parse(alloc: Global, text: &str) -> Result<Path, BadPath>
+        ensures parses { ParsesPath text.now result }
+        ensures spelled { IfOk result (λ path. path_text path ≡ text.now) }
+    {
+        let Some(behind) = behind_slash(text.as_bytes()) else {
+            return Err(BadPath::NotAbsolute);
+        };
+        if behind.len() >= PATH_MAX {
+            return Err(BadPath::Long);
+        }
+        if behind.is_empty() {
+            let names = Vec::new(alloc);
+            return Ok(Path { names });
+        }
+        let names = names_of(alloc, behind)?;
+        Ok(Path { names })
+    }
+
+    /// The names from the root, one for each component from 1.
+    pub fn names(&self) -> &[Name]
+        ensures value { result.now ≡ self.now }
+        ensures bounded { length (slashed self.now) ≤ 1024 }
+    {
+        self.names.as_slice()
+    }
+
+    /// A path equal to this one.
+    pub fn try_clone(&self, alloc: Global) -> Result<Path, AllocError>
+        ensures { IfOk result (λ copy. copy ≡ self.now) }
+    {
+        let names = clone_names(alloc, self.names.as_slice())?;
+        Ok(Path { names })
+    }
+}
+
+impl PartialEq for Path {
+    ghost use Rattle.std.specs.Prelude.{nat_eq};
+    ghost use Rattle.std.specs.Cmp.Lexicographic.{pointwise};
+    ghost use Rattle.std.proofs.Common.{rules};
+    ghost use Rattle.std.specs.Cmp.Rules.{comparing};
+
+    ghost eq = { pointwise (pointwise nat_eq) };
+
+    ghost laws = { Prim.search (comparing, rules) };
+
+    fn eq(&self, other: &Path) -> bool {
+        self.names == other.names
+    }
+}
+
+impl Eq for Path {
+    ghost use Rattle.std.proofs.Common.{rules};
+    ghost use Rattle.std.specs.Cmp.Rules.{comparing};
+
+    ghost laws = { Prim.search (comparing, rules) };
+}
+
+/// The bytes behind a slash at the front, where there is one.
+fn behind_slash(text: &[u8]) -> Option<&[u8]>
+    ensures { MatchOption result (is_absolute text.now ≡ false) (λ behind. text.now ≡ 47 ∷ behind.now) }
+{
+    match text.split_first() {
+        Some((b'/', behind)) => Some(behind),
+        _ => None,
+    }
+}
+
+/// Where the first slash stands.
+fn slash_at(text: &[u8]) -> Option<usize>
+    ensures { result ≡ position (λ b. b == 47) text.now }
+{
+    text.iter().position(|b| *b == b'/')
+}
+
+/// The bytes up to the first slash, and those behind it where there is one.
+fn cut_at_slash(text: &[u8]) -> (&[u8], Option<&[u8]>)
+    ensures { IsCut text.now result.0.now (option_copied result.1) }
+{
+    match slash_at(text) {
+        Some(at) => (&text[..at], Some(&text[at + 1..])),
+        None => (text, None),
+    }
+}
+
+/// The names between the slashes of a text, the first being component 1.
+fn names_of(alloc: Global, text: &[u8]) -> Result<Vec<Name>, BadPath>
+    requires { length text.now ≤ 1024 }
+    ensures { ParsesNames 1 (parts text.now) (items_of result) }
+{
+    let mut names = Vec::new(alloc);
+    let mut rest = text;
+    let mut component = 1u32;
+    loop {
+        let (part, behind) = cut_at_slash(rest);
+        let name = match Name::parse(alloc, part) {
+            Ok(name) => name,
+            Err(BadName::Memory) => return Err(BadPath::Memory),
+            Err(fault) => return Err(BadPath::Name(component, fault)),
+        };
+        if names.push(name).is_err() {
+            return Err(BadPath::Memory);
+        }
+        match behind {
+            None => return Ok(names),
+            Some(behind) => rest = behind,
+        }
+        component += 1;
+    }
+}

@@ -1,0 +1,111 @@
+//! The trait of a file store: files by number, with no names and no permissions.
+
+ghost use Rattle.std.specs.Prelude.{◌≡◌, ◌≤◌, ℕ, Bool, length, IsSome, IfErr, OnOk, OnErr};
+ghost use Rattle.std.specs.FinMap.{get};
+ghost use Rattle.lfs_types.specs.Tree.{Content};
+ghost use Rattle.lfs_types.specs.Changes.{applied, CanApply};
+ghost use Rattle.lfs_types.specs.Stored.{shown_attrs, bytes_of, slice_of, Reads, IsLeastFree, MayRefuse};
+
+use crate::attrs::Attrs;
+use thiserror::Error;
+
+/// One change of a store's content. A directory's bytes are its blocks.
+#[derive(Clone, Copy)]
+pub enum Change<'a> {
+    /// A free number gets an empty file of these attributes; their size counts for nothing.
+    Make {
+        /// The number, at least 4.
+        ino: u32,
+        /// The attributes.
+        attrs: Attrs,
+    },
+    /// A file gets these attributes; its bytes and its size stay.
+    SetAttrs {
+        /// The number.
+        ino: u32,
+        /// The attributes, of the same kind.
+        attrs: Attrs,
+    },
+    /// Bytes are put into a file; a gap before them is filled with zeros.
+    Put {
+        /// The number.
+        ino: u32,
+        /// Where the first byte goes, counted from 0.
+        off: u64,
+        /// The bytes.
+        bytes: &'a [u8],
+    },
+}
+
+/// Why a store did not make changes.
+#[derive(Clone, Copy, PartialEq, Eq, Debug, Error)]
+pub enum StoreRefusal {
+    /// There is no room. It comes only with at most two clean segments.
+    #[error("no space")]
+    NoSpace,
+    /// A growth was refused.
+    #[error("no memory")]
+    NoMemory,
+}
+
+/// A store of files by number. Contracts see its content as a finite map, however it is kept.
+pub trait FileStore {
+    /// What it contains.
+    ghost content: { Self → Content };
+
+    /// How many inode numbers it has; no call changes this.
+    ghost numbers: { Self → ℕ };
+
+    /// How many segments it has; no call changes this.
+    ghost segments: { Self → ℕ };
+
+    /// How many of its segments are clean.
+    ghost clean: { Self → ℕ };
+
+    /// Whether its changes take memory, and so can lack it.
+    ghost can_lack_memory: { Bool };
+
+    /// The attributes of a number, if it is in use.
+    fn attrs(&self, ino: u32) -> Option<Attrs>
+        ensures { result ≡ shown_attrs (content self.now) ino };
+
+    /// Reads a file's bytes from `off` on, as many as there are and the buffer takes, and says how many.
+    fn read(&mut self, ino: u32, off: u64, into: &mut [u8]) -> usize
+        requires { IsSome (get (content self.old) ino) }
+        ensures reads { Reads (slice_of (bytes_of (content self.old) ino) off (length into.old)) result into.old into.new }
+        ensures content { content self.new ≡ content self.old }
+        ensures clean { clean self.new ≡ clean self.old }
+        ensures numbers { numbers self.new ≡ numbers self.old }
+        ensures segments { segments self.new ≡ segments self.old };
+
+    /// The least free number from 4 up, if there is one below the number of inode numbers.
+    fn least_free(&self) -> Option<u32>
+        ensures { IsLeastFree (numbers self.now) (content self.now) result };
+
+    /// How many segments are clean.
+    fn clean_segments(&self) -> u32
+        ensures { result ≡ clean self.now };
+
+    /// Makes all the changes, in order, or none of them.
+    fn apply(&mut self, changes: &[Change<'_>]) -> Result<(), StoreRefusal>
+        requires { CanApply (numbers self.old) changes.now (content self.old) }
+        ensures ok { OnOk result (content self.new ≡ applied changes.now (content self.old)) }
+        ensures err { OnErr result (content self.new ≡ content self.old) }
+        ensures refused { IfErr result (MayRefuse (clean self.old) can_lack_memory) }
+        ensures clean { clean self.new ≤ clean self.old }
+        ensures numbers { numbers self.new ≡ numbers self.old }
+        ensures segments { segments self.new ≡ segments self.old };
+}
+
+/// The numbers with which a volume is laid out.
+#[derive(Clone, Copy, PartialEq, Eq, Debug)]
+pub struct Params {
+    /// How many segments: 6 to 1,024.
+    pub segments: u32,
+    /// How many inode numbers: 16 to 4,096.
+    pub inodes: u32,
+    /// How many frames the block cache has: 32 to 1,024.
+    pub frames: u32,
+    /// How many entries the journal may have: 1 to 100,000.
+    pub journal: u32,
+}
