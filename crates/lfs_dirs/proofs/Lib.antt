@@ -1,0 +1,4 @@
+pub mod Front
+pub mod Adding
+pub mod Testing
+pub mod Removing

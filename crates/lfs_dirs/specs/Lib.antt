@@ -1,0 +1,4 @@
+pub mod Directory
+pub mod Reading
+pub mod Laws
+pub mod Changes

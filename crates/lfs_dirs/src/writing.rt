@@ -1,0 +1,90 @@
+//! Blocks with an entry more or less.
+
+ghost use Rattle.std.specs.Prelude.{◌≡◌, ◌+◌, ◌<◌, ◌≤◌, ◌++◌, ◌∷◌, ◌↔◌, [], None, drop, length, IfSome, IsSome};
+ghost use Rattle.lfs_dirs.specs.Directory.{IsDirectoryBlock, IsEntry, entry_bytes, number_in, used_of, without};
+ghost use Rattle.lfs_dirs.specs.Reading.{entries_of};
+
+use crate::reading::entries;
+use byteorder::{BigEndian, ByteOrder};
+use lfs_types::block::{BLOCK_SIZE, Block};
+use lfs_types::name::Name;
+
+/// The bytes of an entry that aren't those of its name: the number and the name's length.
+const HEAD_SIZE: usize = 5;
+
+/// The block with an entry more at the end of its list, or None where the five bytes and the name don't
+/// fit behind the entries.
+pub fn added(block: &Block, name: &Name, number: u32) -> Option<Block>
+    requires directory { IsDirectoryBlock block.now (entries_of block.now) }
+    requires above { 0 < number }
+    requires new_name { number_in name.now (entries_of block.now) ≡ None }
+    ensures fits { IsSome result ↔ (used_of (entries_of block.now) + 5 + length name.now ≤ 512) }
+    ensures block { IfSome result (λ b. IsDirectoryBlock b (entries_of block.now ++ (number, name.now) ∷ [])) }
+    ensures listed { IfSome result (λ b. entries_of b ≡ entries_of block.now ++ (number, name.now) ∷ []) }
+{
+    let name = name.as_bytes();
+    let end = used(block);
+    if BLOCK_SIZE - end < HEAD_SIZE + name.len() {
+        return None;
+    }
+    let mut longer = *block;
+    push_entry(&mut longer, end, number, name);
+    Some(longer)
+}
+
+/// The block without the entry of this name, closed up.
+pub fn removed(block: &Block, name: &Name) -> Block
+    requires { IsDirectoryBlock block.now (entries_of block.now) }
+    ensures block { IsDirectoryBlock result (without name.now (entries_of block.now)) }
+    ensures listed { entries_of result ≡ without name.now (entries_of block.now) }
+{
+    let unwanted = name.as_bytes();
+    let mut shorter = [0; BLOCK_SIZE];
+    let mut end = 0;
+    for (number, name) in entries(block) {
+        if name != unwanted {
+            end = push_entry(&mut shorter, end, number, name);
+        }
+    }
+    shorter
+}
+
+/// How many bytes the entries of a directory block take.
+fn used(block: &Block) -> usize
+    requires { IsDirectoryBlock block.now (entries_of block.now) }
+    ensures value { result ≡ used_of (entries_of block.now) }
+    ensures small { result ≤ 512 }
+{
+    let mut end = 0;
+    for (_, name) in entries(block) {
+        end += HEAD_SIZE + name.len();
+    }
+    end
+}
+
+/// Writes an entry behind the entries of a directory block, which end at `end`. Returns where they end
+/// then.
+fn push_entry(block: &mut Block, end: usize, number: u32, name: &[u8]) -> usize
+    requires directory { IsDirectoryBlock block.old (entries_of block.old) }
+    requires at_end { end ≡ used_of (entries_of block.old) }
+    requires room { end + 5 + length name.now ≤ 512 }
+    requires entry { IsEntry (number, name.now) }
+    requires new_name { number_in name.now (entries_of block.old) ≡ None }
+    ensures block { IsDirectoryBlock block.new (entries_of block.old ++ (number, name.now) ∷ []) }
+    ensures listed { entries_of block.new ≡ entries_of block.old ++ (number, name.now) ∷ [] }
+    ensures end { result ≡ end + 5 + length name.now }
+{
+    write_entry(&mut block[end..], number, name);
+    end + HEAD_SIZE + name.len()
+}
+
+/// Writes the bytes of an entry over the front of others.
+fn write_entry(out: &mut [u8], number: u32, name: &[u8])
+    requires room { 5 + length name.now ≤ length out.old }
+    requires short { length name.now < 256 }
+    ensures { out.new ≡ entry_bytes (number, name.now) ++ drop (5 + length name.now) out.old }
+{
+    BigEndian::write_u32(out, number);
+    out[4] = name.len() as u8;
+    out[HEAD_SIZE..HEAD_SIZE + name.len()].copy_from_slice(name);
+}

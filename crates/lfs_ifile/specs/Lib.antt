@@ -1,0 +1,4 @@
+pub mod Segment
+pub mod Inode
+pub mod Tables
+pub mod Layout

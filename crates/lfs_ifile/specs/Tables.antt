@@ -1,0 +1,76 @@
+-- what an ifile holds, and its changes at one place
+use Rattle.std.specs.Prelude.{◌≡◌, ℕ, ◌*◌, ◌<◌, ◌≤◌, ◌⊎◌, List, length, replicate, slice_index, slice_index_or, slice_set, true, false, Option, All}
+use Rattle.lfs_ifile.specs.declared.segment.SegState.{SegState}
+use Rattle.lfs_ifile.specs.declared.segment.SegState.TheVariants.{Clean}
+use Rattle.lfs_ifile.specs.declared.segment.SegUse.{SegUse}
+use Rattle.lfs_ifile.specs.declared.inode.InodeRow.{InodeRow}
+use Rattle.lfs_ifile.specs.declared.inode.InodePlace.{InodePlace}
+use Rattle.lfs_ifile.specs.Inode.{fresh_row, place_in, IsRow}
+
+-- the live bytes and the state of each segment, and the row of each inode number
+pub record Tables : Type 0 where
+  pub live : List ℕ
+  pub states : List SegState
+  pub rows : List InodeRow
+
+-- how a segment is used
+abbrev pub usage_of : Tables → ℕ → SegUse
+usage_of tables seg = record { live = slice_index tables.live seg; state = slice_index_or tables.states seg Clean }
+
+-- the row at a place of the inode map
+abbrev pub row_at : List InodeRow → ℕ → InodeRow
+row_at rows ino = slice_index_or rows ino fresh_row
+
+-- the row of an inode number
+abbrev pub row_of : Tables → ℕ → InodeRow
+row_of tables ino = row_at tables.rows ino
+
+-- where the record of an inode number stands
+abbrev pub place_of : Tables → ℕ → Option InodePlace
+place_of tables ino = place_in (row_of tables ino)
+
+-- the tables with one segment's live bytes changed
+abbrev pub with_live : Tables → ℕ → ℕ → Tables
+with_live tables seg live = record tables { live = slice_set tables.live seg live }
+
+-- the tables with one segment's state changed
+abbrev pub with_state : Tables → ℕ → SegState → Tables
+with_state tables seg state = record tables { states = slice_set tables.states seg state }
+
+-- the tables with one row changed
+abbrev pub with_row : Tables → ℕ → InodeRow → Tables
+with_row tables ino row = record tables { rows = slice_set tables.rows ino row }
+
+-- the numbers from `low` up and below `high` are used
+abbrev pub AreUsed : List InodeRow → ℕ → ℕ → Type 0
+AreUsed rows low high = (ino : ℕ) → low ≤ ino → ino < high → (row_at rows ino).used ≡ true
+
+-- the least unused number from 4 up
+pub record IsLeastFree (rows : List InodeRow) (ino : ℕ) : Type 0 where
+  pub from_four : 4 ≤ ino
+  pub in_range : ino < length rows
+  pub unused : (row_at rows ino).used ≡ false
+  pub used_below : AreUsed rows 4 ino
+
+-- what holds of every ifile
+pub record IsIfile (tables : Tables) : Type 0 where
+  pub segments_least : 6 ≤ length tables.live
+  pub segments_most : length tables.live ≤ 1024
+  pub states_length : length tables.states ≡ length tables.live
+  pub inodes_least : 16 ≤ length tables.rows
+  pub inodes_most : length tables.rows ≤ 4096
+  pub live_bytes : All (λ live. live ≤ 32768) tables.live
+  pub each_row : All (IsRow (64 * length tables.live)) tables.rows
+
+-- a new ifile: every segment clean with no live bytes, no number used
+abbrev pub fresh_tables : ℕ → ℕ → Tables
+fresh_tables segments inodes =
+    record { live = replicate segments 0; states = replicate segments Clean; rows = replicate inodes fresh_row }
+
+-- too few segments, or, with segments in their range, too few inode numbers
+abbrev pub IsTooFew : ℕ → ℕ → Type 0
+IsTooFew segments inodes = (segments < 6) ⊎ ((segments ≤ 1024) × (inodes < 16))
+
+-- too many segments, or, with segments in their range, too many inode numbers
+abbrev pub IsTooMany : ℕ → ℕ → Type 0
+IsTooMany segments inodes = (1024 < segments) ⊎ ((6 ≤ segments) × (4096 < inodes))

@@ -1,0 +1,18 @@
+//! The ifile: how each segment of the volume is used, and where the record of each inode number
+//! stands (the 1993 paper on the log-structured file system for UNIX). Ranges and bytes are this
+//! project's profile.
+#![tactic(auto)]
+
+mod inode;
+mod reading;
+mod segment;
+mod tables;
+mod writing;
+
+pub use inode::{InodePlace, InodeRow};
+pub use reading::usage_in;
+pub use segment::{SegState, SegUse};
+pub use tables::Ifile;
+
+#[cfg(test)]
+mod tests;

@@ -1,0 +1,10 @@
+pub mod Changed
+pub mod Children
+pub mod Grown
+pub mod GrownStore
+pub mod Listings
+pub mod Maps
+pub mod Pieces
+pub mod Somewhere
+pub mod Visible
+pub mod StepLemmas

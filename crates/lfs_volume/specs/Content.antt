@@ -1,0 +1,51 @@
+-- What a store's content shows as a world.
+use Rattle.std.specs.Prelude.{◌≡◌, ℕ, zero, suc, ◌+◌, ◌*◌, ◌/◌, ◌<◌, List, [], ◌++◌, length, take, drop, Some, option_map}
+use Rattle.std.specs.FinMap as map
+use Rattle.lfs_types.specs.Changes.{IsLength}
+use Rattle.lfs_types.specs.Tree.{File, Row, World, Content}
+use Rattle.lfs_types.specs.declared.attrs.Kind.{Kind}
+use Rattle.lfs_types.specs.declared.attrs.Kind.TheVariants.{File as Regular, Directory}
+use Rattle.lfs_dirs.specs.Directory.{Entry, IsDirectoryBlock, AreEntries, number_in, used_of}
+use Rattle.lfs_dirs.specs.Reading.{entries_of}
+use Rattle.lfs_volume.specs.World.{Rows, child}
+
+-- a block of a directory's bytes
+abbrev pub block_at : List ℕ → ℕ → List ℕ
+block_at bytes k = take 512 (drop (512 * k) bytes)
+
+-- the entries of the first blocks of a directory's bytes, so many of them
+unfoldable pub entries_below : List ℕ → ℕ → List Entry
+entries_below bytes zero = []
+entries_below bytes (suc k) = entries_below bytes k ++ entries_of (block_at bytes k)
+
+-- the entries of a directory's bytes
+abbrev pub listed : List ℕ → List Entry
+listed bytes = entries_below bytes (length bytes / 512)
+
+-- A directory's bytes list the rows that hang in it: each block is a directory block, no name stands twice, and
+-- a name's entry has the number of the row that hangs there under that name.
+pub record IsListing (rows : Rows) (parent : ℕ) (bytes : List ℕ) : Type 0 where
+  pub blocks : (k : ℕ) → k < length bytes / 512 → IsDirectoryBlock (block_at bytes k) (entries_of (block_at bytes k))
+  pub distinct : AreEntries (listed bytes)
+  pub names : (name : List ℕ) → number_in name (listed bytes) ≡ child rows parent name
+
+-- what users see of a file's bytes: of a directory none
+abbrev pub visible_bytes : Kind → List ℕ → List ℕ
+visible_bytes Regular bytes = bytes
+visible_bytes Directory bytes = []
+
+-- what users see of a file
+abbrev pub visible : File → File
+visible f = record f { bytes = visible_bytes f.kind f.bytes }
+
+-- A store's content shows a world: numbers and attributes agree, a file's bytes are its row's, each file has a
+-- length that its kind may have, and the bytes of each directory list the rows that hang in it.
+pub record Shows (c : Content) (w : World) : Type 0 where
+  pub files : (n : ℕ) → option_map visible (map.get c n) ≡ option_map (λ (r : Row). r.file) (map.get w.rows n)
+  pub sizes : (n : ℕ) (f : File) → map.get c n ≡ Some f → IsLength f.kind (length f.bytes)
+  pub listings : (n : ℕ) (f : File) → map.get c n ≡ Some f → f.kind ≡ Directory → IsListing w.rows n f.bytes
+
+-- a new name fits in no block of a directory, which has all the blocks that it may have
+pub record FitsNowhere (bytes : List ℕ) (name : List ℕ) : Type 0 where
+  pub whole : length bytes ≡ 71680
+  pub full : (k : ℕ) → k < 140 → 512 < used_of (entries_of (block_at bytes k)) + 5 + length name

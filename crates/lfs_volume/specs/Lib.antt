@@ -1,0 +1,6 @@
+pub mod Content
+pub mod Effects
+pub mod Rules
+pub mod Steps
+pub mod Walks
+pub mod World

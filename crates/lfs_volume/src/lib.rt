@@ -1,0 +1,6 @@
+//! The rules over a file store, and the journal of what was answered.
+#![tactic(auto)]
+
+mod directory;
+pub mod journal;
+mod walking;

@@ -1,0 +1,83 @@
+//! The walk along a path.
+
+ghost use Rattle.std.specs.Prelude.{◌≡◌, ◌<◌, ◌≤◌, IsSome, length};
+ghost use Rattle.std.specs.FinMap.{get};
+ghost use Rattle.lfs_types.specs.Tree.{World, root};
+ghost use Rattle.lfs_volume.specs.World.{IsTree};
+ghost use Rattle.lfs_volume.specs.Content.{Shows};
+ghost use Rattle.lfs_volume.specs.Walks.{stepped, walked};
+
+use crate::directory::look_up;
+use lfs_rules::access::grants;
+use lfs_types::attrs::Bit;
+use lfs_types::cred::Cred;
+use lfs_types::name::Name;
+use lfs_types::rule::{Denial, Rule};
+use lfs_types::store::FileStore;
+
+/// The number of the root directory.
+pub(crate) const ROOT: u32 = 2;
+
+/// One step of a walk: from the row at component `at` to a name, or the first rule that fails.
+fn step<F: FileStore>(
+    store: &mut F,
+    cred: &Cred,
+    path: u8,
+    at: u32,
+    dir: u32,
+    name: &Name,
+) -> Result<u32, Denial>
+    requires tree { (w : World) × (Shows (F.content store.old) w × IsTree w.rows) }
+    requires used { IsSome (get (F.content store.old) dir) }
+    requires short { at < 1024 }
+    ensures step { (w : World) → Shows (F.content store.old) w → result ≡ stepped w.rows cred.now path at dir name.now }
+    ensures content { F.content store.new ≡ F.content store.old }
+    ensures clean { F.clean store.new ≡ F.clean store.old }
+    ensures numbers { F.numbers store.new ≡ F.numbers store.old }
+    ensures segments { F.segments store.new ≡ F.segments store.old }
+{
+    let Some(attrs) = store.attrs(dir) else {
+        unreachable!()
+    };
+    if !attrs.kind.is_directory() {
+        return Err(Denial {
+            rule: Rule::IsDirectory,
+            path,
+            at,
+        });
+    }
+    if !grants(&attrs, cred, Bit::Search) {
+        return Err(Denial {
+            rule: Rule::GrantsSearch,
+            path,
+            at,
+        });
+    }
+    look_up(store, dir, attrs.size, name).ok_or(Denial {
+        rule: Rule::NameThere,
+        path,
+        at: at + 1,
+    })
+}
+
+/// Where a walk from the root along names ends, or the first rule that fails on the way.
+pub(crate) fn walk<F: FileStore>(
+    store: &mut F,
+    cred: &Cred,
+    path: u8,
+    names: &[Name],
+) -> Result<u32, Denial>
+    requires tree { (w : World) × (Shows (F.content store.old) w × IsTree w.rows) }
+    requires short { length names.now ≤ 1024 }
+    ensures walk { (w : World) → Shows (F.content store.old) w → result ≡ walked w.rows cred.now path 0 root names.now }
+    ensures content { F.content store.new ≡ F.content store.old }
+    ensures clean { F.clean store.new ≡ F.clean store.old }
+    ensures numbers { F.numbers store.new ≡ F.numbers store.old }
+    ensures segments { F.segments store.new ≡ F.segments store.old }
+{
+    let mut dir = ROOT;
+    for (at, name) in names.iter().enumerate() {
+        dir = step(store, cred, path, at as u32, dir, name)?;
+    }
+    Ok(dir)
+}
