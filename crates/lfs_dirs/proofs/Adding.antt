@@ -1,10 +1,9 @@
 -- An entry written behind the entries of a directory block.
-use Rattle.std.proofs.Common.{◌≡◌, ℕ, ◌+◌, ◌-◌, ◌<◌, ◌≤◌, List, [], ◌∷◌, ◌++◌, length, take, drop, replicate, None, refl, sym, ap, ◌∙◌, subst, arith, length-append, append_assoc}
+use Rattle.std.proofs.Common.{◌≡◌, ℕ, ◌+◌, ◌-◌, ◌≤◌, List, [], ◌∷◌, ◌++◌, length, take, drop, replicate, None, refl, sym, ap, ◌∙◌, subst, arith, length-append, append_assoc}
 use Rattle.std.proofs.lemmas.Grind.{flat_map-append}
 use Rattle.std.proofs.lemmas.List.{append-nil, take_at, drop_at, take_all, drop_all, drop-replicate, length-replicate}
-use Rattle.lfs_dirs.specs.Directory.{Entry, entry_bytes, used_of, number_in, IsEntry, AreEntries, Spells, IsDirectoryBlock}
-use Rattle.lfs_dirs.specs.Reading.{entries_of}
-use Rattle.lfs_dirs.specs.Laws.{bytes_of, length-bytes_of, length-entry_bytes, Spells-bytes, Spells-from_bytes, zeros_left, used_of-append, entries_of-block}
+use Rattle.lfs_dirs.specs.Directory.{Entry, entry_bytes, used_of, number_in, IsEntry, Spells, IsDirectoryBlock}
+use Rattle.lfs_dirs.specs.Laws.{bytes_of, length-bytes_of, Spells-bytes, Spells-from_bytes, zeros_left, used_of-append}
 use Rattle.lfs_dirs.specs.Changes.{AreEntries-added}
 use borrow.Rule.Slice.PartMut.{put_mid, mid_of, post_of}
 

@@ -1,6 +1,6 @@
 -- What holds of lists of entries when one is added or taken away.
-use Rattle.std.proofs.Common.{◌≡◌, ◌≢◌, ℕ, zero, suc, ◌+◌, ◌<◌, ◌≤◌, Bool, true, false, cond, not, List, [], ◌∷◌, ◌++◌, length, get_or, Option, None, Some, refl, sym, ap, ◌∙◌, subst, ⊎_elim, arith}
-use Rattle.std.specs.Prelude.{All, AllPairs, Contains, filter, find, option_map, bytes_eq}
+use Rattle.std.proofs.Common.{◌≡◌, ◌≢◌, ℕ, zero, suc, ◌+◌, ◌<◌, ◌≤◌, Bool, true, false, not, List, [], ◌∷◌, ◌++◌, length, get_or, None, Some, refl, sym, ap, ◌∙◌, subst, ⊎_elim, arith}
+use Rattle.std.specs.Prelude.{All, AllPairs, Contains, filter, option_map}
 use Rattle.std.proofs.lemmas.Bool.{cond-true, cond-false, cases_Bool, false_from_ne_true, both_ways}
 use Rattle.std.proofs.lemmas.List.Elements.{All-nil, All-cons, All-filter, All-contains, All-contains_itself}
 use Rattle.std.proofs.lemmas.Slice.Eq.{bytes_eq-Decides}
@@ -20,10 +20,16 @@ has_name-false name e h same = both_ways _ h (has_name-same name e same)
 pub has_name-other : (name : List ℕ) (e : Entry) → e.1 ≢ name → has_name name e ≡ false
 has_name-other name e h = false_from_ne_true _ (λ t. h (has_name-true name e t))
 
+pub number_in-nil : (name : List ℕ) → number_in name [] ≡ None
+unfolding number_in
+number_in-nil name = refl
+
 pub number_in-here : (name : List ℕ) (e : Entry) (es : List Entry) → has_name name e ≡ true → number_in name (e ∷ es) ≡ Some e.0
+unfolding number_in
 number_in-here name e es h = ap (option_map (λ (f : Entry). f.0)) (cond-true _ _ _ h)
 
 pub number_in-later : (name : List ℕ) (e : Entry) (es : List Entry) → has_name name e ≡ false → number_in name (e ∷ es) ≡ number_in name es
+unfolding number_in
 number_in-later name e es h = ap (option_map (λ (f : Entry). f.0)) (cond-false _ _ _ h)
 
 -- a name that isn't in a list isn't its first's, nor in the rest
@@ -67,7 +73,7 @@ number_in-after name e es fs same =
 
 -- what isn't in a list isn't in a part of it
 pub number_in-filter : (keeps : Entry → Bool) (name : List ℕ) (es : List Entry) → number_in name es ≡ None → number_in name (filter keeps es) ≡ None
-number_in-filter keeps name [] h = refl
+number_in-filter keeps name [] h = h
 number_in-filter keeps name (e ∷ es) h =
     let none = number_in-none name e es h in
     let rest = number_in-filter keeps name es none.1 in
@@ -76,9 +82,9 @@ number_in-filter keeps name (e ∷ es) h =
     (λ t. ap (number_in name) (cond-false _ _ _ t) ∙ rest)
     (cases_Bool (keeps e))
 
--- what isn't in two lists isn't in both together, and the other way round
+-- what isn't in two lists together is in neither
 pub number_in-both : (name : List ℕ) (es fs : List Entry) → number_in name (es ++ fs) ≡ None → (number_in name es ≡ None) × (number_in name fs ≡ None)
-number_in-both name [] fs h = (refl, h)
+number_in-both name [] fs h = (number_in-nil name, h)
 number_in-both name (e ∷ es) fs h =
     let none = number_in-none name e (es ++ fs) h in
     let both = number_in-both name es fs none.1 in
@@ -86,22 +92,28 @@ number_in-both name (e ∷ es) fs h =
 
 -- ---- a name's entry is taken away
 
+pub without-nil : (name : List ℕ) → without name [] ≡ []
+unfolding without
+without-nil name = refl
+
 pub without-here : (name : List ℕ) (e : Entry) (es : List Entry) → has_name name e ≡ true → without name (e ∷ es) ≡ without name es
+unfolding without
 without-here name e es h = cond-false _ _ _ (ap not h)
 
 pub without-later : (name : List ℕ) (e : Entry) (es : List Entry) → has_name name e ≡ false → without name (e ∷ es) ≡ e ∷ without name es
+unfolding without
 without-later name e es h = cond-true _ _ _ (ap not h)
 
 -- nothing is taken away where the name isn't in the list
 pub without-absent : (name : List ℕ) (es : List Entry) → number_in name es ≡ None → without name es ≡ es
-without-absent name [] h = refl
+without-absent name [] h = without-nil name
 without-absent name (e ∷ es) h =
     let none = number_in-none name e es h in
     without-later name e es none.0 ∙ ap (λ fs. e ∷ fs) (without-absent name es none.1)
 
 -- the name isn't in what is left
 pub number_in-without : (name : List ℕ) (es : List Entry) → number_in name (without name es) ≡ None
-number_in-without name [] = refl
+number_in-without name [] = ap (number_in name) (without-nil name) ∙ number_in-nil name
 number_in-without name (e ∷ es) =
     ⊎_elim
     (λ t. ap (number_in name) (without-here name e es t) ∙ number_in-without name es)
@@ -110,7 +122,7 @@ number_in-without name (e ∷ es) =
 
 -- the other names are found as before
 pub number_in-without_other : (name other : List ℕ) (es : List Entry) → name ≢ other → number_in other (without name es) ≡ number_in other es
-number_in-without_other name other [] h = refl
+number_in-without_other name other [] h = ap (number_in other) (without-nil name)
 number_in-without_other name other (e ∷ es) h =
     let rest = number_in-without_other name other es h in
     ⊎_elim
@@ -123,7 +135,7 @@ number_in-without_other name other (e ∷ es) h =
 -- ---- entries stay entries
 
 pub AreEntries-added : (es : List Entry) (e : Entry) → AreEntries es → IsEntry e → number_in e.1 es ≡ None → AreEntries (es ++ e ∷ [])
-AreEntries-added [] e a h none = (h, refl, tt)
+AreEntries-added [] e a h none = (h, number_in-nil e.1, tt)
 AreEntries-added (f ∷ es) e a h none =
     let apart = number_in-none e.1 f es none in
     let unlike : e.1 ≢ f.1 = λ same. has_name-false e.1 f apart.0 (sym same) in
@@ -139,11 +151,12 @@ AreEntries-filter keeps (e ∷ es) a =
     (cases_Bool (keeps e))
 
 pub AreEntries-without : (name : List ℕ) (es : List Entry) → AreEntries es → AreEntries (without name es)
+unfolding without
 AreEntries-without name es a = AreEntries-filter (λ e. not (has_name name e)) es a
 
 -- an entry of a list, and those before it
 pub AreEntries-middle : (es : List Entry) (e : Entry) (fs : List Entry) → AreEntries (es ++ e ∷ fs) → IsEntry e × (number_in e.1 es ≡ None)
-AreEntries-middle [] e fs a = (a.0, refl)
+AreEntries-middle [] e fs a = (a.0, number_in-nil e.1)
 AreEntries-middle (f ∷ es) e fs a =
     let rest = AreEntries-middle es e fs a.2 in
     let later = number_in-both f.1 es (e ∷ fs) a.1 in
@@ -162,10 +175,14 @@ used_of-filter keeps (e ∷ es) =
     (λ t. let gone = ap used_of (cond-false (keeps e) (e ∷ filter keeps es) (filter keeps es) t) in omega (arith, gone, rest))
     (cases_Bool (keeps e))
 
+pub used_of-without_le : (name : List ℕ) (es : List Entry) → used_of (without name es) ≤ used_of es
+unfolding without
+used_of-without_le name es = used_of-filter (λ (e : Entry). not (has_name name e)) es
+
 -- the room of the entry that is taken away comes back
 pub used_of-without : (name : List ℕ) (number : ℕ) (es : List Entry) → AreEntries es → number_in name es ≡ Some number
     → used_of (without name es) + 5 + length name ≡ used_of es
-used_of-without name number [] a h = absurd (cc)
+used_of-without name number [] a h = let none = number_in-nil name in absurd (cc)
 used_of-without name number (e ∷ es) a h =
     ⊎_elim
     (λ t.
@@ -186,7 +203,7 @@ entries-where_full (e ∷ es) n h full = omega arith
 
 -- what is found is an entry
 pub Contains-number_in : (name : List ℕ) (number : ℕ) (es : List Entry) → number_in name es ≡ Some number → Contains es (number, name)
-Contains-number_in name number [] h = absurd (cc)
+Contains-number_in name number [] h = let none = number_in-nil name in absurd (cc)
 Contains-number_in name number (e ∷ es) h =
     ⊎_elim
     (λ t.
@@ -235,6 +252,7 @@ AreEntries-distinct es a = λ i j d below lt. apart es i j d a below lt
 
 -- what is left are the entries of other names
 pub Contains-from_without : (name : List ℕ) (es : List Entry) (e : Entry) → Contains (without name es) e → Contains es e × (e.1 ≢ name)
+unfolding without
 Contains-from_without name es e c =
     let each = All-filter (λ (f : Entry). not (has_name name f)) (Contains es) es (All-contains_itself es) in
     let unlike = number_in-absent name (without name es) c.0 e (number_in-without name es) c.1 in

@@ -1,5 +1,5 @@
 -- Directory blocks: the grammar, as a relation between bytes and the entries that they spell.
-use Rattle.std.specs.Prelude.{◌≡◌, ℕ, ◌+◌, ◌^◌, ◌<◌, ◌≤◌, Bool, not, List, [], ◌∷◌, ◌++◌, length, replicate, filter, find, Option, None, option_map, bytes_eq, ⊤}
+use Rattle.std.specs.Prelude.{◌≡◌, ℕ, ◌+◌, ◌^◌, ◌<◌, Bool, not, List, [], ◌∷◌, ◌++◌, length, replicate, filter, find, Option, None, option_map, bytes_eq, ⊤}
 use Rattle.std.specs.Int.{w32, to_be_bytes}
 use Rattle.lfs_types.specs.Naming.{name_fault}
 
@@ -21,11 +21,11 @@ abbrev pub has_name : List ℕ → Entry → Bool
 has_name name e = bytes_eq e.1 name
 
 -- the number of the first entry of this name
-abbrev pub number_in : List ℕ → List Entry → Option ℕ
+unfoldable pub number_in : List ℕ → List Entry → Option ℕ
 number_in name es = option_map (λ (e : Entry). e.0) (find (has_name name) es)
 
 -- the entries without those of this name, in order
-abbrev pub without : List ℕ → List Entry → List Entry
+unfoldable pub without : List ℕ → List Entry → List Entry
 without name es = filter (λ e. not (has_name name e)) es
 
 -- an entry has a number from 1 to the largest of four bytes, and a name

@@ -1,12 +1,12 @@
 -- What holds of directory blocks and their entries.
-use Rattle.std.proofs.Common.{◌≡◌, ◌≢◌, ℕ, zero, suc, ◌+◌, ◌*◌, min, ⊎_elim, ◌-◌, ◌<◌, ◌≤◌, Bool, true, false, cond, not, List, [], ◌∷◌, ◌++◌, length, take, drop, replicate, Option, None, Some, refl, sym, ap, ◌∙◌, subst, arith, length-append, append_assoc, lt-ltb, ltb, leb}
-use Rattle.std.specs.Prelude.{All, Contains, filter, find, flat_map, option_map, bytes_eq}
-use Rattle.std.specs.Int.{w32, to_be_bytes, from_be_bytes}
+use Rattle.std.proofs.Common.{◌≡◌, ◌≢◌, ℕ, zero, suc, ◌+◌, ◌*◌, min, ⊎_elim, ◌<◌, ◌≤◌, Bool, true, false, cond, List, [], ◌∷◌, ◌++◌, length, take, drop, replicate, Option, None, Some, refl, sym, ap, ◌∙◌, subst, arith, length-append, append_assoc, lt-ltb}
+use Rattle.std.specs.Prelude.{flat_map}
+use Rattle.std.specs.Int.{w32, from_be_bytes}
 use Rattle.std.proofs.lemmas.Bool.{le-leb, and_from, cond-true, cond-false, eqb-false, ltb-false, ltb-true, leb-true, and_parts, cases_Bool}
 use Rattle.std.proofs.lemmas.Nat.{from_be_bytes-to_be_bytes_4}
-use Rattle.std.proofs.lemmas.List.{take_at, drop_at, length-replicate, append_cancel_left}
+use Rattle.std.proofs.lemmas.List.{take_at, drop_at, length-replicate}
 use Rattle.lfs_types.specs.Naming.{name_fault}
-use Rattle.lfs_dirs.specs.Directory.{Entry, entry_bytes, used_of, has_name, number_in, without, IsEntry, AreEntries, Spells, IsDirectoryBlock}
+use Rattle.lfs_dirs.specs.Directory.{Entry, entry_bytes, used_of, IsEntry, AreEntries, Spells, IsDirectoryBlock}
 use Rattle.lfs_dirs.specs.Reading.{is_entry, entries_at, entries_of}
 
 -- ---- how the entries are spelled

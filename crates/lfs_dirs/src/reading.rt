@@ -9,8 +9,11 @@ use lfs_types::block::Block;
 use lfs_types::name::{NAME_MAX, Name};
 use std::marker::Model;
 
-/// The entries of a block that are left, each as its number and the bytes of its name.
-#[derive(Drop)]
+/// The bytes of an entry before those of its name: the number and the name's length.
+pub(crate) const HEAD_SIZE: usize = 5;
+
+/// The entries of a block that are left, each as its number, above 0, and the 1 to 255 bytes of its name.
+#[derive(Debug, Drop)]
 pub struct BlockEntries<'a> {
     rest: &'a [u8],
 }
@@ -41,23 +44,25 @@ impl<'a> Iterator for BlockEntries<'a> {
 }
 
 /// The entries of a block in order, up to the first place that is no entry: where fewer than five bytes
-/// are left, the number is 0, the name's length is 0 or the name runs over the end.
+/// are left, the number is 0, the name's length is 0 or the name runs over the end. The names of a block
+/// that is no directory block may be any bytes.
 pub fn entries(block: &Block) -> BlockEntries<'_>
     ensures value { result ≡ entries_of block.now }
+    // An entry takes at least six bytes.
     ensures few { length result ≤ 85 }
 {
     BlockEntries { rest: block }
 }
 
-/// The number of the first entry of this name.
+/// The number of the first entry of this name, among those that `entries` gives.
 pub fn find(block: &Block, name: &Name) -> Option<u32>
     ensures { result ≡ number_in name.now (entries_of block.now) }
 {
     number_among(entries(block), name.as_bytes())
 }
 
-/// Whether the block is a directory block: entries with names of which none stands twice, one behind the
-/// other, and zeros after them.
+/// Whether the block is a directory block (this project's profile): entries with names of which none
+/// stands twice, one behind the other, and zeros after them.
 pub fn is_directory_block(block: &Block) -> bool
     ensures test { IsTrue result ↔ IsDirectoryBlock block.now (entries_of block.now) }
     // A block has one list of entries, and a list has one block.
@@ -78,7 +83,7 @@ pub fn is_directory_block(block: &Block) -> bool
 fn first_entry(bytes: &[u8]) -> Option<(u32, &[u8], &[u8])>
     ensures { MatchOption result (entries_of bytes.now ≡ []) (λ e. StandsFirst bytes.now (e.0, e.1.now) e.2.now) }
 {
-    let (head, rest) = bytes.split_first_chunk::<5>()?;
+    let (head, rest) = bytes.split_first_chunk::<HEAD_SIZE>()?;
     let [a, b, c, d, name_length] = *head;
     let number = u32::from_be_bytes([a, b, c, d]);
     let name_length = usize::from(name_length);

@@ -4,16 +4,13 @@ ghost use Rattle.std.specs.Prelude.{◌≡◌, ◌+◌, ◌<◌, ◌≤◌, ◌+
 ghost use Rattle.lfs_dirs.specs.Directory.{IsDirectoryBlock, IsEntry, entry_bytes, number_in, used_of, without};
 ghost use Rattle.lfs_dirs.specs.Reading.{entries_of};
 
-use crate::reading::entries;
+use crate::reading::{HEAD_SIZE, entries};
 use byteorder::{BigEndian, ByteOrder};
 use lfs_types::block::{BLOCK_SIZE, Block};
 use lfs_types::name::Name;
 
-/// The bytes of an entry that aren't those of its name: the number and the name's length.
-const HEAD_SIZE: usize = 5;
-
-/// The block with an entry more at the end of its list, or None where the five bytes and the name don't
-/// fit behind the entries.
+/// The block with an entry more at the end of its list, or None exactly where five bytes and the name
+/// don't fit behind the entries.
 pub fn added(block: &Block, name: &Name, number: u32) -> Option<Block>
     requires directory { IsDirectoryBlock block.now (entries_of block.now) }
     requires above { 0 < number }
@@ -32,7 +29,7 @@ pub fn added(block: &Block, name: &Name, number: u32) -> Option<Block>
     Some(longer)
 }
 
-/// The block without the entry of this name, closed up.
+/// The block without the entry of this name, closed up; the same block where it has none.
 pub fn removed(block: &Block, name: &Name) -> Block
     requires { IsDirectoryBlock block.now (entries_of block.now) }
     ensures block { IsDirectoryBlock result (without name.now (entries_of block.now)) }
@@ -85,6 +82,6 @@ fn write_entry(out: &mut [u8], number: u32, name: &[u8])
     ensures { out.new ≡ entry_bytes (number, name.now) ++ drop (5 + length name.now) out.old }
 {
     BigEndian::write_u32(out, number);
-    out[4] = name.len() as u8;
+    out[HEAD_SIZE - 1] = name.len() as u8;
     out[HEAD_SIZE..HEAD_SIZE + name.len()].copy_from_slice(name);
 }

@@ -69,6 +69,7 @@ impl Path {
     pub fn names(&self) -> &[Name]
         ensures value { result.now ≡ self.now }
         ensures bounded { length (slashed self.now) ≤ 1024 }
+        ensures few { length self.now ≤ 1024 }
     {
         self.names.as_slice()
     }

@@ -6,6 +6,7 @@ use Rattle.lfs_types.specs.Changes.{IsLength}
 use Rattle.lfs_types.specs.Tree.{File, Row, World, Content, root}
 use Rattle.lfs_types.specs.declared.attrs.Kind.{Kind}
 use Rattle.lfs_types.specs.declared.attrs.Kind.TheVariants.{File as Regular, Directory}
+use Rattle.lfs_dirs.specs.Changes.{number_in-nil}
 use Rattle.lfs_volume.specs.World.{Rows, child, IsTree}
 use Rattle.lfs_volume.specs.Content.{visible, Shows, IsListing, entries_below}
 use Rattle.lfs_volume.proofs.Children.{child-answer, child-new_other, same_or_not}
@@ -67,7 +68,7 @@ module _ (c after : Content) (w : World) (shows : Shows c w) (tree : IsTree w.ro
   lists_nothing bs none = subst (IsListing grown n) (sym none) (record {
     blocks = λ k h. absurd (omega arith);
     distinct = tt;
-    names = λ name. sym (childless name);
+    names = λ name. number_in-nil name ∙ sym (childless name);
   })
 
   listings_after : (q : ℕ) (g : File) → map.get after q ≡ Some g → g.kind ≡ Directory → IsListing grown q g.bytes

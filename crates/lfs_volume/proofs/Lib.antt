@@ -1,10 +1,14 @@
 pub mod Changed
 pub mod Children
+pub mod Crowded
+pub mod Deciding
 pub mod Grown
 pub mod GrownStore
 pub mod Listings
 pub mod Maps
 pub mod Pieces
+pub mod ReadLemmas
 pub mod Somewhere
 pub mod Visible
+pub mod WriteLemmas
 pub mod StepLemmas

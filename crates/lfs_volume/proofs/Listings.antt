@@ -2,8 +2,9 @@
 use Rattle.std.proofs.Common.{◌≡◌, ◌≢◌, ℕ, zero, suc, ◌+◌, ◌-◌, ◌*◌, ◌/◌, ◌%◌, ◌<◌, ◌≤◌, List, [], ◌∷◌, ◌++◌, length, take, drop, None, Some, refl, sym, ap, subst, ◌∙◌, ⊎_elim, arith, append_assoc, append-nil, add-zero, add-suc, add-one, nat_lt, length-take, length-drop}
 use Rattle.std.proofs.lemmas.Bool.{cases_Bool, ltb-true, ltb-false, both_ways}
 use Rattle.std.specs.Prelude.{bytes_eq}
+use Rattle.std.proofs.lemmas.Option.{none-some}
 use Rattle.std.proofs.lemmas.Slice.Eq.{bytes_eq-Decides}
-use Rattle.lfs_dirs.specs.Changes.{number_in-append, number_in-here, number_in-later, number_in-none, number_in-both, has_name-same, has_name-other, has_name-false}
+use Rattle.lfs_dirs.specs.Changes.{number_in-append, number_in-here, number_in-later, number_in-nil, number_in-none, number_in-both, has_name-same, has_name-other, has_name-false}
 use Rattle.lfs_dirs.specs.Directory.{Entry, AreEntries, IsEntry, IsDirectoryBlock, has_name, number_in}
 use Rattle.lfs_dirs.specs.Laws.{entries_of-short}
 use Rattle.lfs_dirs.specs.Reading.{entries_of}
@@ -179,7 +180,7 @@ module _ (bytes : List ℕ) (k : ℕ) (new : List ℕ) (size : length new ≡ 51
 
 pub absent_at_first : (name : List ℕ) (bytes : List ℕ) → number_in name (entries_below bytes 0) ≡ None
 unfolding entries_below
-absent_at_first name bytes = refl
+absent_at_first name bytes = number_in-nil name
 
 -- a name that is in none of the first blocks isn't in the next
 pub absent_further : (name : List ℕ) (bytes : List ℕ) (k : ℕ) → number_in name (entries_below bytes k) ≡ None → number_in name (entries_of (block_at bytes k)) ≡ None → number_in name (entries_below bytes (k + 1)) ≡ None
@@ -188,7 +189,7 @@ absent_further name bytes k before here =
 
 -- what stands in front is found first
 found_first : (name : List ℕ) (n : ℕ) (xs ys : List Entry) → number_in name xs ≡ Some n → number_in name (xs ++ ys) ≡ Some n
-found_first name n [] ys h = absurd (cc)
+found_first name n [] ys h = absurd (none-some n (sym (number_in-nil name) ∙ h))
 found_first name n (x ∷ xs) ys h = ⊎_elim
     (λ t. number_in-here name x (xs ++ ys) t ∙ sym (number_in-here name x xs t) ∙ h)
     (λ t. number_in-later name x (xs ++ ys) t ∙ found_first name n xs ys (sym (number_in-later name x xs t) ∙ h))

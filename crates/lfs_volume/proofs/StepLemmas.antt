@@ -23,7 +23,7 @@ use Rattle.lfs_volume.specs.Content.{Shows, listed}
 use Rattle.lfs_volume.specs.Walks.{stepped, found, and_then, walked}
 use Rattle.lfs_volume.proofs.Visible.{Stored, shown_of, stored_of}
 use Rattle.lfs_volume.proofs.Children.{child-is}
-use Rattle.lfs_volume.proofs.Somewhere.{present, some_and}
+use Rattle.lfs_volume.proofs.Somewhere.{present, some_and, there_of}
 
 -- the file whose attributes a store shows
 pub record ShownFile (c : Content) (n : ℕ) (a : Attrs) : Type 0 where
@@ -124,3 +124,19 @@ pub root_stored : (c : Content) (w : World) → Shows c w → IsTree w.rows → 
 root_stored c w shows tree =
     let r = some_and (map.get w.rows root) _ tree.rooted in
     present (stored_of c w shows root r.value r.is).stored
+
+-- a number that is in use has attributes
+pub not_shown : (c : Content) (n : ℕ) → IsSome (map.get c n) → None ≡ shown_attrs c n → ⊥
+not_shown c n used h =
+    let f = there_of (map.get c n) used in
+    let some : shown_attrs c n ≡ Some (attrs_of f.value) = ap (option_map attrs_of) f.is in
+    absurd (cc)
+
+-- a number whose attributes a store shows is in use, and has as many bytes as they say
+pub shown_stored : (c : Content) (n : ℕ) (a : Attrs) → Some a ≡ shown_attrs c n → IsSome (map.get c n)
+shown_stored c n a h = present (shown_file c n a h).stored
+
+pub size_stored : (c : Content) (n : ℕ) (a : Attrs) → Some a ≡ shown_attrs c n → a.size ≡ length (bytes_of c n)
+size_stored c n a h =
+    let f = shown_file c n a h in
+    ap (λ (x : Attrs). x.size) f.same ∙ ap (λ o. length (bytes_of_file o)) (sym f.stored)

@@ -1,10 +1,13 @@
 -- Where a walk along names ends: at a row, or with a denial.
-use Rattle.std.specs.Prelude.{ℕ, ◌+◌, List, [], ◌∷◌, Option, None, Some, Result, Ok, Err, if◌then◌else◌}
+use Rattle.std.specs.Prelude.{◌≡◌, ℕ, ◌+◌, List, [], ◌∷◌, Option, None, Some, Result, Ok, Err, if◌then◌else◌}
 use Rattle.std.specs.FinMap as map
 use Rattle.lfs_types.specs.Caller.{Caller}
 use Rattle.lfs_types.specs.declared.attrs.Bit.TheVariants as bits
 use Rattle.lfs_types.specs.declared.rule.Denial.{Denial}
 use Rattle.lfs_types.specs.declared.rule.Rule.TheVariants.{IsDirectory, GrantsSearch, NameThere}
+use Rattle.lfs_types.specs.Stored.{shown_attrs}
+use Rattle.lfs_types.specs.Tree.{Content, root}
+use Rattle.lfs_volume.specs.declared.walking.Reached.{Reached}
 use Rattle.lfs_volume.specs.World.{Rows, child}
 use Rattle.lfs_volume.specs.Rules.{is_directory_row, row_grants}
 
@@ -29,3 +32,8 @@ and_then (Err denial) next = Err denial
 unfoldable pub walked : Rows → Caller → ℕ → ℕ → ℕ → List (List ℕ) → Result ℕ Denial
 walked rows caller path k at [] = Ok at
 walked rows caller path k at (name ∷ names) = and_then (stepped rows caller path k at name) (λ n. walked rows caller path (k + 1) n names)
+
+-- a path leads to a row, whose attributes the store shows, or its walk is denied
+abbrev pub Reaches : Content → Rows → Caller → ℕ → List (List ℕ) → Result Reached Denial → Type 0
+Reaches c rows caller path names (Ok r) = (walked rows caller path 0 root names ≡ Ok r.number) × (Some r.attrs ≡ shown_attrs c r.number)
+Reaches c rows caller path names (Err denial) = walked rows caller path 0 root names ≡ Err denial

@@ -3,4 +3,6 @@
 
 mod directory;
 pub mod journal;
+mod reading;
 mod walking;
+mod writing;

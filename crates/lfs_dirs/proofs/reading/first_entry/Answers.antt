@@ -1,6 +1,6 @@
-use Rattle.std.proofs.Common.{◌≡◌, ◌<◌, ◌≤◌, ◌∙◌, [], false, length, MatchOption, subst, sym, arith}
+use Rattle.std.proofs.Common.{◌≡◌, false, length, arith}
 use Rattle.std.proofs.lemmas.Bool.{and_left, and_right, le-ltb, lt-leb}
-use Rattle.lfs_dirs.specs.Reading.{StandsFirst, entries_of, is_entry}
+use Rattle.lfs_dirs.specs.Reading.{is_entry}
 use Rattle.lfs_dirs.specs.Laws.{entries_of-short}
 use Rattle.lfs_dirs.proofs.Front.{entry_at_front, none_at_front}
 use Rattle.lfs_dirs.proofs.reading.first_entry.Goals as goal

@@ -1,4 +1,4 @@
-use Rattle.std.proofs.Common.{ℕ, length}
+use Rattle.std.proofs.Common.{length}
 use Rattle.lfs_dirs.specs.Directory.{IsDirectoryBlock}
 use Rattle.lfs_dirs.specs.Reading.{entries_of}
 use Rattle.lfs_dirs.proofs.Testing.{Lists}

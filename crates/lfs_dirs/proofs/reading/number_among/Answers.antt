@@ -10,6 +10,7 @@ abbrev entry_of : ℕ × Bor (List ℕ) → Entry
 entry_of item = (item.0, item.1.now)
 
 pub returns-in_err-number : goal.returns-in_err-number
+unfolding number_in
 returns-in_err-number c =
     let found : option_map entry_of c.find.result ≡ find (has_name c.args.name.now) c.args.entries =
     find_from_yields_List (has_name c.args.name.now) _ _ c.find.result c.find.ensures.ran
@@ -20,6 +21,7 @@ returns-in_err-number c =
     ∙ ap (option_map (λ (e : Entry). e.0)) found
 
 pub returns : goal.returns
+unfolding number_in
 returns c =
     let found : option_map entry_of c.find.result ≡ find (has_name c.args.name.now) c.args.entries =
     find_from_yields_List (has_name c.args.name.now) _ _ c.find.result c.find.ensures.ran

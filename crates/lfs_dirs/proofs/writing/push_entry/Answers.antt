@@ -1,4 +1,3 @@
-use Rattle.std.proofs.Common.{◌++◌, ◌∷◌, []}
 use Rattle.lfs_dirs.specs.Reading.{entries_of}
 use Rattle.lfs_dirs.specs.Laws.{entries_of-block}
 use Rattle.lfs_dirs.proofs.Adding.{block_added}

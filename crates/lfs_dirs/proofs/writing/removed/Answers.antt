@@ -1,9 +1,9 @@
-use Rattle.std.proofs.Common.{◌≡◌, ◌+◌, ◌++◌, ◌∷◌, List, [], replicate, ap, ◌∙◌, sym, subst, arith}
-use Rattle.std.proofs.lemmas.Bool.{not-true}
+use Rattle.std.proofs.Common.{◌≡◌, ◌++◌, ◌∷◌, List, [], ap, ◌∙◌, sym, subst, arith}
+use Rattle.std.proofs.lemmas.Bool.{not-true, not-false}
 use Rattle.lfs_dirs.specs.Directory.{Entry, IsDirectoryBlock, used_of, without}
 use Rattle.lfs_dirs.specs.Reading.{entries_of}
 use Rattle.lfs_dirs.specs.Laws.{entries_of-zeros, used_of-append, zero_block_listed}
-use Rattle.lfs_dirs.proofs.Removing.{MayFollow, keeps_next, may_follow, written_next}
+use Rattle.lfs_dirs.proofs.Removing.{MayFollow, keeps_next, skips_next, may_follow, written_next, all_written}
 use Rattle.lfs_dirs.proofs.writing.removed.Goals as goal
 
 pub loop-number-init : goal.loop-number-init
@@ -46,3 +46,23 @@ loop-number-preserved-then-ne c =
       at_end = omega (arith, ap used_of listed, used_of-append (entries_of c.loop-number.shorter) ((c.in-Some.number, c.in-Some.name.now) ∷ []), c.push_entry-end.ensures.end, c.loop-number.invariant.at_end);
       kept = written_next _ _ _ _ _ listed kept;
     }
+
+pub loop-number-preserved : goal.loop-number-preserved
+loop-number-preserved c =
+    let kept = c.loop-number.invariant in
+    record {
+      can_next = tt;
+      is_finite = tt;
+      directory = kept.directory;
+      at_end = kept.at_end;
+      kept = skips_next _ _ _ _ _ _ kept.kept c.in-Some.ensures.steps (not-false _ (sym c.if-ne.ensures));
+    }
+
+pub returns-clause-listed : goal.returns-clause-listed
+returns-clause-listed c =
+    all_written _ _ _ _ _ c.loop-number.invariant.kept c.in-None.ensures.steps.0 c.as_bytes-unwanted.ensures.value
+
+pub returns-clause-block : goal.returns-clause-block
+returns-clause-block c =
+    let P : List Entry → Type 0 = λ es. IsDirectoryBlock c.loop-number.shorter es in
+    subst P (returns-clause-listed c) c.loop-number.invariant.directory

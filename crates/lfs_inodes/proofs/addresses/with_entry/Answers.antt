@@ -1,0 +1,6 @@
+use Rattle.std.proofs.Common.{arith}
+use Rattle.lfs_inodes.proofs.Cells.{numbers-put}
+use Rattle.lfs_inodes.proofs.addresses.with_entry.Goals as goal
+
+pub returns-clause-cells : goal.returns-clause-cells
+returns-clause-cells c = numbers-put 128 _ _ c.args.i c.args.address c.put_u32.ensures (omega arith) c.requires

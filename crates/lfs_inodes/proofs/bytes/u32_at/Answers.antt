@@ -1,0 +1,6 @@
+use Rattle.std.proofs.Common.{◌∙◌}
+use Rattle.lfs_inodes.proofs.Numbers.{number_at-read}
+use Rattle.lfs_inodes.proofs.bytes.u32_at.Goals as goal
+
+pub returns : goal.returns
+returns c = c.read_u32.ensures ∙ number_at-read 4 c.args.at c.args.bytes.now

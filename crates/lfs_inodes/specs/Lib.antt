@@ -1,0 +1,6 @@
+pub mod Addresses
+pub mod Bytes
+pub mod Facts
+pub mod Reading
+pub mod Record
+pub mod Slots

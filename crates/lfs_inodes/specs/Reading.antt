@@ -1,0 +1,81 @@
+-- What a record says, as a function of its bytes.
+use Rattle.std.specs.Prelude.{ℕ, suc, zero, ◌+◌, ◌*◌, ◌%◌, Bool, true, not, ◌&&◌, ◌||◌, ◌==◌, nat_lt, if◌then◌else◌, List, length, slice_index, bit_and, Option, Some, None}
+use Rattle.lfs_inodes.specs.declared.kind.InodeKind.{InodeKind}
+use Rattle.lfs_inodes.specs.declared.kind.InodeKind.TheVariants.{File, Directory}
+use Rattle.lfs_inodes.specs.declared.inode.Inode.{Inode}
+use Rattle.lfs_inodes.specs.Bytes.{number_at}
+use Rattle.lfs_inodes.specs.Facts.{block_count}
+use Rattle.lfs_inodes.specs.Addresses.{Attributes, attributes, addresses, numbers}
+
+-- an inode without the facts that its type keeps
+pub record Fields : Type 0 where
+  pub attributes : Attributes
+  pub addresses : List ℕ
+
+abbrev pub fields_of : Inode → Fields
+fields_of v = record { attributes = attributes v; addresses = addresses v }
+
+-- The tests of the fields.
+abbrev pub is_inode_number : ℕ → Bool
+is_inode_number n = nat_lt 1 n && (not (n == 3) && nat_lt n 4096)
+
+abbrev pub is_flag_set : ℕ → Bool
+is_flag_set flags = bit_and flags 0x7_0007 == flags
+
+abbrev pub is_size_of : InodeKind → ℕ → Bool
+is_size_of File size = nat_lt size 71681
+is_size_of Directory size = nat_lt size 71681 && size % 512 == 0
+
+abbrev pub is_direct : ℕ → ℕ → ℕ → Bool
+is_direct size n address = nat_lt address 65536 && (nat_lt n (block_count size) || address == 0)
+
+abbrev pub is_single : ℕ → ℕ → Bool
+is_single size single = nat_lt single 65536 && (nat_lt 12 (block_count size) || single == 0)
+
+unfoldable pub are_direct : List ℕ → ℕ → ℕ → Bool
+are_direct bytes size zero = true
+are_direct bytes size (suc n) = is_direct size n (number_at bytes (36 + 4 * n) 4) && are_direct bytes size n
+
+unfoldable pub are_zero : List ℕ → ℕ → ℕ → Bool
+are_zero bytes from zero = true
+are_zero bytes from (suc n) = slice_index bytes (from + n) == 0 && are_zero bytes from n
+
+-- the bytes are a record of this kind
+unfoldable pub is_record : InodeKind → List ℕ → Bool
+is_record kind bytes =
+    length bytes == 128
+    && (number_at bytes 0 2 == 1
+    && (is_inode_number (number_at bytes 4 4)
+    && (nat_lt 0 (number_at bytes 8 4)
+    && (nat_lt (number_at bytes 20 2) 4096
+    && (are_zero bytes 22 2
+    && (is_flag_set (number_at bytes 24 4)
+    && (is_size_of kind (number_at bytes 28 8)
+    && (are_direct bytes (number_at bytes 28 8) 12
+    && (is_single (number_at bytes 28 8) (number_at bytes 84 4)
+    && are_zero bytes 88 40)))))))))
+
+-- the fields where they stand
+unfoldable pub read : InodeKind → List ℕ → Fields
+read kind bytes = record {
+  attributes = record {
+    kind = kind;
+    number = number_at bytes 4 4;
+    version = number_at bytes 8 4;
+    owner = number_at bytes 12 4;
+    group = number_at bytes 16 4;
+    mode = number_at bytes 20 2;
+    flags = number_at bytes 24 4;
+    size = number_at bytes 28 8;
+  };
+  addresses = numbers bytes 36 13;
+}
+
+abbrev pub fields_as : InodeKind → List ℕ → Option Fields
+fields_as kind bytes = if is_record kind bytes then Some (read kind bytes) else None
+
+-- the fields of the record that the bytes are, if they are one
+unfoldable pub fields_in : List ℕ → Option Fields
+fields_in bytes =
+    if number_at bytes 2 2 == 1 then fields_as File bytes
+    else (if number_at bytes 2 2 == 2 then fields_as Directory bytes else None)

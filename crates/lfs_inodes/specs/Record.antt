@@ -1,0 +1,40 @@
+-- The grammar of an inode record: what each of its 128 bytes holds (this project's profile).
+use Rattle.std.specs.Prelude.{◌≡◌, ◌<◌, ℕ, ◌+◌, ◌*◌, List, length, slice_index}
+use Rattle.lfs_inodes.specs.declared.kind.InodeKind.{InodeKind}
+use Rattle.lfs_inodes.specs.declared.kind.InodeKind.TheVariants.{File, Directory}
+use Rattle.lfs_inodes.specs.declared.inode.Inode.{Inode}
+use Rattle.lfs_inodes.specs.Bytes.{number_at, AreZero}
+
+abbrev pub IsKindCode : ℕ → InodeKind → Type 0
+IsKindCode code File = code ≡ 1
+IsKindCode code Directory = code ≡ 2
+
+-- bytes 0 to 11: the record version, and which file or directory it is
+pub record HasIdentity (bytes : List ℕ) (v : Inode) : Type 0 where
+  pub record_version : number_at bytes 0 2 ≡ 1
+  pub kind : IsKindCode (number_at bytes 2 2) v.kind
+  pub number : number_at bytes 4 4 ≡ v.number
+  pub version : number_at bytes 8 4 ≡ v.version
+
+-- bytes 12 to 35: what may be said and changed of it
+pub record HasAttributes (bytes : List ℕ) (v : Inode) : Type 0 where
+  pub owner : number_at bytes 12 4 ≡ v.owner
+  pub group : number_at bytes 16 4 ≡ v.group
+  pub mode : number_at bytes 20 2 ≡ v.mode
+  pub unnamed : AreZero bytes 22 24
+  pub flags : number_at bytes 24 4 ≡ v.flags
+  pub size : number_at bytes 28 8 ≡ v.size
+
+-- bytes 36 to 127: the twelve direct addresses, the address of the indirect block, and zeros
+pub record HasAddresses (bytes : List ℕ) (v : Inode) : Type 0 where
+  pub count : length v.direct ≡ 12
+  pub direct : (n : ℕ) → n < 12 → number_at bytes (36 + 4 * n) 4 ≡ slice_index v.direct n
+  pub single : number_at bytes 84 4 ≡ v.single
+  pub unnamed : AreZero bytes 88 128
+
+-- the bytes are the record of the inode, whose type bounds its fields
+pub record IsRecord (bytes : List ℕ) (v : Inode) : Type 0 where
+  pub whole : length bytes ≡ 128
+  pub identity : HasIdentity bytes v
+  pub attributes : HasAttributes bytes v
+  pub addresses : HasAddresses bytes v

@@ -1,0 +1,9 @@
+pub mod BytesLemmas
+pub mod EntryLemmas
+pub mod LogLemmas
+pub mod MemoryLemmas
+pub mod ReadingLemmas
+pub mod SegmentLemmas
+pub mod SummaryLemmas
+pub mod TestLemmas
+pub mod WindowLemmas

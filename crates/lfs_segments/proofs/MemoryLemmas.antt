@@ -1,0 +1,108 @@
+-- The memory stays laid out.
+use Rattle.std.proofs.Common.{◌≡◌, ℕ, zero, suc, ◌+◌, ◌-◌, ◌*◌, ◌/◌, ◌<◌, ◌≤◌, List, [], ◌∷◌, ◌++◌, All, length, get_or, take, drop, set, replicate, refl, sym, ap, ◌∙◌, arith}
+use Rattle.std.proofs.lemmas.List.{append_assoc, drop_more, length-append, length-drop, length-replicate, length-take, replicate_more, set-append_right}
+use Rattle.std.proofs.lemmas.List.Elements.{All-append, All-cons, All-drop, All-from_get_or, All-replicate, All-take}
+use Rattle.lfs_segments.specs.Memory.{IsLaidOut, label, log_start, seen, written, zero_block}
+
+pub length-written : (blocks : List (List ℕ)) (place : ℕ) (others : List (List ℕ)) → place + length others ≤ length blocks → length (written blocks place others) ≡ length blocks
+length-written blocks place others fits = simp (length-append, length-take, length-drop) (omega arith)
+
+All-written : (P : List ℕ → Type 0) (blocks : List (List ℕ)) (place : ℕ) (others : List (List ℕ)) → All P blocks → All P others → All P (written blocks place others)
+All-written P blocks place others p q =
+    All-append P (take place blocks) _ (All-take P place blocks p) (All-append P others _ q (All-drop P (place + length others) blocks p))
+
+length-zero_block : length zero_block ≡ 512
+unfolding zero_block
+length-zero_block = refl
+
+length-label : (segments inodes : ℕ) → length (label segments inodes) ≡ 512
+unfolding label
+length-label segments inodes = refl
+
+pub log_start-le : (segment : ℕ) → log_start segment ≤ 1
+log_start-le zero = omega arith
+log_start-le (suc segment) = omega arith
+
+-- a new volume
+pub fresh_laid_out : (segments inodes : ℕ) → 6 ≤ segments → segments ≤ 1024 → IsLaidOut (seen (label segments inodes ∷ replicate (segments * 64 - 1) zero_block) 0 1)
+fresh_laid_out segments inodes least most =
+    let count = length-replicate (segments * 64 - 1) zero_block in
+    let long : length (label segments inodes ∷ replicate (segments * 64 - 1) zero_block) ≡ segments * 64 = omega (arith, count) in
+    record {
+      at_least = omega arith;
+      at_most = omega arith;
+      whole = omega arith;
+      each = All-cons (λ block. length block ≡ 512) _ _ (length-label segments inodes) (All-replicate (λ block. length block ≡ 512) (segments * 64 - 1) zero_block length-zero_block);
+      active = omega arith;
+      begun = omega arith;
+      within = omega arith;
+    }
+
+-- after blocks are put behind the log
+pub appended_laid_out : (blocks : List (List ℕ)) (active fill : ℕ) (others : List (List ℕ)) → IsLaidOut (seen blocks active fill) → length others ≤ 64 - fill
+    → ((i : ℕ) → i < length others → length (get_or others i []) ≡ 512) → IsLaidOut (seen (written blocks (active * 64 + fill) others) active (fill + length others))
+appended_laid_out blocks active fill others p fits each =
+    let whole = p.whole in
+    let below = p.active in
+    let within = p.within in
+    let begun = p.begun in
+    let at_least = p.at_least in
+    let at_most = p.at_most in
+    let long = length-written blocks (active * 64 + fill) others (omega arith) in
+    record {
+      at_least = omega arith;
+      at_most = omega arith;
+      whole = omega arith;
+      each = All-written (λ block. length block ≡ 512) blocks (active * 64 + fill) others p.each (All-from_get_or (λ block. length block ≡ 512) others [] each);
+      active = omega arith;
+      begun = omega arith;
+      within = omega arith;
+    }
+
+-- after a segment is filled with zeros
+pub opened_laid_out : (blocks : List (List ℕ)) (active fill segment : ℕ) → IsLaidOut (seen blocks active fill) → segment < length blocks / 64
+    → IsLaidOut (seen (written blocks (segment * 64 + log_start segment) (replicate (64 - log_start segment) zero_block)) segment (log_start segment))
+opened_laid_out blocks active fill segment p inside =
+    let whole = p.whole in
+    let at_least = p.at_least in
+    let at_most = p.at_most in
+    let start = log_start-le segment in
+    let count = length-replicate (64 - log_start segment) zero_block in
+    let others = replicate (64 - log_start segment) zero_block in
+    let long = length-written blocks (segment * 64 + log_start segment) others (omega arith) in
+    record {
+      at_least = omega arith;
+      at_most = omega arith;
+      whole = omega arith;
+      each = All-written (λ block. length block ≡ 512) blocks _ _ p.each (All-replicate (λ block. length block ≡ 512) (64 - log_start segment) zero_block length-zero_block);
+      active = omega arith;
+      begun = omega arith;
+      within = omega arith;
+    }
+
+-- one block more, of the same bytes
+pub written_more : (blocks : List (List ℕ)) (start n : ℕ) (block : List ℕ) → start + n < length blocks → set (written blocks start (replicate n block)) (start + n) block ≡ written blocks start (replicate (n + 1) block)
+written_more blocks start n block inside =
+    let front = take start blocks in
+    let zeros = replicate n block in
+    let front_long : length front ≡ start = simp length-take (omega arith) in
+    let zeros_long : length zeros ≡ n = length-replicate n block in
+    let more_long : length (replicate (n + 1) block) ≡ n + 1 = length-replicate (n + 1) block in
+    let rest = drop (start + length zeros) blocks in
+    let rest_more : rest ≡ get_or blocks (start + n) [] ∷ drop (start + (n + 1)) blocks =
+    ap (λ (k : ℕ). drop (start + k) blocks) zeros_long ∙ drop_more blocks (start + n) [] inside ∙ ap (λ (k : ℕ). get_or blocks (start + n) [] ∷ drop k blocks) (omega arith) in
+    let at_front = set-append_right front (zeros ++ rest) start (start + n) block front_long (omega arith) in
+    let at_zeros = set-append_right zeros rest n (start + n - start) block zeros_long (omega arith) in
+    at_front
+    ∙ ap (λ (xs : List (List ℕ)). front ++ xs)
+    (at_zeros
+    ∙ ap (λ (xs : List (List ℕ)). zeros ++ xs)
+    (ap (λ (k : ℕ). set rest k block) (omega arith) ∙ ap (λ (xs : List (List ℕ)). set xs 0 block) rest_more)
+    ∙ sym (append_assoc zeros (block ∷ []) (drop (start + (n + 1)) blocks))
+    ∙ ap (λ (xs : List (List ℕ)). xs ++ drop (start + (n + 1)) blocks) (replicate_more n block)
+    ∙ ap (λ (k : ℕ). replicate (n + 1) block ++ drop (start + k) blocks) (sym more_long))
+
+-- the first of some equal blocks is replaced
+pub set-replicate_first : (n : ℕ) (block first : List ℕ) → 0 < n → set (replicate n block) 0 first ≡ first ∷ replicate (n - 1) block
+set-replicate_first zero block first some = absurd (omega arith)
+set-replicate_first (suc n) block first some = ap (λ (k : ℕ). first ∷ replicate k block) (omega arith)

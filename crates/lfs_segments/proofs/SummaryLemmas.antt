@@ -1,0 +1,69 @@
+-- A block spells one summary, and a summary is spelled by one block.
+use Rattle.std.proofs.Common.{◌≡◌, ℕ, ◌+◌, ◌-◌, ◌*◌, ◌/◌, ◌<◌, ◌≤◌, List, length, get_or, slice_index, sym, subst, ◌∙◌, ⊎_elim, arith}
+use Rattle.std.proofs.lemmas.Bool.{cases_lt}
+use Rattle.std.proofs.lemmas.List.{ext_get_or}
+use Rattle.std.proofs.Props.{props}
+use mathlib.Core.HLevel.{is_prop→PathP}
+use Rattle.lfs_segments.specs.declared.summary.Summary.{Summary}
+use Rattle.lfs_segments.specs.Entry.{IsEntry, AreNamed-prop, AreEntriesAt, unused}
+use Rattle.lfs_segments.specs.Summary.{IsSummaryBlock}
+use Rattle.lfs_segments.specs.Bytes.{IsBlock}
+use Rattle.lfs_segments.proofs.BytesLemmas.{word_bytes, half_bytes}
+use Rattle.lfs_segments.proofs.EntryLemmas.{same_entries, entry_bytes}
+
+-- a summary is what its fields are
+pub same_fields : (s t : Summary) → s.segment ≡ t.segment → s.offset ≡ t.offset → s.count ≡ t.count → s.entries ≡ t.entries → s ≡ t
+same_fields s t segment offset count entries = λ i. record {
+  segment = segment i;
+  offset = offset i;
+  count = count i;
+  entries = entries i;
+  in_volume = is_prop→PathP (λ j. segment j < 1024) (λ j. hlevel props) s.in_volume t.in_volume i;
+  some = is_prop→PathP (λ j. 0 < count j) (λ j. hlevel props) s.some t.some i;
+  at_most = is_prop→PathP (λ j. count j ≤ 40) (λ j. hlevel props) s.at_most t.at_most i;
+  in_segment = is_prop→PathP (λ j. offset j + count j ≤ 63) (λ j. hlevel props) s.in_segment t.in_segment i;
+  whole = is_prop→PathP (λ j. length (entries j) ≡ 40) (λ j. hlevel props) s.whole t.whole i;
+  named = is_prop→PathP (λ j. (k : ℕ) → k < count j → IsEntry (get_or (entries j) k unused)) (λ j. AreNamed-prop (count j) (entries j)) s.named t.named i;
+  rest = is_prop→PathP (λ j. (k : ℕ) → count j ≤ k → get_or (entries j) k unused ≡ unused) (λ j. hlevel props) s.rest t.rest i;
+}
+
+-- the entries of a summary are those that its block spells
+pub entries_of : (bytes : List ℕ) (s : Summary) → IsSummaryBlock bytes s → AreEntriesAt bytes s.count s.entries
+entries_of bytes s p = record { whole = s.whole; named = s.named; spelled = p.entries; rest = s.rest }
+
+-- a block spells one summary
+pub same_summary : (bytes : List ℕ) (s t : Summary) → IsSummaryBlock bytes s → IsSummaryBlock bytes t → s ≡ t
+same_summary bytes s t p q =
+    let count : s.count ≡ t.count = sym p.count ∙ q.count in
+    same_fields s t (sym p.segment ∙ q.segment) (sym p.offset ∙ q.offset) count
+    (same_entries bytes t.count s.entries t.entries (subst (λ (n : ℕ). AreEntriesAt bytes n s.entries) count (entries_of bytes s p)) (entries_of bytes t q))
+
+-- of two blocks that spell one summary, each byte is the same
+same_byte : (xs ys : List ℕ) (s : Summary) → IsBlock xs → IsBlock ys → IsSummaryBlock xs s → IsSummaryBlock ys s → (i : ℕ) → slice_index xs i ≡ slice_index ys i
+same_byte xs ys s p q r t i =
+    let k : ℕ = (i - 16) / 12 in
+    ⊎_elim
+    (λ lt. word_bytes xs ys 0 i p q (r.mark ∙ sym t.mark) (omega arith) lt)
+    (λ from4. ⊎_elim
+    (λ lt. word_bytes xs ys 4 i p q (r.segment ∙ sym t.segment) from4 lt)
+    (λ from8. ⊎_elim
+    (λ lt. half_bytes xs ys 8 i p q (r.offset ∙ sym t.offset) from8 lt)
+    (λ from10. ⊎_elim
+    (λ lt. half_bytes xs ys 10 i p q (r.count ∙ sym t.count) from10 lt)
+    (λ from12. ⊎_elim
+    (λ lt. word_bytes xs ys 12 i p q (r.gap ∙ sym t.gap) from12 lt)
+    (λ from16. ⊎_elim
+    (λ lt. let below : k < s.count = omega arith in
+    entry_bytes xs ys (16 + 12 * k) i _ p q (r.entries k below) (t.entries k below) (omega arith) (omega arith))
+    (λ past. r.rest i past ∙ sym (t.rest i past))
+    (cases_lt i (16 + 12 * s.count)))
+    (cases_lt i 16))
+    (cases_lt i 12))
+    (cases_lt i 10))
+    (cases_lt i 8))
+    (cases_lt i 4)
+
+-- one block spells a summary
+pub same_spelling : (xs ys : List ℕ) (s : Summary) → IsBlock xs → IsBlock ys → IsSummaryBlock xs s → IsSummaryBlock ys s → xs ≡ ys
+same_spelling xs ys s p q r t =
+    ext_get_or 0 xs ys (p.whole ∙ sym q.whole) (λ i _. same_byte xs ys s p q r t i)

@@ -1,0 +1,17 @@
+use Rattle.std.proofs.Common.{◌≡◌, ◌+◌, ◌-◌, ◌*◌, arith}
+use Rattle.lfs_segments.specs.Memory.{log_start}
+use Rattle.lfs_segments.proofs.MemoryLemmas.{opened_laid_out}
+use Rattle.lfs_segments.proofs.segments.Segments.open_next.Goals as goal
+
+pub invariant_of-self : goal.invariant_of-self
+invariant_of-self c =
+    let old = c.self.inside in
+    let segment = c.args.segment in
+    let inside = c.requires in
+    let view = c.self.view_is in
+    let count : segment * 64 + 64 - (segment * 64 + log_start segment) ≡ 64 - log_start segment = omega arith in
+    rw (c.clear.ensures, c.log_start-self-inside.ensures, count)
+    (opened_laid_out old.blocks.items old.active old.fill segment c.self.invariant (rw (← view) at inside))
+
+pub returns-clause-laid_out : goal.returns-clause-laid_out
+returns-clause-laid_out c = invariant_of-self c

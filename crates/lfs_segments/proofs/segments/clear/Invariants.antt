@@ -1,0 +1,7 @@
+use Rattle.std.proofs.Common.{◌≡◌, ◌-◌, replicate}
+use Rattle.lfs_segments.specs.Memory.{written, zero_block}
+use Rattle.lfs_segments.proofs.segments.clear.Given as goal
+
+-- zeros so far, and all else stays
+abbrev pub invariant-loop-place : goal.invariant-loop-place
+invariant-loop-place l = l.blocks.items ≡ written l.fn.blocks.items l.start (replicate (l.place - l.start) zero_block)

@@ -1,0 +1,6 @@
+pub mod Bytes
+pub mod Entry
+pub mod Log
+pub mod Memory
+pub mod Reading
+pub mod Summary

@@ -1,0 +1,75 @@
+-- The memory of a volume as callers see it, and what each call makes of it.
+use Rattle.std.specs.Prelude.{◌≡◌, ℕ, zero, suc, ◌+◌, ◌-◌, ◌*◌, ◌/◌, ◌<◌, ◌≤◌, List, [], ◌∷◌, ◌++◌, All, length, take, drop, replicate, slice_index_or}
+use Rattle.byteorder.specs.Endian.{big_bytes}
+
+-- How many segments there are, the active one, how many of its blocks are used, and every block by its address. The
+-- address of a block is 64 times its segment and its place in it.
+pub record SegmentMemory : Type 0 where
+  pub segments : ℕ
+  pub active : ℕ
+  pub fill : ℕ
+  pub blocks : List (List ℕ)
+
+-- the memory that these blocks are
+abbrev pub seen : List (List ℕ) → ℕ → ℕ → SegmentMemory
+seen blocks active fill = record { segments = length blocks / 64; active = active; fill = fill; blocks = blocks }
+
+-- where the log of a segment begins: behind the label in the first segment
+abbrev pub log_start : ℕ → ℕ
+log_start zero = 1
+log_start (suc _) = 0
+
+-- what holds of the memory after every call
+pub record IsLaidOut (m : SegmentMemory) : Type 0 where
+  pub at_least : 6 ≤ m.segments
+  pub at_most : m.segments ≤ 1024
+  pub whole : length m.blocks ≡ m.segments * 64
+  pub each : All (λ block. length block ≡ 512) m.blocks
+  pub active : m.active < m.segments
+  pub begun : log_start m.active ≤ m.fill
+  pub within : m.fill ≤ 64
+
+-- a block without data
+unfoldable pub zero_block : List ℕ
+zero_block = replicate 512 0
+
+-- block 0: the mark LFS1, the number of segments, the number of inode numbers
+unfoldable pub label : ℕ → ℕ → List ℕ
+label segments inodes = big_bytes 4 0x4c46_5331 ++ (big_bytes 4 segments ++ (big_bytes 4 inodes ++ replicate 500 0))
+
+-- a volume before anything is written: zeros behind the label, segment 0 active
+abbrev pub fresh : ℕ → ℕ → SegmentMemory
+fresh segments inodes = record {
+  segments = segments;
+  active = 0;
+  fill = 1;
+  blocks = label segments inodes ∷ replicate (segments * 64 - 1) zero_block;
+}
+
+-- the block at an address
+abbrev pub block_at : SegmentMemory → ℕ → List ℕ
+block_at m address = slice_index_or m.blocks address []
+
+-- the address that the next block gets
+abbrev pub next_address : SegmentMemory → ℕ
+next_address m = m.active * 64 + m.fill
+
+-- how many blocks the active segment has left
+abbrev pub room_of : SegmentMemory → ℕ
+room_of m = 64 - m.fill
+
+-- the blocks, with others written from an address on
+abbrev pub written : List (List ℕ) → ℕ → List (List ℕ) → List (List ℕ)
+written blocks address others = take address blocks ++ (others ++ drop (address + length others) blocks)
+
+-- the memory with blocks appended to the log
+abbrev pub appended : SegmentMemory → List (List ℕ) → SegmentMemory
+appended m others = record m { fill = m.fill + length others; blocks = written m.blocks (next_address m) others }
+
+-- the memory with a segment made active: zeros from where its log begins to its end
+abbrev pub opened : SegmentMemory → ℕ → SegmentMemory
+opened m segment = record m {
+  active = segment;
+  fill = log_start segment;
+  blocks = written m.blocks (segment * 64 + log_start segment) (replicate (64 - log_start segment) zero_block);
+}

@@ -1,0 +1,116 @@
+//! What an entry of a summary names.
+
+ghost use Rattle.std.specs.Prelude.{◌≡◌, ℕ, ◌+◌, ◌<◌, ◌≤◌, ◌↔◌, IsTrue, IfSome, slice_index};
+ghost use Rattle.lfs_segments.specs.Bytes.{IsBlock};
+ghost use Rattle.lfs_segments.specs.Entry.{IsLogicalBlock, IsOwner, IsEntry, IsEntryAt, block_number};
+
+use crate::bytes::{put_word, word};
+use lfs_types::block::Block;
+
+/// The number of data blocks that a file may have.
+const DATA_BLOCKS: u32 = 140;
+
+/// The number that spells the single indirect block.
+const SINGLE: u32 = 0x8000_0000;
+
+/// The number that spells a block of inodes.
+const INODES: u32 = 0xffff_ffff;
+
+/// A block of a file, or a block of inodes (this project's profile). A later kind of block is a
+/// further variant here.
+#[derive(Clone, Copy, PartialEq, Eq, Debug)]
+pub enum LogicalBlock {
+    /// A data block of a file, by its index from 0 to 139.
+    Data(u32),
+    /// The single indirect block of a file.
+    Single,
+    /// A block of inodes, which belongs to no file.
+    Inodes,
+}
+
+impl LogicalBlock {
+    /// The number that spells it in an entry.
+    pub fn number(self) -> u32
+        ensures { result ≡ block_number self }
+    {
+        match self {
+            LogicalBlock::Data(index) => index,
+            LogicalBlock::Single => SINGLE,
+            LogicalBlock::Inodes => INODES,
+        }
+    }
+
+    /// The block that a number spells, or None where no block has that number.
+    pub fn from_number(number: u32) -> Option<LogicalBlock>
+        ensures found { IfSome result (λ block. IsLogicalBlock block × (block_number block ≡ number)) }
+        ensures only { (block : LogicalBlock) → IsLogicalBlock block → block_number block ≡ number
+            → result ≡ Some block }
+    {
+        match number {
+            SINGLE => Some(LogicalBlock::Single),
+            INODES => Some(LogicalBlock::Inodes),
+            index if index < DATA_BLOCKS => Some(LogicalBlock::Data(index)),
+            _ => None,
+        }
+    }
+}
+
+/// An entry of a summary: the block in the log, and the file that it was written for.
+#[derive(Clone, Copy, PartialEq, Eq, Debug)]
+pub struct SummaryEntry {
+    /// The file's number: 2, or 4 to 4,095; 0 for a block of inodes.
+    pub number: u32,
+    /// The file's version, at least 1; 0 for a block of inodes.
+    pub version: u32,
+    /// Which of the file's blocks it is.
+    pub block: LogicalBlock,
+}
+
+impl SummaryEntry {
+    /// What stands past the last entry of a summary: zeros.
+    pub const UNUSED: SummaryEntry = SummaryEntry {
+        number: 0,
+        version: 0,
+        block: LogicalBlock::Data(0),
+    };
+
+    /// Whether the number and the version are such as a block of this kind has.
+    fn has_owner(&self) -> bool
+        ensures { IsTrue result ↔ IsOwner self.now.block self.now.number self.now.version }
+    {
+        match self.block {
+            LogicalBlock::Inodes => self.number == 0 && self.version == 0,
+            LogicalBlock::Data(_) | LogicalBlock::Single => {
+                self.number >= 2 && self.number != 3 && self.number < 4096 && self.version >= 1
+            }
+        }
+    }
+
+    /// The entry that twelve bytes spell, or None where they spell none.
+    pub(crate) fn read(bytes: &Block, place: usize) -> Option<SummaryEntry>
+        requires { place + 12 ≤ 512 }
+        ensures found { IfSome result (λ entry. IsEntry entry × IsEntryAt bytes.now place entry) }
+        ensures only { (entry : SummaryEntry) → IsEntry entry → IsEntryAt bytes.now place entry
+            → result ≡ Some entry }
+    {
+        let entry = SummaryEntry {
+            number: word(bytes, place),
+            version: word(bytes, place + 4),
+            block: LogicalBlock::from_number(word(bytes, place + 8))?,
+        };
+        entry.has_owner().then_some(entry)
+    }
+
+    /// Writes the entry into the twelve bytes from a place.
+    pub(crate) fn write(&self, bytes: &mut Block, place: usize)
+        requires { place + 12 ≤ 512 }
+        ensures bytes { IsBlock bytes.new }
+        ensures written { IsEntryAt bytes.new place self.now }
+        ensures before { (i : ℕ) → i < place → slice_index bytes.new i ≡ slice_index bytes.old i }
+        ensures after { (i : ℕ) → place + 12 ≤ i → slice_index bytes.new i ≡ slice_index bytes.old i }
+    {
+        put_word(bytes, place, self.number);
+        put_word(bytes, place + 4, self.version);
+        put_word(bytes, place + 8, self.block.number());
+    }
+}

@@ -1,0 +1,164 @@
+//! The memory of the volume: segments of blocks, one of them active.
+
+ghost use Rattle.std.specs.Prelude.{◌≡◌, ◌+◌, ◌-◌, ◌*◌, ◌<◌, ◌≤◌, ◌↔◌, IfOk, IsErrOf, length, replicate, vec_len};
+ghost use Rattle.lfs_segments.specs.Memory.{IsLaidOut, appended, block_at, fresh, label, log_start, next_address, opened, room_of, written, zero_block};
+
+use byteorder::{BigEndian, ByteOrder};
+use lfs_types::block::{BLOCK_SIZE, Block};
+use lfs_types::fault::FormatFault;
+use std::alloc::{AllocError, Global};
+use std::marker::Model;
+
+/// The number of blocks of a segment (this project's profile).
+pub const SEGMENT_BLOCKS: u32 = 64;
+
+/// The least number of segments of a volume (this project's profile).
+pub const LEAST_SEGMENTS: u32 = 6;
+
+/// The greatest number of segments of a volume (this project's profile).
+pub const MOST_SEGMENTS: u32 = 1024;
+
+/// The first four bytes of the label, `LFS1`.
+const MARK: u32 = 0x4c46_5331;
+
+/// A block without data.
+const ZERO: Block = [0; BLOCK_SIZE];
+
+/// The blocks of a volume in memory. They are written in the order of a log, into one active segment
+/// at a time.
+#[derive(Drop)]
+pub struct Segments {
+    blocks: Vec<Block>,
+    active: u32,
+    fill: u32,
+}
+
+impl Model for Segments {
+    ghost use Rattle.lfs_segments.specs.Memory.{IsLaidOut, SegmentMemory, seen};
+
+    ghost Value = { SegmentMemory };
+
+    ghost view = { λ s. seen s.blocks.items s.active s.fill };
+
+    ghost invariant = { λ s. IsLaidOut (seen s.blocks.items s.active s.fill) };
+}
+
+impl Segments {
+    /// Lays out a volume of 6 to 1,024 segments, all zeros but the label in block 0, which names the
+    /// number of inode numbers too. Segment 0 is active.
+    pub fn format(alloc: Global, segments: u32, inodes: u32) -> Result<Segments, FormatFault>
+        ensures too_few { IsErrOf result FormatFault.TooFew ↔ (segments < 6) }
+        ensures too_many { IsErrOf result FormatFault.TooMany ↔ (1024 < segments) }
+        ensures fresh { IfOk result (λ made. made ≡ fresh segments inodes) }
+        ensures laid_out { IfOk result (λ made. IsLaidOut made) }
+    {
+        if segments < LEAST_SEGMENTS {
+            return Err(FormatFault::TooFew);
+        }
+        if segments > MOST_SEGMENTS {
+            return Err(FormatFault::TooMany);
+        }
+        let mut blocks = zeros(alloc, (segments * SEGMENT_BLOCKS) as usize)?;
+        blocks[0] = label(segments, inodes);
+        Ok(Segments {
+            blocks,
+            active: 0,
+            fill: 1,
+        })
+    }
+
+    /// The block at an address.
+    pub fn block(&self, address: u32) -> &Block
+        requires { address < self.now.segments * 64 }
+        ensures block { result.now ≡ block_at self.now address }
+        ensures laid_out { IsLaidOut self.now }
+    {
+        &self.blocks[address as usize]
+    }
+
+    /// How many blocks fit behind those of the active segment.
+    pub fn room(&self) -> u32
+        ensures room { result ≡ room_of self.now }
+        ensures laid_out { IsLaidOut self.now }
+    {
+        SEGMENT_BLOCKS - self.fill
+    }
+
+    /// Writes blocks behind those of the active segment, where they fit, and gives the address of the
+    /// first.
+    pub fn append(&mut self, blocks: &[Block]) -> u32
+        requires { length blocks.now ≤ room_of self.old }
+        ensures address { result ≡ next_address self.old }
+        ensures appended { self.new ≡ appended self.old blocks.now }
+        ensures laid_out { IsLaidOut self.new }
+    {
+        let address = self.active * SEGMENT_BLOCKS + self.fill;
+        put(&mut self.blocks, address as usize, blocks);
+        self.fill += blocks.len() as u32;
+        address
+    }
+
+    /// Makes a segment the active one. It is filled with zeros first; the label stays.
+    pub fn open_next(&mut self, segment: u32)
+        requires { segment < self.old.segments }
+        ensures opened { self.new ≡ opened self.old segment }
+        ensures laid_out { IsLaidOut self.new }
+    {
+        self.active = segment;
+        self.fill = log_start(segment);
+        let first = segment * SEGMENT_BLOCKS;
+        clear(
+            &mut self.blocks,
+            (first + self.fill) as usize,
+            (first + SEGMENT_BLOCKS) as usize,
+        );
+    }
+}
+
+/// The block at which the log of a segment begins.
+fn log_start(segment: u32) -> u32
+    ensures { result ≡ log_start segment }
+{
+    if segment == 0 { 1 } else { 0 }
+}
+
+/// The block at address 0.
+fn label(segments: u32, inodes: u32) -> Block
+    ensures { result ≡ label segments inodes }
+{
+    let mut block = ZERO;
+    BigEndian::write_u32(&mut block[..4], MARK);
+    BigEndian::write_u32(&mut block[4..8], segments);
+    BigEndian::write_u32(&mut block[8..12], inodes);
+    block
+}
+
+/// So many blocks without data, in memory taken at once.
+fn zeros(alloc: Global, count: usize) -> Result<Vec<Block>, AllocError>
+    ensures { IfOk result (λ blocks. blocks.items ≡ replicate count zero_block) }
+{
+    let mut blocks = Vec::with_capacity(alloc, count)?;
+    for _ in 0..count {
+        blocks.push(ZERO)?;
+    }
+    Ok(blocks)
+}
+
+/// Writes blocks over others, from a place on.
+fn put(blocks: &mut Vec<Block>, place: usize, others: &[Block])
+    requires { place + length others.now ≤ vec_len blocks.old }
+    ensures { blocks.new.items ≡ written blocks.old.items place others.now }
+{
+    blocks[place..place + others.len()].copy_from_slice(others);
+}
+
+/// Fills blocks with zeros, from a place to another.
+fn clear(blocks: &mut Vec<Block>, start: usize, end: usize)
+    requires ordered { start ≤ end }
+    requires inside { end ≤ vec_len blocks.old }
+    ensures { blocks.new.items ≡ written blocks.old.items start (replicate (end - start) zero_block) }
+{
+    for place in start..end {
+        blocks[place] = ZERO;
+    }
+}

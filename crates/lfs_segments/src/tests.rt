@@ -1,0 +1,142 @@
+//! The worked example of a summary block, and each call of the memory at values.
+
+ghost use Rattle.std.specs.Prelude.{◌≤◌, length};
+
+use crate::entry::{LogicalBlock, SummaryEntry};
+use crate::segments::Segments;
+use crate::summary::Summary;
+use lfs_types::block::Block;
+use lfs_types::fault::FormatFault;
+use std::test::Fail;
+
+/// Segment 0, offset 3, one entry for block 0 of file 4 in version 1.
+const EXAMPLE: [u8; 28] = [
+    0x4c, 0x46, 0x53, 0x53, 0, 0, 0, 0, 0, 3, 0, 1, 0, 0, 0, 0, 0, 0, 0, 4, 0, 0, 0, 1, 0, 0, 0, 0,
+];
+
+/// The block that begins with these bytes and is zero behind them.
+fn block_of(start: &[u8]) -> Block
+    requires { length start.now ≤ 512 }
+{
+    let mut block = [0; 512];
+    block[..start.len()].copy_from_slice(start);
+    block
+}
+
+/// The summary that the example spells.
+fn example() -> Summary {
+    let mut entries = [SummaryEntry::UNUSED; 40];
+    entries[0] = SummaryEntry {
+        number: 4,
+        version: 1,
+        block: LogicalBlock::Data(0),
+    };
+    Summary {
+        segment: 0,
+        offset: 3,
+        count: 1,
+        entries,
+    }
+}
+
+#[test]
+fn the_example_is_spelled_and_read(rt: HostRuntime) {
+    assert!(rt; example().encode() == block_of(&EXAMPLE));
+    assert!(rt; Summary::decode(&block_of(&EXAMPLE)) == Some(example()));
+}
+
+#[test]
+fn each_kind_of_entry_is_spelled(rt: HostRuntime) {
+    let kinds = [
+        ([0, 0, 0, 139], LogicalBlock::Data(139)),
+        ([0x80, 0, 0, 0], LogicalBlock::Single),
+        ([0xff, 0xff, 0xff, 0xff], LogicalBlock::Inodes),
+    ];
+    for (bytes, block) in kinds {
+        assert!(rt; block.number() == u32::from_be_bytes(bytes));
+        assert!(rt; LogicalBlock::from_number(u32::from_be_bytes(bytes)) == Some(block));
+    }
+    assert!(rt; LogicalBlock::from_number(140).is_none());
+}
+
+#[test]
+fn a_loose_summary_is_none(rt: HostRuntime) {
+    for (place, byte) in [(11, 0), (11, 41), (15, 1), (27, 140), (511, 1)] {
+        let mut block = block_of(&EXAMPLE);
+        if place < 512 {
+            block[place] = byte;
+        }
+        assert!(rt; Summary::decode(&block).is_none(), "byte {place}");
+    }
+    let mut late = block_of(&EXAMPLE);
+    late[9] = 60;
+    for k in 0..4 {
+        late[19 + 12 * k] = 4;
+        late[23 + 12 * k] = 1;
+    }
+    late[11] = 4;
+    assert!(rt; Summary::decode(&late).is_none());
+    late[9] = 59;
+    assert!(rt; Summary::decode(&late).is_some());
+}
+
+#[test]
+fn each_changed_byte_is_refused_or_kept(rt: HostRuntime) {
+    let mut kept = 0u32;
+    for place in 0..512 {
+        for byte in 0..=255 {
+            let mut block = block_of(&EXAMPLE);
+            block[place] = byte;
+            if let Some(summary) = Summary::decode(&block) {
+                assert!(rt; summary.encode() == block, "byte {place}");
+                kept = kept.wrapping_add(1);
+            }
+        }
+    }
+    // 512 bytes as they were; segment 3 and 255, offset 62, number 15 and 252, version three times 255
+    // and 254, logical block 139 and 1.
+    assert_eq!(rt; kept, 2258);
+}
+
+#[test]
+fn format_keeps_its_range(rt: HostRuntime) {
+    assert!(rt;
+        matches!(
+            Segments::format(rt.alloc(), 5, 16),
+            Err(FormatFault::TooFew)
+        )
+    );
+    assert!(rt; Segments::format(rt.alloc(), 6, 16).is_ok());
+    assert!(rt;
+        matches!(
+            Segments::format(rt.alloc(), 1025, 16),
+            Err(FormatFault::TooMany)
+        )
+    );
+}
+
+#[test]
+fn memory_is_laid_out_and_written(rt: HostRuntime) -> Result<(), Fail> {
+    let label = [0x4c, 0x46, 0x53, 0x31, 0, 0, 0, 6, 0, 0, 0, 16];
+    let mut segments = Segments::format(rt.alloc(), 6, 16)?;
+    assert!(rt; *segments.block(0) == block_of(&label));
+    for address in 1..384 {
+        assert!(rt; *segments.block(address) == [0; 512], "block {address}");
+    }
+    assert_eq!(rt; segments.room(), 63);
+    let first = segments.append(&[block_of(&EXAMPLE), [7; 512]]);
+    assert_eq!(rt; first, 1);
+    assert_eq!(rt; segments.room(), 61);
+    assert!(rt; *segments.block(1) == block_of(&EXAMPLE));
+    assert!(rt; *segments.block(2) == [7; 512]);
+    segments.open_next(2);
+    assert_eq!(rt; segments.room(), 64);
+    assert_eq!(rt; segments.append(&[[9; 512]]), 128);
+    assert!(rt; *segments.block(128) == [9; 512]);
+    segments.open_next(0);
+    assert_eq!(rt; segments.room(), 63);
+    assert!(rt; *segments.block(0) == block_of(&label));
+    assert!(rt; *segments.block(2) == [0; 512]);
+    assert!(rt; *segments.block(128) == [9; 512]);
+    Ok(())
+}

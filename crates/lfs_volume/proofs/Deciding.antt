@@ -1,0 +1,84 @@
+-- What a walk's end says of the first failing test of a call.
+use Rattle.std.proofs.Common.{◌≡◌, ℕ, ◌+◌, Bool, true, false, cond, List, [], ◌∷◌, ◌++◌, length, Option, None, Some, Result, Ok, Err, refl, sym, ap, subst, ◌∙◌, append-nil}
+use Rattle.std.specs.Prelude.{is_some, unwrap_or, IsSome}
+use Rattle.std.specs.FinMap as map
+use Rattle.lfs_types.specs.Caller.{Caller}
+use Rattle.lfs_types.specs.Tree.{World, Content, root}
+use Rattle.lfs_types.specs.declared.attrs.Bit.TheVariants as bits
+use Rattle.lfs_types.specs.declared.rule.Denial.{Denial}
+use Rattle.lfs_volume.specs.World.{Rows, child}
+use Rattle.lfs_volume.specs.Rules.{Check, first_failing, is_directory_row, row_grants, next, reached, walk}
+use Rattle.lfs_volume.specs.Content.{Shows}
+use Rattle.lfs_volume.specs.Walks.{stepped, found, and_then, walked}
+use Rattle.lfs_volume.proofs.StepLemmas.{child-stored}
+
+-- the first failing test, where a walk comes before others
+abbrev pub after_walk : Result ℕ Denial → Option Denial → Option Denial
+after_walk (Ok n) rest = rest
+after_walk (Err denial) rest = Some denial
+
+module _ (path k : ℕ) (kind search name : Denial) (rest tail : Option Denial) (on : ℕ → Result ℕ Denial) where
+  goes_on : (d s : Bool) (o : Option ℕ) (stop : Result ℕ Denial) → (o ≡ None → stop ≡ Err name) → ((n : ℕ) → o ≡ Some n → stop ≡ Ok n) → tail ≡ after_walk (on (unwrap_or o 0)) rest
+      → cond d (cond s (cond (is_some o) tail (Some name)) (Some search)) (Some kind) ≡ after_walk (and_then (cond d (cond s stop (Err search)) (Err kind)) on) rest
+  goes_on true true None stop none some h = sym (ap (λ r. after_walk (and_then r on) rest) (none refl))
+  goes_on true true (Some n) stop none some h = h ∙ sym (ap (λ r. after_walk (and_then r on) rest) (some n refl))
+  goes_on true false o stop none some h = refl
+  goes_on false s o stop none some h = refl
+
+found-none : (path k : ℕ) (o : Option ℕ) → o ≡ None → found path k o ≡ found path k None
+found-none path k o e = ap (found path k) e
+
+pub failing_walk : (rows : Rows) (caller : Caller) (path k at : ℕ) (names : List (List ℕ)) (rest : List Check)
+    → first_failing (walk rows caller path k at names ++ rest) ≡ after_walk (walked rows caller path k at names) (first_failing rest)
+unfolding walked
+failing_walk rows caller path k at [] rest = refl
+failing_walk rows caller path k at (name ∷ names) rest =
+    goes_on path k _ _ _ (first_failing rest) _ (λ n. walked rows caller path (k + 1) n names)
+    (is_directory_row (map.get rows at)) (row_grants caller bits.Search (map.get rows at)) (child rows at name) (found path (k + 1) (child rows at name))
+    (λ e. ap (found path (k + 1)) e) (λ n e. ap (found path (k + 1)) e)
+    (failing_walk rows caller path (k + 1) (next rows at name) names rest)
+
+-- where a walk is denied, the call is
+pub walk_denied : (rows : Rows) (caller : Caller) (path : ℕ) (names : List (List ℕ)) (rest : List Check) (denial : Denial)
+    → walked rows caller path 0 root names ≡ Err denial → first_failing (walk rows caller path 0 root names ++ rest) ≡ Some denial
+walk_denied rows caller path names rest denial h = failing_walk rows caller path 0 root names rest ∙ ap (λ r. after_walk r (first_failing rest)) h
+
+-- where a walk ends at a row, the other tests decide
+pub walk_passed : (rows : Rows) (caller : Caller) (path : ℕ) (names : List (List ℕ)) (rest : List Check) (n : ℕ)
+    → walked rows caller path 0 root names ≡ Ok n → first_failing (walk rows caller path 0 root names ++ rest) ≡ first_failing rest
+walk_passed rows caller path names rest n h = failing_walk rows caller path 0 root names rest ∙ ap (λ r. after_walk r (first_failing rest)) h
+
+-- a step that was taken
+pub record Taken (o : Option ℕ) (on : ℕ → Result ℕ Denial) (n : ℕ) : Type 0 where
+  pub to : ℕ
+  pub child : o ≡ Some to
+  pub rest : on to ≡ Ok n
+
+taken : (path k : ℕ) (search kind : Denial) (on : ℕ → Result ℕ Denial) (n : ℕ) (d s : Bool) (o : Option ℕ)
+    → and_then (cond d (cond s (found path k o) (Err search)) (Err kind)) on ≡ Ok n → Taken o on n
+taken path k search kind on n true true None h = absurd (cc)
+taken path k search kind on n true true (Some m) h = record { to = m; child = refl; rest = h }
+taken path k search kind on n true false o h = absurd (cc)
+taken path k search kind on n false s o h = absurd (cc)
+
+walked_taken : (rows : Rows) (caller : Caller) (path k at : ℕ) (name : List ℕ) (names : List (List ℕ)) (n : ℕ) → walked rows caller path k at (name ∷ names) ≡ Ok n
+    → Taken (child rows at name) (λ m. walked rows caller path (k + 1) m names) n
+unfolding walked
+walked_taken rows caller path k at name names n h =
+    taken path (k + 1) _ _ (λ m. walked rows caller path (k + 1) m names) n (is_directory_row (map.get rows at)) (row_grants caller bits.Search (map.get rows at)) (child rows at name) h
+
+-- a walk ends where the names lead
+pub walked-reached : (rows : Rows) (caller : Caller) (path k at : ℕ) (names : List (List ℕ)) (n : ℕ) → walked rows caller path k at names ≡ Ok n → reached rows at names ≡ n
+unfolding walked
+walked-reached rows caller path k at [] n h = cc
+walked-reached rows caller path k at (name ∷ names) n h =
+    let t = walked_taken rows caller path k at name names n h in
+    ap (λ o. reached rows (unwrap_or o 0) names) t.child ∙ walked-reached rows caller path (k + 1) t.to names n t.rest
+
+-- a walk ends at a row
+pub walked-stored : (c : Content) (w : World) → Shows c w → (caller : Caller) (path k at : ℕ) (names : List (List ℕ)) (n : ℕ) → IsSome (map.get c at) → walked w.rows caller path k at names ≡ Ok n → IsSome (map.get c n)
+unfolding walked
+walked-stored c w shows caller path k at [] n here h = let same : at ≡ n = cc in subst (λ m. IsSome (map.get c m)) same here
+walked-stored c w shows caller path k at (name ∷ names) n here h =
+    let t = walked_taken w.rows caller path k at name names n h in
+    walked-stored c w shows caller path (k + 1) t.to names n (child-stored c w shows at name t.to t.child) t.rest

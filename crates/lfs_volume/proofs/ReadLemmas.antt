@@ -1,0 +1,95 @@
+-- What the calls that change nothing may be answered.
+use Rattle.std.proofs.Common.{◌≡◌, ℕ, ◌+◌, Bool, true, false, cond, List, [], ◌∷◌, ◌++◌, length, min, Option, None, Some, Result, Ok, Err, refl, sym, ap, subst, ◌∙◌, append-nil}
+use Rattle.std.specs.Prelude.{not, IsSome}
+use Rattle.std.proofs.lemmas.Bool.{cond-true, cond-false}
+use Rattle.std.specs.FinMap as map
+use Rattle.lfs_types.specs.Caller.{Caller}
+use Rattle.lfs_types.specs.Kinds.{is_directory_kind}
+use Rattle.lfs_types.specs.Stored.{shown_attrs, bytes_of, bytes_of_file, slice_of}
+use Rattle.lfs_types.specs.Tree.{File, Row, World, Content, root, attrs_of}
+use Rattle.lfs_types.specs.declared.answer.Served.TheVariants as served
+use Rattle.lfs_types.specs.declared.attrs.Attrs.{Attrs}
+use Rattle.lfs_types.specs.declared.attrs.Bit.TheVariants as bits
+use Rattle.lfs_types.specs.declared.attrs.Kind.{Kind}
+use Rattle.lfs_types.specs.declared.attrs.Kind.TheVariants.{File as Regular, Directory}
+use Rattle.lfs_types.specs.declared.request.Request.TheVariants.{Stat, Read}
+use Rattle.lfs_types.specs.declared.rule.Denial.{Denial}
+use Rattle.lfs_types.specs.declared.rule.Rule.TheVariants.{IsNoDirectory, GrantsRead}
+use Rattle.lfs_rules.specs.Grants.{grants_of}
+use Rattle.lfs_volume.specs.declared.walking.Reached.{Reached}
+use Rattle.lfs_volume.specs.World.{Rows, IsTree, file_at}
+use Rattle.lfs_volume.specs.Rules.{Check, asks, first_failing, is_directory_row, row_grants, reached, walk, decide}
+use Rattle.lfs_volume.specs.Effects.{answer_of, read_max}
+use Rattle.lfs_volume.specs.Content.{visible, visible_bytes, Shows}
+use Rattle.lfs_volume.specs.Walks.{walked, Reaches}
+use Rattle.lfs_volume.proofs.Deciding.{walk_denied, walk_passed, walked-reached, walked-stored}
+use Rattle.lfs_volume.proofs.Somewhere.{present}
+use Rattle.lfs_volume.proofs.StepLemmas.{ShownFile, shown_file, directory_reads, grants_reads, directory_kind}
+use Rattle.lfs_volume.proofs.Visible.{Stored, shown_of, visible-regular}
+
+pub regular_kind : (k : Kind) → is_directory_kind k ≡ false → k ≡ Regular
+regular_kind Regular h = refl
+regular_kind Directory h = absurd (cc)
+
+-- the size that is shown of a file: 0 of a directory
+size_shown : (k : Kind) (bytes : List ℕ) (size : ℕ) → (is_directory_kind k ≡ true → size ≡ 0) → (is_directory_kind k ≡ false → size ≡ length bytes) → size ≡ length (visible_bytes k bytes)
+size_shown Regular bytes size dir file = file refl
+size_shown Directory bytes size dir file = dir refl
+
+-- a row that a path leads to, with what the store has of it
+module _ (c : Content) (w : World) (shows : Shows c w) (caller : Caller) (path : List (List ℕ)) (n : ℕ) (a : Attrs)
+    (leads : walked w.rows caller 0 0 root path ≡ Ok n) (shown : Some a ≡ shown_attrs c n) where
+  pub object : reached w.rows root path ≡ n
+  object = walked-reached w.rows caller 0 0 root path n leads
+
+  pub passed : (rest : List Check) → first_failing (walk w.rows caller 0 0 root path ++ rest) ≡ first_failing rest
+  passed rest = walk_passed w.rows caller 0 path rest n leads
+
+  pub row_is : Stored w n (shown_file c n a shown).file
+  row_is = shown_of c w shows n (shown_file c n a shown).file (shown_file c n a shown).stored
+
+  -- the file that users see of the row
+  pub file_is : file_at (map.get w.rows (reached w.rows root path)) ≡ visible (shown_file c n a shown).file
+  file_is = ap (λ m. file_at (map.get w.rows m)) object ∙ ap file_at row_is.there ∙ sym row_is.same
+
+  pub directory_is : is_directory_row (map.get w.rows (reached w.rows root path)) ≡ is_directory_kind a.kind
+  directory_is = ap (λ m. is_directory_row (map.get w.rows m)) object ∙ directory_reads c w shows n a shown
+
+  pub grants_is : (bit : _) → row_grants caller bit (map.get w.rows (reached w.rows root path)) ≡ grants_of caller a bit
+  grants_is bit = ap (λ m. row_grants caller bit (map.get w.rows m)) object ∙ grants_reads c w shows n a shown caller bit
+
+  pub stat_allowed : decide w caller (Stat path) ≡ None
+  stat_allowed = ap first_failing (sym (append-nil (walk w.rows caller 0 0 root path))) ∙ passed []
+
+  pub stat_answer : (size : ℕ) → (is_directory_kind a.kind ≡ true → size ≡ 0) → (is_directory_kind a.kind ≡ false → size ≡ a.size)
+      → served.Stat n (record a { size = size }) ≡ answer_of w (Stat path)
+  stat_answer size dir file =
+      let f = shown_file c n a shown in
+      let kinds : a.kind ≡ f.file.kind = ap (λ (x : Attrs). x.kind) f.same in
+      let sizes : size ≡ length (visible_bytes f.file.kind f.file.bytes) =
+      size_shown f.file.kind f.file.bytes size (λ h. dir (ap is_directory_kind kinds ∙ h)) (λ h. file (ap is_directory_kind kinds ∙ h) ∙ ap (λ (x : Attrs). x.size) f.same) in
+      ap (λ s. served.Stat n (record a { size = s })) sizes
+      ∙ ap (λ (x : Attrs). served.Stat n (record x { size = length (visible_bytes f.file.kind f.file.bytes) })) f.same
+      ∙ ap (λ (x : File). served.Stat n (attrs_of x)) (sym file_is)
+      ∙ ap (λ m. served.Stat m (attrs_of (file_at (map.get w.rows (reached w.rows root path))))) (sym object)
+
+  module _ (off len : ℕ) where
+    pub read_of_directory : is_directory_kind a.kind ≡ true → decide w caller (Read path off len) ≡ Some (record { rule = IsNoDirectory; path = 0; at = length path })
+    read_of_directory h = passed _ ∙ cond-false _ _ _ (ap not (directory_is ∙ h))
+
+    pub read_not_granted : is_directory_kind a.kind ≡ false → grants_of caller a bits.Read ≡ false → decide w caller (Read path off len) ≡ Some (record { rule = GrantsRead; path = 0; at = length path })
+    read_not_granted h g = passed _ ∙ cond-true _ _ _ (ap not (directory_is ∙ h)) ∙ cond-false _ _ _ (grants_is bits.Read ∙ g)
+
+    pub read_allowed : is_directory_kind a.kind ≡ false → grants_of caller a bits.Read ≡ true → decide w caller (Read path off len) ≡ None
+    read_allowed h g = passed _ ∙ cond-true _ _ _ (ap not (directory_is ∙ h)) ∙ cond-true _ _ _ (grants_is bits.Read ∙ g)
+
+    -- the bytes that are stored of a file are those that users see
+    pub read_answer : is_directory_kind a.kind ≡ false → (bytes : List ℕ) → bytes ≡ slice_of (bytes_of c n) off (min len read_max) → served.Bytes bytes ≡ answer_of w (Read path off len)
+    read_answer h bytes e =
+        let f = shown_file c n a shown in
+        let regular = regular_kind f.file.kind (ap is_directory_kind (sym (ap (λ (x : Attrs). x.kind) f.same)) ∙ h) in
+        let same : f.file.bytes ≡ (file_at (map.get w.rows (reached w.rows root path))).bytes = ap (λ (x : File). x.bytes) (sym (file_is ∙ visible-regular f.file regular)) in
+        ap served.Bytes (e ∙ ap (λ bs. slice_of bs off (min len read_max)) (ap bytes_of_file f.stored ∙ same))
+
+pub stat_denied : (w : World) (caller : Caller) (path : List (List ℕ)) (denial : Denial) → walked w.rows caller 0 0 root path ≡ Err denial → decide w caller (Stat path) ≡ Some denial
+stat_denied w caller path denial h = ap first_failing (sym (append-nil (walk w.rows caller 0 0 root path))) ∙ walk_denied w.rows caller 0 path [] denial h
