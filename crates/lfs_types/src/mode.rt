@@ -100,7 +100,8 @@ impl Mode {
 
     /// The mode without these bits.
     pub fn without(self, bits: ModeBits) -> Mode
-        ensures { result ≡ without 16 self bits.0 }
+        ensures value { result ≡ without 16 self bits.0 }
+        ensures bounded { self < 4096 }
     {
         let mut set = self.set;
         set.remove(bits);

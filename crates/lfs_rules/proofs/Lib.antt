@@ -1,0 +1,2 @@
+pub mod BitTests
+pub mod SetIdBits

@@ -1,0 +1,7 @@
+pub mod Bits
+pub mod Grants
+pub mod Locks
+pub mod Owners
+pub mod Securelevel
+pub mod SetId
+pub mod Sticky
