@@ -1,5 +1,5 @@
 -- A test of a bit by a mask is the test of the number's binary digit.
-use Rattle.std.proofs.Common.{◌≡◌, ℕ, ◌*◌, ◌^◌, ◌<◌, ◌==◌, arith, lit<}
+use Rattle.std.proofs.Common.{◌≡◌, ℕ, ◌*◌, ◌^◌, ◌<◌, ◌==◌, arith, lit<, sym}
 use Rattle.std.specs.Int.RustNames.{bit_and}
 use Rattle.std.proofs.lemmas.Grind.{common_steps}
 use Rattle.std.proofs.lemmas.Nat.Bits.{and_pow, bit_at-lt}
@@ -14,20 +14,20 @@ digit d p small some = grind (arith, common_steps)
 pub has_bit-and : (n k : ℕ) → 0 < 2 ^ k → (bit_and n (2 ^ k) == 2 ^ k) ≡ has_bit n (2 ^ k)
 has_bit-and n k some = rw (and_pow n k) (digit _ (2 ^ k) (bit_at-lt n k) some)
 
-pub owner_test : (mode mask : ℕ) (bit : Bit) → mask ≡ owner_mask bit → (bit_and mode mask == mask) ≡ has_bit mode (owner_mask bit)
-owner_test mode mask Read e = rw e (has_bit-and mode 8 (lit< tt))
-owner_test mode mask Write e = rw e (has_bit-and mode 7 (lit< tt))
-owner_test mode mask Search e = rw e (has_bit-and mode 6 (lit< tt))
+pub owner_test : (mode : ℕ) (bit : Bit) → has_bit mode (owner_mask bit) ≡ (bit_and mode (owner_mask bit) == owner_mask bit)
+owner_test mode Read = sym (has_bit-and mode 8 (lit< tt))
+owner_test mode Write = sym (has_bit-and mode 7 (lit< tt))
+owner_test mode Search = sym (has_bit-and mode 6 (lit< tt))
 
-pub group_test : (mode mask : ℕ) (bit : Bit) → mask ≡ group_mask bit → (bit_and mode mask == mask) ≡ has_bit mode (group_mask bit)
-group_test mode mask Read e = rw e (has_bit-and mode 5 (lit< tt))
-group_test mode mask Write e = rw e (has_bit-and mode 4 (lit< tt))
-group_test mode mask Search e = rw e (has_bit-and mode 3 (lit< tt))
+pub group_test : (mode : ℕ) (bit : Bit) → has_bit mode (group_mask bit) ≡ (bit_and mode (group_mask bit) == group_mask bit)
+group_test mode Read = sym (has_bit-and mode 5 (lit< tt))
+group_test mode Write = sym (has_bit-and mode 4 (lit< tt))
+group_test mode Search = sym (has_bit-and mode 3 (lit< tt))
 
-pub other_test : (mode mask : ℕ) (bit : Bit) → mask ≡ other_mask bit → (bit_and mode mask == mask) ≡ has_bit mode (other_mask bit)
-other_test mode mask Read e = rw e (has_bit-and mode 2 (lit< tt))
-other_test mode mask Write e = rw e (has_bit-and mode 1 (lit< tt))
-other_test mode mask Search e = rw e (has_bit-and mode 0 (lit< tt))
+pub other_test : (mode : ℕ) (bit : Bit) → has_bit mode (other_mask bit) ≡ (bit_and mode (other_mask bit) == other_mask bit)
+other_test mode Read = sym (has_bit-and mode 2 (lit< tt))
+other_test mode Write = sym (has_bit-and mode 1 (lit< tt))
+other_test mode Search = sym (has_bit-and mode 0 (lit< tt))
 
 -- the bits that functions here ask for by name
 pub sticky_test : (mode : ℕ) → (bit_and mode 0o1000 == 0o1000) ≡ has_bit mode 0o1000

@@ -12,6 +12,7 @@ use lfs_types::mode::{Mode, ModeBits};
 
 /// Whether the mode grants the caller this: user 0 everything, the owner what the owner bits say, a member
 /// of the group what the group bits say, and everybody else what the other bits say (4.4BSD's chmod(2)).
+#[tactic(auto, using(crate::proofs::BitTests::owner_test, crate::proofs::BitTests::group_test, crate::proofs::BitTests::other_test))]
 pub fn grants(attrs: &Attrs, cred: &Cred, bit: Bit) -> bool
     ensures { result ≡ grants_of cred.now attrs.now bit }
 {

@@ -6,3 +6,5 @@ pub mod access;
 pub mod flags;
 pub mod level;
 pub mod owner;
+#[cfg(test)]
+mod tests;
