@@ -1,4 +1,4 @@
--- The code and the error number of each rule.
+-- The code and the error number of each rule, and the name of each error number.
 use Rattle.std.specs.Prelude.{ℕ, List, codes}
 use Rattle.lfs_types.specs.declared.rule.Rule.{Rule}
 use Rattle.lfs_types.specs.declared.rule.Rule.TheVariants.{IsDirectory, GrantsSearch, NameThere, NameFree, IsNoDirectory, IsEmpty, IsNotRoot, IsNotBeneathItself, IsMutable, IsNotAppendOnly, GrantsRead, GrantsWrite, PassesSticky, IsOwner, MaySetOwner, IsSuperuser, MaySetFlags, KeepsSystemLocks, MaySetLevel, FitsFile}
@@ -48,3 +48,15 @@ rule_error MaySetFlags = EPERM
 rule_error KeepsSystemLocks = EPERM
 rule_error MaySetLevel = EPERM
 rule_error FitsFile = EFBIG
+
+abbrev pub error_name : Errno → List ℕ
+error_name EPERM = codes "EPERM"
+error_name ENOENT = codes "ENOENT"
+error_name EACCES = codes "EACCES"
+error_name EBUSY = codes "EBUSY"
+error_name EEXIST = codes "EEXIST"
+error_name ENOTDIR = codes "ENOTDIR"
+error_name EISDIR = codes "EISDIR"
+error_name EINVAL = codes "EINVAL"
+error_name EFBIG = codes "EFBIG"
+error_name ENOTEMPTY = codes "ENOTEMPTY"

@@ -16,3 +16,5 @@ pub mod payload;
 pub mod request;
 pub mod rule;
 pub mod store;
+#[cfg(test)]
+mod tests;

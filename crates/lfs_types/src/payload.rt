@@ -148,7 +148,7 @@ impl Eq for Names {
 /// What a Write puts: at most 4,096 bytes.
 #[derive(Drop, Debug)]
 pub struct Payload {
-    bytes: Vec<u8>,
+    content: Vec<u8>,
 }
 
 impl Model for Payload {
@@ -156,9 +156,9 @@ impl Model for Payload {
 
     ghost Value = { List ℕ };
 
-    ghost view = { λ p. p.bytes.items };
+    ghost view = { λ p. p.content.items };
 
-    ghost invariant = { λ p. length p.bytes.items ≤ 4096 };
+    ghost invariant = { λ p. length p.content.items ≤ 4096 };
 }
 
 /// A vector that has more than 4,096 bytes, handed back.
@@ -173,7 +173,7 @@ impl Payload {
             (λ e. (4096 < length bytes.items) × (e.0.items ≡ bytes.items)) }
     {
         if bytes.len() <= PAYLOAD_MAX {
-            Ok(Payload { bytes })
+            Ok(Payload { content: bytes })
         } else {
             Err(BadSize(bytes))
         }
@@ -184,22 +184,22 @@ impl Payload {
         ensures value { result.now ≡ self.now }
         ensures bounded { length self.now ≤ 4096 }
     {
-        self.bytes.as_slice()
+        self.content.as_slice()
     }
 
     /// The vector of the bytes.
     pub fn into_vec(self) -> Vec<u8>
         ensures { result.items ≡ self }
     {
-        self.bytes
+        self.content
     }
 
     /// A value equal to this one.
     pub fn try_clone(&self, alloc: Global) -> Result<Payload, AllocError>
         ensures { IfOk result (λ copy. copy ≡ self.now) }
     {
-        let bytes = Vec::from_slice(alloc, self.as_slice())?;
-        Ok(Payload { bytes })
+        let content = Vec::from_slice(alloc, self.as_slice())?;
+        Ok(Payload { content })
     }
 }
 
@@ -214,7 +214,7 @@ impl PartialEq for Payload {
     ghost laws = { Prim.search (comparing, rules) };
 
     fn eq(&self, other: &Payload) -> bool {
-        self.bytes == other.bytes
+        self.content == other.content
     }
 }
 

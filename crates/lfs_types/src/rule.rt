@@ -1,7 +1,7 @@
 //! The rules that a call must pass, and the denial by the first that fails.
 
 ghost use Rattle.std.specs.Prelude.{◌≡◌};
-ghost use Rattle.lfs_types.specs.RuleCodes.{rule_code, rule_error};
+ghost use Rattle.lfs_types.specs.RuleCodes.{rule_code, rule_error, error_name};
 
 use std::fmt;
 
@@ -30,9 +30,34 @@ pub enum Errno {
     ENOTEMPTY,
 }
 
+impl Errno {
+    /// The name, as `EPERM`.
+    pub fn name(self) -> &'static str
+        ensures { result.now ≡ error_name self }
+    {
+        match self {
+            Errno::EPERM => "EPERM",
+            Errno::ENOENT => "ENOENT",
+            Errno::EACCES => "EACCES",
+            Errno::EBUSY => "EBUSY",
+            Errno::EEXIST => "EEXIST",
+            Errno::ENOTDIR => "ENOTDIR",
+            Errno::EISDIR => "EISDIR",
+            Errno::EINVAL => "EINVAL",
+            Errno::EFBIG => "EFBIG",
+            Errno::ENOTEMPTY => "ENOTEMPTY",
+        }
+    }
+}
+
 impl fmt::Display for Errno {
+    ghost use Rattle.std.specs.Prelude.{Some};
+    ghost use Rattle.lfs_types.specs.RuleCodes.{error_name};
+
+    ghost output = { λ error. Some (error_name error) };
+
     fn fmt<W: fmt::Write>(&self, f: &mut fmt::Formatter<W>) -> fmt::Result {
-        write!(f, "{self:?}")
+        f.write_str(self.name())
     }
 }
 

@@ -1,0 +1,118 @@
+//! Copies of requests and answers.
+
+use crate::answer::{Answer, Resource, Served};
+use crate::attrs::{Attrs, Kind};
+use crate::file_flags::FileFlags;
+use crate::mode::Mode;
+use crate::path::Path;
+use crate::payload::{Bytes, Payload};
+use crate::request::{Place, Request};
+use crate::rule::{Denial, Rule};
+use std::alloc::Global;
+use std::test::Fail;
+
+fn path(alloc: Global) -> Result<Path, Fail> {
+    Ok(Path::parse(alloc, "/a")?)
+}
+
+fn payload(alloc: Global, bytes: &[u8]) -> Result<Payload, Fail> {
+    match Payload::new(Vec::from_slice(alloc, bytes)?) {
+        Ok(payload) => Ok(payload),
+        Err(_) => Err("few bytes are a payload".into()),
+    }
+}
+
+/// Creates `/a`, writes to it, reads it, writes to it again; then the other forms of a request.
+fn requests(alloc: Global) -> Result<Vec<Request>, Fail> {
+    let requests = vec![in alloc;
+        Request::Create {
+            path: path(alloc)?,
+            mode: Mode::new(0o644).ok_or("a mode")?
+        },
+        Request::Write {
+            path: path(alloc)?,
+            place: Place::At(0),
+            bytes: payload(alloc, b"abc")?
+        },
+        Request::Read {
+            path: path(alloc)?,
+            off: 0,
+            len: 10
+        },
+        Request::Write {
+            path: path(alloc)?,
+            place: Place::At(0),
+            bytes: payload(alloc, b"d")?
+        },
+        Request::Write {
+            path: path(alloc)?,
+            place: Place::End,
+            bytes: payload(alloc, b"d")?
+        },
+        Request::Stat { path: path(alloc)? },
+    ]?;
+    Ok(requests)
+}
+
+/// The answers to these, the last two to other calls.
+fn answers(alloc: Global) -> Result<Vec<Answer>, Fail> {
+    let attrs = Attrs {
+        kind: Kind::File,
+        uid: 0,
+        gid: 0,
+        mode: Mode::new(0o644).ok_or("a mode")?,
+        flags: FileFlags::none(),
+        size: 3,
+    };
+    let bytes = Bytes::from(Vec::from_slice(alloc, b"abc")?);
+    let denial = Denial {
+        rule: Rule::GrantsWrite,
+        path: 0,
+        at: 1,
+    };
+    let answers = vec![in alloc;
+        Answer::Served(Served::Done),
+        Answer::Served(Served::Bytes(bytes)),
+        Answer::Denied(denial),
+        Answer::Refused(Resource::NoSpace),
+        Answer::Served(Served::Stat(4, attrs)),
+    ]?;
+    Ok(answers)
+}
+
+#[test]
+fn copied_requests_are_equal_to_their_own_alone(rt: HostRuntime) -> Result<(), Fail> {
+    let requests = requests(rt.alloc())?;
+    for (i, request) in requests.iter().enumerate() {
+        let copy = request.try_clone(rt.alloc())?;
+        for (j, other) in requests.iter().enumerate() {
+            assert_eq!(rt; copy == *other, i == j, "{i}, {j}");
+        }
+    }
+    Ok(())
+}
+
+#[test]
+fn copied_answers_are_equal_to_their_own_alone(rt: HostRuntime) -> Result<(), Fail> {
+    let answers = answers(rt.alloc())?;
+    for (i, answer) in answers.iter().enumerate() {
+        let copy = answer.try_clone(rt.alloc())?;
+        for (j, other) in answers.iter().enumerate() {
+            assert_eq!(rt; copy == *other, i == j, "{i}, {j}");
+        }
+    }
+    Ok(())
+}
+
+#[test]
+fn copied_bytes_are_served_again(rt: HostRuntime) -> Result<(), Fail> {
+    let alloc = rt.alloc();
+    let served = Served::Bytes(Bytes::from(Vec::from_slice(alloc, b"abc")?));
+    let copy = served.try_clone(alloc)?;
+    assert_eq!(rt; copy, served);
+    assert_ne!(rt;
+        copy,
+        Served::Bytes(Bytes::from(Vec::from_slice(alloc, b"abd")?))
+    );
+    Ok(())
+}
