@@ -202,3 +202,15 @@ found_in_block name bytes k n h before here =
     ap (λ m. number_in name (entries_below bytes m)) count
     ∙ ap (number_in name) (below_from bytes (k + 1) (length bytes / 512 - (k + 1)))
     ∙ found_first name n (entries_below bytes (k + 1)) _ (ap (number_in name) (below_next bytes k) ∙ number_in-append name (entries_below bytes k) _ before ∙ here)
+
+-- a name that isn't listed is in no block
+pub absent_in_block : (name : List ℕ) (bytes : List ℕ) (k : ℕ) → k < length bytes / 512 → number_in name (listed bytes) ≡ None → number_in name (entries_of (block_at bytes k)) ≡ None
+absent_in_block name bytes k h none =
+    let count : length bytes / 512 ≡ k + 1 + (length bytes / 512 - (k + 1)) = omega arith in
+    let all = ap (number_in name) (sym (ap (entries_below bytes) count ∙ below_from bytes (k + 1) (length bytes / 512 - (k + 1)))) ∙ none in
+    let front = (number_in-both name (entries_below bytes (k + 1)) _ all).0 in
+    (number_in-both name (entries_below bytes k) (entries_of (block_at bytes k)) (sym (ap (number_in name) (below_next bytes k)) ∙ front)).1
+
+-- behind the last block of a directory's bytes there is no entry
+pub none_at_end : (bytes : List ℕ) → length bytes % 512 ≡ 0 → entries_of (block_at bytes (length bytes / 512)) ≡ []
+none_at_end bytes h = entries_of-short (block_at bytes (length bytes / 512)) (simp (length-take, length-drop) (omega arith))

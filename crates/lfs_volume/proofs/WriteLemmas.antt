@@ -1,5 +1,5 @@
 -- What a Write may be answered, and what it leaves.
-use Rattle.std.proofs.Common.{◌≡◌, ◌≢◌, ℕ, ◌+◌, ◌-◌, ◌<◌, ◌≤◌, ◌==◌, Bool, true, false, cond, List, [], ◌∷◌, ◌++◌, length, take, drop, replicate, min, Option, None, Some, Result, Ok, Err, refl, sym, ap, subst, ◌∙◌, arith, length-append, length-take, length-drop}
+use Rattle.std.proofs.Common.{◌≡◌, ◌≢◌, ℕ, ◌+◌, ◌-◌, ◌<◌, ◌≤◌, ◌==◌, Bool, true, false, cond, List, [], ◌∷◌, ◌++◌, length, take, drop, replicate, min, Option, None, Some, Result, Ok, Err, inl, refl, sym, ap, subst, ◌∙◌, arith, length-append, length-take, length-drop}
 use Rattle.std.specs.Prelude.{not, nat_le, IsSome, IsSomeAnd}
 use Rattle.std.proofs.Math.ListN.{length-replicate}
 use Rattle.std.specs.Borrow.{Bor}
@@ -9,14 +9,18 @@ use Rattle.lfs_types.specs.Caller.{Caller}
 use Rattle.lfs_types.specs.Changes.{IsLength, CanApply, changed, changed_at}
 use Rattle.lfs_types.specs.Kinds.{is_directory_kind}
 use Rattle.lfs_types.specs.Splicing.{splice}
-use Rattle.lfs_types.specs.Stored.{shown_attrs}
+use Rattle.lfs_types.specs.Stored.{shown_attrs, MayRefuse}
 use Rattle.lfs_types.specs.Tree.{File, Row, World, Content, root, attrs_of, file_of}
 use Rattle.lfs_types.specs.declared.attrs.Attrs.{Attrs}
 use Rattle.lfs_types.specs.declared.attrs.Bit.TheVariants as bits
 use Rattle.lfs_types.specs.declared.attrs.Kind.{Kind}
 use Rattle.lfs_types.specs.declared.attrs.Kind.TheVariants.{File as Regular, Directory}
 use Rattle.lfs_types.specs.declared.request.Place.{Place}
+use Rattle.lfs_types.specs.declared.answer.Answer.TheVariants.{Refused}
+use Rattle.lfs_types.specs.declared.request.Request.{Request}
 use Rattle.lfs_types.specs.declared.request.Request.TheVariants.{Write}
+use Rattle.lfs_types.specs.declared.store.StoreRefusal.{StoreRefusal}
+use Rattle.lfs_types.specs.declared.store.StoreRefusal.TheVariants.{NoSpace, NoMemory}
 use Rattle.lfs_types.specs.declared.rule.Denial.{Denial}
 use Rattle.lfs_types.specs.declared.rule.Rule.TheVariants.{IsNoDirectory, GrantsWrite, FitsFile}
 use Rattle.lfs_types.specs.declared.store.Change.TheVariants.{Make, SetAttrs, Put}
@@ -28,7 +32,9 @@ use Rattle.lfs_volume.specs.Rules.{decide, reached, start_of}
 use Rattle.lfs_volume.specs.Effects.{mode_after, with_file, written, after_write}
 use Rattle.lfs_volume.specs.Content.{visible, Shows}
 use Rattle.lfs_volume.specs.Walks.{walked}
-use Rattle.lfs_volume.specs.Writes.{WritesFile, IsTarget}
+use Rattle.lfs_volume.specs.Outcomes.{IsOutcome, FillsDirectory}
+use Rattle.lfs_volume.specs.Steps.{LacksInodes, IsChanging}
+use Rattle.lfs_volume.specs.Writes.{WritesFile, IsTarget, resource_of}
 use Rattle.lfs_volume.proofs.Changed.{IsTree-changed, Shows-changed}
 use Rattle.lfs_volume.proofs.Maps.{get-insert_same, get-insert_other}
 use Rattle.lfs_volume.proofs.ReadLemmas.{regular_kind, object, passed, file_is, directory_is, grants_is}
@@ -203,3 +209,10 @@ write_shows_some c before after w shows tree caller path place [] target is same
 write_shows_some c before after w shows tree caller path place (b ∷ bs) target is same some writes =
     write_shows c after w shows tree caller path target.number target.attrs is.object is.shown is.regular place target.start b bs is.start is.fits
     (subst (λ x. WritesFile x after target.number caller target.start (b ∷ bs)) same writes)
+
+-- what a call lacks whose changes the store refused
+pub refused_outcome : (numbers clean : ℕ) (can_lack : Bool) (c : Content) (w : World) (caller : Caller) (request : Request) (refusal : StoreRefusal)
+    → MayRefuse clean can_lack refusal → decide w caller request ≡ None → (LacksInodes numbers w request → ⊥) → IsChanging request → (FillsDirectory c w request → ⊥)
+    → IsOutcome numbers clean can_lack c w caller request (Refused (resource_of refusal))
+refused_outcome numbers clean can_lack c w caller request NoSpace may allowed numbered changing roomy = ((allowed, (numbered, changing)), roomy, may)
+refused_outcome numbers clean can_lack c w caller request NoMemory may allowed numbered changing roomy = (allowed, numbered, roomy, inl may)

@@ -22,10 +22,14 @@ entries_below bytes (suc k) = entries_below bytes k ++ entries_of (block_at byte
 abbrev pub listed : List ℕ → List Entry
 listed bytes = entries_below bytes (length bytes / 512)
 
+-- each block of a directory's bytes is a directory block
+abbrev pub AreBlocks : List ℕ → Type 0
+AreBlocks bytes = (k : ℕ) → k < length bytes / 512 → IsDirectoryBlock (block_at bytes k) (entries_of (block_at bytes k))
+
 -- A directory's bytes list the rows that hang in it: each block is a directory block, no name stands twice, and
 -- a name's entry has the number of the row that hangs there under that name.
 pub record IsListing (rows : Rows) (parent : ℕ) (bytes : List ℕ) : Type 0 where
-  pub blocks : (k : ℕ) → k < length bytes / 512 → IsDirectoryBlock (block_at bytes k) (entries_of (block_at bytes k))
+  pub blocks : AreBlocks bytes
   pub distinct : AreEntries (listed bytes)
   pub names : (name : List ℕ) → number_in name (listed bytes) ≡ child rows parent name
 

@@ -1,5 +1,7 @@
 pub mod Content
 pub mod Effects
+pub mod FlatFiles
+pub mod Makes
 pub mod Outcomes
 pub mod Rules
 pub mod Steps

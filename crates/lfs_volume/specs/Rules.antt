@@ -1,5 +1,5 @@
 -- The rules that a call must pass, in order, and the first that fails.
-use Rattle.std.specs.Prelude.{ℕ, ◌+◌, nat_le, not, Bool, false, List, [], ◌∷◌, ◌++◌, length, Option, None, Some, is_some, is_none, unwrap_or, if◌then◌else◌}
+use Rattle.std.specs.Prelude.{ℕ, ◌+◌, ◌==◌, nat_le, not, Bool, false, List, [], ◌∷◌, ◌++◌, length, Option, None, Some, is_some, is_none, unwrap_or, if◌then◌else◌}
 use Rattle.std.specs.FinMap as map
 use Rattle.lfs_types.specs.Caller.{Caller}
 use Rattle.lfs_types.specs.Kinds.{is_directory_kind}
@@ -79,12 +79,11 @@ file_max = 71680
 
 -- the tests of a call that makes a row
 abbrev pub making : Rows → Caller → List (List ℕ) → List Check
-making rows caller [] = asks false NameFree 0 0 ∷ []
-making rows caller (name ∷ names) =
-    let path = name ∷ names in
+making rows caller path =
     let dir = reached rows root (front path) in
-    let k = length names in
-    walk rows caller 0 0 root (front path) ++
+    let k = length (front path) in
+    asks (not (length path == 0)) NameFree 0 0
+    ∷ walk rows caller 0 0 root (front path) ++
     (asks (is_directory_row (map.get rows dir)) IsDirectory 0 k
     ∷ asks (row_grants caller bits.Search (map.get rows dir)) GrantsSearch 0 k
     ∷ asks (is_none (child rows dir (last path))) NameFree 0 (k + 1)

@@ -2,7 +2,9 @@
 #![tactic(auto)]
 
 mod directory;
+pub mod flat_files;
 pub mod journal;
+mod making;
 mod reading;
 mod walking;
 mod writing;

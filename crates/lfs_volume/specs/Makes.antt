@@ -1,0 +1,43 @@
+-- What judging and making a new row come to, over a store.
+use Rattle.std.specs.Prelude.{◌≡◌, ◌≢◌, ℕ, ◌+◌, ◌*◌, ◌/◌, ◌<◌, ◌≤◌, true, List, [], ◌∷◌, ◌++◌, length, Option, None, Some, Result, Ok, Err}
+use Rattle.std.specs.FinMap as map
+use Rattle.lfs_types.specs.Caller.{Caller}
+use Rattle.lfs_types.specs.Kinds.{is_directory_kind}
+use Rattle.lfs_types.specs.Splicing.{splice}
+use Rattle.lfs_types.specs.Stored.{shown_attrs}
+use Rattle.lfs_types.specs.Tree.{File, World, Content, root}
+use Rattle.lfs_types.specs.declared.rule.Denial.{Denial}
+use Rattle.lfs_dirs.specs.Directory.{IsDirectoryBlock}
+use Rattle.lfs_dirs.specs.Reading.{entries_of}
+use Rattle.lfs_volume.specs.declared.making.Room.{Room}
+use Rattle.lfs_volume.specs.declared.walking.Reached.{Reached}
+use Rattle.lfs_volume.specs.World.{Rows, child}
+use Rattle.lfs_volume.specs.Rules.{first_failing, making, front, last, reached}
+use Rattle.lfs_volume.specs.Content.{block_at}
+
+-- a directory in which a new name may be put, as the store shows it
+pub record IsParent (c : Content) (rows : Rows) (caller : Caller) (path : List (List ℕ)) (dir : Reached) : Type 0 where
+  pub allowed : first_failing (making rows caller path) ≡ None
+  pub object : reached rows root (front path) ≡ dir.number
+  pub shown : Some dir.attrs ≡ shown_attrs c dir.number
+  pub directory : is_directory_kind dir.attrs.kind ≡ true
+  pub free : child rows dir.number (last path) ≡ None
+
+-- the directory in which a new name may be put, or the denial
+abbrev pub JudgesMaking : Content → Rows → Caller → List (List ℕ) → Result Reached Denial → Type 0
+JudgesMaking c rows caller path (Ok dir) = IsParent c rows caller path dir
+JudgesMaking c rows caller path (Err denial) = first_failing (making rows caller path) ≡ Some denial
+
+-- a block of a directory's bytes, or one at their end, with an entry more
+pub record IsRoom (bytes : List ℕ) (number : ℕ) (name : List ℕ) (room : Room) (k : ℕ) : Type 0 where
+  pub off : room.off ≡ 512 * k
+  pub within : k ≤ length bytes / 512
+  pub fits : k < 140
+  pub block : IsDirectoryBlock room.block (entries_of room.block)
+  pub adds : entries_of room.block ≡ entries_of (block_at bytes k) ++ (number, name) ∷ []
+
+-- the content after a file was made and a block of its directory was written; all other files stay
+pub record MakesFile (old new : Content) (number : ℕ) (file : File) (dir : ℕ) (off : ℕ) (block : List ℕ) : Type 0 where
+  pub made : map.get new number ≡ Some file
+  pub listed : (f : File) → map.get old dir ≡ Some f → map.get new dir ≡ Some (record f { bytes = splice f.bytes off block })
+  pub others : (q : ℕ) → q ≢ number → q ≢ dir → map.get new q ≡ map.get old q
