@@ -1,13 +1,12 @@
 -- The tree and the store after a new name was put into a directory.
-use Rattle.std.proofs.Common.{◌≡◌, ◌≢◌, ℕ, ◌+◌, ◌*◌, ◌/◌, ◌%◌, ◌<◌, ◌≤◌, List, [], ◌∷◌, ◌++◌, length, Option, None, Some, true, refl, sym, ap, subst, ◌∙◌, arith}
-use Rattle.std.specs.Prelude.{IsSome, IsSomeAnd}
+use Rattle.std.proofs.Common.{◌≡◌, ◌≢◌, ℕ, ◌+◌, ◌*◌, ◌%◌, ◌<◌, ◌≤◌, List, [], ◌∷◌, length, None, Some, refl, sym, ap, subst, ◌∙◌, arith}
+use Rattle.std.specs.Prelude.{IsSomeAnd}
 use Rattle.std.specs.FinMap as map
 use Rattle.lfs_types.specs.Caller.{Caller}
 use Rattle.lfs_types.specs.Changes.{IsLength}
-use Rattle.lfs_types.specs.Kinds.{is_directory_kind}
 use Rattle.lfs_types.specs.Splicing.{splice}
-use Rattle.lfs_types.specs.Stored.{shown_attrs, bytes_of, bytes_of_file, IsLeastFree}
-use Rattle.lfs_types.specs.Tree.{File, Row, World, Content, root, file_of}
+use Rattle.lfs_types.specs.Stored.{bytes_of, bytes_of_file, IsLeastFree}
+use Rattle.lfs_types.specs.Tree.{File, Row, World, Content, root}
 use Rattle.lfs_types.specs.declared.attrs.Attrs.{Attrs}
 use Rattle.lfs_types.specs.declared.attrs.Kind.TheVariants.{File as Regular, Directory}
 use Rattle.lfs_dirs.specs.Changes.{AreEntries-middle}
@@ -16,10 +15,10 @@ use Rattle.lfs_dirs.specs.Laws.{used_of-block, used_of-append}
 use Rattle.lfs_dirs.specs.Reading.{entries_of}
 use Rattle.lfs_volume.specs.declared.making.Room.{Room}
 use Rattle.lfs_volume.specs.declared.walking.Reached.{Reached}
-use Rattle.lfs_volume.specs.World.{Rows, child, children, IsTree, file_at}
+use Rattle.lfs_volume.specs.World.{children, IsTree, file_at}
 use Rattle.lfs_volume.specs.Rules.{front, last, reached}
 use Rattle.lfs_volume.specs.Effects.{new_file, with_new, least_unused}
-use Rattle.lfs_volume.specs.Content.{visible, Shows, IsListing, AreBlocks, FitsNowhere, block_at, listed}
+use Rattle.lfs_volume.specs.Content.{Shows, IsListing, AreBlocks, FitsNowhere, block_at, listed}
 use Rattle.lfs_volume.specs.Makes.{IsParent, IsRoom, MakesFile}
 use Rattle.lfs_volume.specs.Steps.{AllUsed}
 use Rattle.lfs_volume.proofs.Children.{child-new, child-new_other}
@@ -29,9 +28,9 @@ use Rattle.lfs_volume.proofs.GrownStore.{Shows-grown}
 use Rattle.lfs_volume.proofs.Listings.{IsListing-added}
 use Rattle.lfs_volume.proofs.MakeLemmas.{grown_length, least_unused-is}
 use Rattle.lfs_volume.proofs.Pieces.{put_over, splice-put_over}
-use Rattle.lfs_volume.proofs.Somewhere.{present, some_and, is_some_and, there_of}
+use Rattle.lfs_volume.proofs.Somewhere.{present, is_some_and, there_of}
 use Rattle.lfs_volume.proofs.StepLemmas.{ShownFile, shown_file, directory_kind, child_listed}
-use Rattle.lfs_volume.proofs.Visible.{Stored, shown_of, stored_of, unused_of}
+use Rattle.lfs_volume.proofs.Visible.{Stored, shown_of, unused_of}
 
 -- a directory as its parent's record shows it
 module _ (c : Content) (w : World) (shows : Shows c w) (tree : IsTree w.rows) (caller : Caller) (path : List (List ℕ)) (dir : Reached) (is : IsParent c w.rows caller path dir) where
@@ -121,22 +120,22 @@ module _ (c : Content) (w : World) (shows : Shows c w) (tree : IsTree w.rows) (c
       listing_after : IsListing (map.insert w.rows number new_row) dir.number (splice f.file.bytes room.off room.block)
       listing_after =
           let put : splice f.file.bytes room.off room.block ≡ put_over f.file.bytes (512 * k) room.block =
-            splice-put_over f.file.bytes room.off room.block (omega (arith, room_size)) room_within ∙ ap (λ n. put_over f.file.bytes n room.block) fits.off in
+          splice-put_over f.file.bytes room.off room.block (omega (arith, room_size)) room_within ∙ ap (λ n. put_over f.file.bytes n room.block) fits.off in
           subst (IsListing (map.insert w.rows number new_row) dir.number) (sym put)
-            (IsListing-added f.file.bytes k room.block room_size dir_length.1 at_file.within w.rows (map.insert w.rows number new_row) dir.number number (last path)
-              (shows.listings dir.number f.file f.stored dir_kind) at_file.block at_file.adds entry_is is.free
-              (child-new w.rows number new_row absent below is.free tree.unique)
-              (λ q other. child-new_other w.rows number new_row absent below is.free tree.unique dir.number q (λ _ same. other (sym same))))
+          (IsListing-added f.file.bytes k room.block room_size dir_length.1 at_file.within w.rows (map.insert w.rows number new_row) dir.number number (last path)
+          (shows.listings dir.number f.file f.stored dir_kind) at_file.block at_file.adds entry_is is.free
+          (child-new w.rows number new_row absent below is.free tree.unique)
+          (λ q other. child-new_other w.rows number new_row absent below is.free tree.unique dir.number q (λ _ same. other (sym same))))
 
       pub shows_after : (before after : Content) → before ≡ c → (file : File) → file ≡ new_file caller Regular dir.attrs.gid mode → MakesFile before after number file dir.number room.off room.block
           → Shows after (with_new numbers w caller path Regular mode)
       shows_after before after same file new makes =
           let m = subst (λ x. MakesFile x after number file dir.number room.off room.block) same makes in
           subst (Shows after) (sym world_is)
-            (Shows-grown c after w shows tree number new_row f.file (splice f.file.bytes room.off room.block) absent below is.free f.stored dir_kind unlike refl
-              (m.made ∙ ap Some new) (m.listed f.file f.stored) m.others
-              (grown_length Directory f.file.bytes room.off room.block refl dir_length.1 room_within room_aligned room_fits room_size dir_length.0)
-              listing_after)
+          (Shows-grown c after w shows tree number new_row f.file (splice f.file.bytes room.off room.block) absent below is.free f.stored dir_kind unlike refl
+          (m.made ∙ ap Some new) (m.listed f.file f.stored) m.others
+          (grown_length Directory f.file.bytes room.off room.block refl dir_length.1 room_within room_aligned room_fits room_size dir_length.0)
+          listing_after)
 
 -- ---- what the outcomes say
 
@@ -161,7 +160,7 @@ module _ (c : Content) (w : World) (shows : Shows c w) (tree : IsTree w.rows) (c
       let over = full.full k fits.fits in
       let used = used_of-block room.block (entries_of room.block) fits.block in
       let sum : used_of (entries_of room.block) ≡ used_of (entries_of (block_at (bytes_of c dir.number) k)) + used_of ((number, last path) ∷ []) =
-        ap used_of fits.adds ∙ used_of-append (entries_of (block_at (bytes_of c dir.number) k)) ((number, last path) ∷ []) in
+      ap used_of fits.adds ∙ used_of-append (entries_of (block_at (bytes_of c dir.number) k)) ((number, last path) ∷ []) in
       absurd (omega arith)
 
   -- the directory is ready for a block to be written

@@ -1,5 +1,5 @@
 -- What a walk's end says of the first failing test of a call.
-use Rattle.std.proofs.Common.{◌≡◌, ℕ, ◌+◌, Bool, true, false, cond, List, [], ◌∷◌, ◌++◌, length, Option, None, Some, Result, Ok, Err, refl, sym, ap, subst, ◌∙◌, append-nil}
+use Rattle.std.proofs.Common.{◌≡◌, ℕ, ◌+◌, Bool, true, false, cond, List, [], ◌∷◌, ◌++◌, Option, None, Some, Result, Ok, Err, refl, sym, ap, subst, ◌∙◌}
 use Rattle.std.specs.Prelude.{is_some, unwrap_or, IsSome}
 use Rattle.std.specs.FinMap as map
 use Rattle.lfs_types.specs.Caller.{Caller}
@@ -9,7 +9,7 @@ use Rattle.lfs_types.specs.declared.rule.Denial.{Denial}
 use Rattle.lfs_volume.specs.World.{Rows, child}
 use Rattle.lfs_volume.specs.Rules.{Check, first_failing, is_directory_row, row_grants, next, reached, walk}
 use Rattle.lfs_volume.specs.Content.{Shows}
-use Rattle.lfs_volume.specs.Walks.{stepped, found, and_then, walked}
+use Rattle.lfs_volume.specs.Walks.{found, and_then, walked}
 use Rattle.lfs_volume.proofs.StepLemmas.{child-stored}
 
 -- the first failing test, where a walk comes before others

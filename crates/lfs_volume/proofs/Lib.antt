@@ -13,6 +13,7 @@ pub mod MakeLemmas
 pub mod Maps
 pub mod Pieces
 pub mod ReadLemmas
+pub mod RunLemmas
 pub mod Somewhere
 pub mod StepLemmas
 pub mod Visible

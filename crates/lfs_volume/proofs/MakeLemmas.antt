@@ -1,25 +1,25 @@
 -- What a call that makes a row may be answered, and what it leaves.
-use Rattle.std.proofs.Common.{◌≡◌, ◌≢◌, ℕ, zero, suc, ◌+◌, ◌-◌, ◌*◌, ◌/◌, ◌%◌, ◌<◌, ◌≤◌, ◌==◌, Bool, true, false, cond, List, [], ◌∷◌, ◌++◌, length, Option, None, Some, Result, Ok, Err, refl, sym, ap, subst, ◌∙◌, ⊎_elim, arith}
-use Rattle.std.specs.Prelude.{not, is_some, is_none, IsSome, IsSomeAnd}
+use Rattle.std.proofs.Common.{◌≡◌, ◌≢◌, ℕ, zero, suc, ◌+◌, ◌-◌, ◌%◌, ◌<◌, ◌≤◌, ◌==◌, true, false, List, [], ◌∷◌, ◌++◌, length, Option, None, Some, Ok, Err, refl, sym, ap, subst, ◌∙◌, ⊎_elim, arith}
+use Rattle.std.specs.Prelude.{not, is_some, is_none, IsSome}
 use Rattle.std.specs.Borrow.{Bor}
 use Rattle.std.proofs.lemmas.Bool.{cond-true, cond-false, ne_eqb, cases_Bool}
 use Rattle.std.specs.FinMap as map
 use Rattle.lfs_types.specs.Caller.{Caller}
-use Rattle.lfs_types.specs.Changes.{IsLength, CanApply, changed, changed_at}
+use Rattle.lfs_types.specs.Changes.{IsLength, CanApply, changed_at}
 use Rattle.lfs_types.specs.Kinds.{is_directory_kind}
 use Rattle.lfs_types.specs.Splicing.{splice}
 use Rattle.lfs_types.specs.Stored.{shown_attrs, bytes_of, IsUsedBelow}
-use Rattle.lfs_types.specs.Tree.{File, Row, World, Content, root, file_of}
+use Rattle.lfs_types.specs.Tree.{File, World, Content, root, file_of}
 use Rattle.lfs_types.specs.declared.attrs.Attrs.{Attrs}
 use Rattle.lfs_types.specs.declared.attrs.Bit.TheVariants as bits
 use Rattle.lfs_types.specs.declared.attrs.Kind.{Kind}
-use Rattle.lfs_types.specs.declared.attrs.Kind.TheVariants.{File as Regular, Directory}
+use Rattle.lfs_types.specs.declared.attrs.Kind.TheVariants.{Directory}
 use Rattle.lfs_types.specs.declared.rule.Denial.{Denial}
 use Rattle.lfs_types.specs.declared.rule.Rule.TheVariants.{IsDirectory, GrantsSearch, NameFree, GrantsWrite}
 use Rattle.lfs_types.specs.declared.store.Change.TheVariants.{Make, Put}
 use Rattle.lfs_dirs.specs.Directory.{number_in}
 use Rattle.lfs_rules.specs.Grants.{grants_of}
-use Rattle.lfs_volume.specs.World.{Rows, child, IsTree}
+use Rattle.lfs_volume.specs.World.{Rows, child}
 use Rattle.lfs_volume.specs.Rules.{Check, asks, first_failing, is_directory_row, row_grants, reached, walk, making, front, last}
 use Rattle.lfs_volume.specs.Effects.{least_unused}
 use Rattle.lfs_volume.specs.Content.{Shows, listed}
@@ -31,9 +31,9 @@ use Rattle.lfs_volume.proofs.Children.{same_or_not}
 use Rattle.lfs_volume.proofs.Maps.{get-insert_same, get-insert_other}
 use Rattle.lfs_volume.proofs.Pieces.{splice-put_over, length-put_over}
 use Rattle.lfs_volume.proofs.ReadLemmas.{object, passed, directory_is, grants_is}
-use Rattle.lfs_volume.proofs.Somewhere.{present, some_and, is_some_and, there_of}
+use Rattle.lfs_volume.proofs.Somewhere.{present, is_some_and, there_of}
 use Rattle.lfs_volume.proofs.StepLemmas.{child_listed}
-use Rattle.lfs_volume.proofs.Visible.{stored_of, shown_of, unused_of}
+use Rattle.lfs_volume.proofs.Visible.{shown_of}
 
 -- ---- the last name of a path
 
@@ -50,7 +50,7 @@ last-last (y ∷ z ∷ zs) x = last-last (z ∷ zs) x
 -- the tests behind the first, by the names before the last and the last
 abbrev in_parent : Rows → Caller → List (List ℕ) → List ℕ → List Check
 in_parent rows caller parents name =
-    ( asks (is_directory_row (map.get rows (reached rows root parents))) IsDirectory 0 (length parents)
+    (asks (is_directory_row (map.get rows (reached rows root parents))) IsDirectory 0 (length parents)
     ∷ asks (row_grants caller bits.Search (map.get rows (reached rows root parents))) GrantsSearch 0 (length parents)
     ∷ asks (is_none (child rows (reached rows root parents) name)) NameFree 0 (length parents + 1)
     ∷ asks (row_grants caller bits.Write (map.get rows (reached rows root parents))) GrantsWrite 0 (length parents)
@@ -148,8 +148,8 @@ module _ (c : Content) (number : ℕ) (attrs : Attrs) (dir off : ℕ) (block : L
   makes_file new is = record {
     made = ap (λ x. map.get x number) (is ∙ after) ∙ get-insert_other made dir put_dir number (λ same. apart (sym same)) ∙ get-insert_same c number made_file;
     listed = λ g e.
-      let same : f ≡ g = cc in
-      subst (λ (x : File). map.get new dir ≡ Some (record x { bytes = splice x.bytes off block })) same (ap (λ x. map.get x dir) (is ∙ after) ∙ get-insert_same made dir put_dir);
+        let same : f ≡ g = cc in
+        subst (λ (x : File). map.get new dir ≡ Some (record x { bytes = splice x.bytes off block })) same (ap (λ x. map.get x dir) (is ∙ after) ∙ get-insert_same made dir put_dir);
     others = λ q a b. ap (λ x. map.get x q) (is ∙ after) ∙ get-insert_other made dir put_dir q b ∙ get-insert_other c number made_file q a;
   }
 
@@ -171,16 +171,17 @@ least_unused-is rows (suc count) n m low high free used = ⊎_elim
     (λ t. cond-true _ _ _ t ∙ least_unused-is rows count (n + 1) m (above t) (omega arith) free (λ k h. used k (omega arith)))
     (λ t. cond-false _ _ _ t ∙ at_end t)
     (cases_Bool (is_some (map.get rows n))) where
-  above : is_some (map.get rows n) ≡ true → n + 1 ≤ m
-  above t = ⊎_elim
-      (λ e. let none : is_some (map.get rows n) ≡ false = ap (λ k. is_some (map.get rows k)) e ∙ ap is_some free in absurd (cc))
-      (λ (apart : n ≢ m). omega arith)
-      (same_or_not n m)
-  at_end : is_some (map.get rows n) ≡ false → n ≡ m
-  at_end t = ⊎_elim
-      (λ e. e)
-      (λ (apart : n ≢ m). let some : is_some (map.get rows n) ≡ true = used n (omega arith) (omega arith) in absurd (cc))
-      (same_or_not n m)
+      above : is_some (map.get rows n) ≡ true → n + 1 ≤ m
+      above t = ⊎_elim
+          (λ e. let none : is_some (map.get rows n) ≡ false = ap (λ k. is_some (map.get rows k)) e ∙ ap is_some free in absurd (cc))
+          (λ (apart : n ≢ m). omega arith)
+          (same_or_not n m)
+
+      at_end : is_some (map.get rows n) ≡ false → n ≡ m
+      at_end t = ⊎_elim
+          (λ e. e)
+          (λ (apart : n ≢ m). let some : is_some (map.get rows n) ≡ true = used n (omega arith) (omega arith) in absurd (cc))
+          (same_or_not n m)
 
 -- where the store has no number left, the tree has none
 pub all_used : (c : Content) (w : World) → Shows c w → (numbers : ℕ) → IsUsedBelow c numbers → AllUsed numbers w.rows
@@ -193,5 +194,5 @@ pub grown_length : (k : Kind) (bytes : List ℕ) (off : ℕ) (block : List ℕ) 
     → IsLength k (length (splice bytes off block))
 grown_length k bytes off block kind whole within aligned fits size bounded =
     let is : length (splice bytes off block) ≡ off + length block + (length bytes - (off + length block)) =
-      ap (λ (bs : List ℕ). length bs) (splice-put_over bytes off block (omega arith) within) ∙ length-put_over bytes off block within in
+    ap (λ (bs : List ℕ). length bs) (splice-put_over bytes off block (omega arith) within) ∙ length-put_over bytes off block within in
     subst (λ x. IsLength x (length (splice bytes off block))) (sym kind) (omega arith, omega arith)

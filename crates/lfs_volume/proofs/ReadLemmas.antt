@@ -1,12 +1,12 @@
 -- What the calls that change nothing may be answered.
-use Rattle.std.proofs.Common.{◌≡◌, ℕ, ◌+◌, Bool, true, false, cond, List, [], ◌∷◌, ◌++◌, length, min, Option, None, Some, Result, Ok, Err, refl, sym, ap, subst, ◌∙◌, append-nil}
-use Rattle.std.specs.Prelude.{not, IsSome}
+use Rattle.std.proofs.Common.{◌≡◌, ℕ, true, false, List, [], ◌++◌, length, min, None, Some, Ok, Err, refl, sym, ap, ◌∙◌, append-nil}
+use Rattle.std.specs.Prelude.{not}
 use Rattle.std.proofs.lemmas.Bool.{cond-true, cond-false}
 use Rattle.std.specs.FinMap as map
 use Rattle.lfs_types.specs.Caller.{Caller}
 use Rattle.lfs_types.specs.Kinds.{is_directory_kind}
 use Rattle.lfs_types.specs.Stored.{shown_attrs, bytes_of, bytes_of_file, slice_of}
-use Rattle.lfs_types.specs.Tree.{File, Row, World, Content, root, attrs_of}
+use Rattle.lfs_types.specs.Tree.{File, World, Content, root, attrs_of}
 use Rattle.lfs_types.specs.declared.answer.Served.TheVariants as served
 use Rattle.lfs_types.specs.declared.attrs.Attrs.{Attrs}
 use Rattle.lfs_types.specs.declared.attrs.Bit.TheVariants as bits
@@ -16,15 +16,13 @@ use Rattle.lfs_types.specs.declared.request.Request.TheVariants.{Stat, Read}
 use Rattle.lfs_types.specs.declared.rule.Denial.{Denial}
 use Rattle.lfs_types.specs.declared.rule.Rule.TheVariants.{IsNoDirectory, GrantsRead}
 use Rattle.lfs_rules.specs.Grants.{grants_of}
-use Rattle.lfs_volume.specs.declared.walking.Reached.{Reached}
-use Rattle.lfs_volume.specs.World.{Rows, IsTree, file_at}
-use Rattle.lfs_volume.specs.Rules.{Check, asks, first_failing, is_directory_row, row_grants, reached, walk, decide}
+use Rattle.lfs_volume.specs.World.{file_at}
+use Rattle.lfs_volume.specs.Rules.{Check, first_failing, is_directory_row, row_grants, reached, walk, decide}
 use Rattle.lfs_volume.specs.Effects.{answer_of, read_max}
 use Rattle.lfs_volume.specs.Content.{visible, visible_bytes, Shows}
-use Rattle.lfs_volume.specs.Walks.{walked, Reaches}
-use Rattle.lfs_volume.proofs.Deciding.{walk_denied, walk_passed, walked-reached, walked-stored}
-use Rattle.lfs_volume.proofs.Somewhere.{present}
-use Rattle.lfs_volume.proofs.StepLemmas.{ShownFile, shown_file, directory_reads, grants_reads, directory_kind}
+use Rattle.lfs_volume.specs.Walks.{walked}
+use Rattle.lfs_volume.proofs.Deciding.{walk_denied, walk_passed, walked-reached}
+use Rattle.lfs_volume.proofs.StepLemmas.{shown_file, directory_reads, grants_reads}
 use Rattle.lfs_volume.proofs.Visible.{Stored, shown_of, visible-regular}
 
 pub regular_kind : (k : Kind) → is_directory_kind k ≡ false → k ≡ Regular

@@ -1,6 +1,6 @@
 -- What a Write may be answered, and what it leaves.
-use Rattle.std.proofs.Common.{◌≡◌, ◌≢◌, ℕ, ◌+◌, ◌-◌, ◌<◌, ◌≤◌, ◌==◌, Bool, true, false, cond, List, [], ◌∷◌, ◌++◌, length, take, drop, replicate, min, Option, None, Some, Result, Ok, Err, inl, refl, sym, ap, subst, ◌∙◌, arith, length-append, length-take, length-drop}
-use Rattle.std.specs.Prelude.{not, nat_le, IsSome, IsSomeAnd}
+use Rattle.std.proofs.Common.{◌≡◌, ℕ, ◌+◌, ◌<◌, ◌≤◌, ◌==◌, Bool, true, false, List, [], ◌∷◌, length, None, Some, Ok, inl, refl, sym, ap, subst, ◌∙◌, arith, length-append, length-take, length-drop}
+use Rattle.std.specs.Prelude.{not, nat_le}
 use Rattle.std.proofs.Math.ListN.{length-replicate}
 use Rattle.std.specs.Borrow.{Bor}
 use Rattle.std.proofs.lemmas.Bool.{cond-true, cond-false}
@@ -10,24 +10,23 @@ use Rattle.lfs_types.specs.Changes.{IsLength, CanApply, changed, changed_at}
 use Rattle.lfs_types.specs.Kinds.{is_directory_kind}
 use Rattle.lfs_types.specs.Splicing.{splice}
 use Rattle.lfs_types.specs.Stored.{shown_attrs, MayRefuse}
-use Rattle.lfs_types.specs.Tree.{File, Row, World, Content, root, attrs_of, file_of}
+use Rattle.lfs_types.specs.Tree.{File, World, Content, root, attrs_of, file_of}
 use Rattle.lfs_types.specs.declared.attrs.Attrs.{Attrs}
 use Rattle.lfs_types.specs.declared.attrs.Bit.TheVariants as bits
 use Rattle.lfs_types.specs.declared.attrs.Kind.{Kind}
-use Rattle.lfs_types.specs.declared.attrs.Kind.TheVariants.{File as Regular, Directory}
+use Rattle.lfs_types.specs.declared.attrs.Kind.TheVariants.{File as Regular}
 use Rattle.lfs_types.specs.declared.request.Place.{Place}
 use Rattle.lfs_types.specs.declared.answer.Answer.TheVariants.{Refused}
 use Rattle.lfs_types.specs.declared.request.Request.{Request}
 use Rattle.lfs_types.specs.declared.request.Request.TheVariants.{Write}
 use Rattle.lfs_types.specs.declared.store.StoreRefusal.{StoreRefusal}
 use Rattle.lfs_types.specs.declared.store.StoreRefusal.TheVariants.{NoSpace, NoMemory}
-use Rattle.lfs_types.specs.declared.rule.Denial.{Denial}
 use Rattle.lfs_types.specs.declared.rule.Rule.TheVariants.{IsNoDirectory, GrantsWrite, FitsFile}
-use Rattle.lfs_types.specs.declared.store.Change.TheVariants.{Make, SetAttrs, Put}
+use Rattle.lfs_types.specs.declared.store.Change.TheVariants.{SetAttrs, Put}
 use Rattle.lfs_rules.specs.Grants.{grants_of}
 use Rattle.lfs_rules.specs.SetId.{set_id_cleared}
 use Rattle.lfs_volume.specs.declared.writing.Target.{Target}
-use Rattle.lfs_volume.specs.World.{Rows, IsTree, file_at}
+use Rattle.lfs_volume.specs.World.{IsTree, file_at}
 use Rattle.lfs_volume.specs.Rules.{decide, reached, start_of}
 use Rattle.lfs_volume.specs.Effects.{mode_after, with_file, written, after_write}
 use Rattle.lfs_volume.specs.Content.{visible, Shows}
@@ -37,7 +36,7 @@ use Rattle.lfs_volume.specs.Steps.{LacksInodes, IsChanging}
 use Rattle.lfs_volume.specs.Writes.{WritesFile, IsTarget, resource_of}
 use Rattle.lfs_volume.proofs.Changed.{IsTree-changed, Shows-changed}
 use Rattle.lfs_volume.proofs.Maps.{get-insert_same, get-insert_other}
-use Rattle.lfs_volume.proofs.ReadLemmas.{regular_kind, object, passed, file_is, directory_is, grants_is}
+use Rattle.lfs_volume.proofs.ReadLemmas.{regular_kind, passed, file_is, directory_is, grants_is}
 use Rattle.lfs_volume.proofs.Somewhere.{is_some_and}
 use Rattle.lfs_volume.proofs.StepLemmas.{ShownFile, shown_file}
 use Rattle.lfs_volume.proofs.Visible.{shown_of, visible-regular}
@@ -202,6 +201,12 @@ module _ (c after : Content) (w : World) (shows : Shows c w) (tree : IsTree w.ro
       (regular_length f.file.kind _ kind_is (length-splice f.file.bytes start 71680 (b ∷ bs) size_fits fits))
       (λ h. let k = kind_is in absurd (cc)) (writes.written f.file f.stored) writes.others)
 
+  pub write_tree : IsTree (after_write w caller path place (b ∷ bs)).rows
+  write_tree =
+      let r = shown_of c w shows n f.file f.stored in
+      subst (λ (x : World). IsTree x.rows) (sym world_after)
+      (IsTree-changed w.rows tree n r.row r.there (visible new_file) (ap (λ (x : File). x.kind) r.same) (λ h. let k = kind_is in absurd (cc)))
+
 -- the world after some bytes were put
 pub write_shows_some : (c before after : Content) (w : World) → Shows c w → IsTree w.rows → (caller : Caller) (path : List (List ℕ)) (place : Place) (bytes : List ℕ) (target : Target)
     → IsTarget c w caller path place bytes target → before ≡ c → 0 < length bytes → WritesFile before after target.number caller target.start bytes → Shows after (after_write w caller path place bytes)
@@ -216,3 +221,10 @@ pub refused_outcome : (numbers clean : ℕ) (can_lack : Bool) (c : Content) (w :
     → IsOutcome numbers clean can_lack c w caller request (Refused (resource_of refusal))
 refused_outcome numbers clean can_lack c w caller request NoSpace may allowed numbered changing roomy = ((allowed, (numbered, changing)), roomy, may)
 refused_outcome numbers clean can_lack c w caller request NoMemory may allowed numbered changing roomy = (allowed, numbered, roomy, inl may)
+
+pub write_tree_some : (c : Content) (w : World) → Shows c w → IsTree w.rows → (caller : Caller) (path : List (List ℕ)) (place : Place) (bytes : List ℕ) (target : Target)
+    → IsTarget c w caller path place bytes target → (before after : Content) → before ≡ c → 0 < length bytes → WritesFile before after target.number caller target.start bytes → IsTree (after_write w caller path place bytes).rows
+write_tree_some c w shows tree caller path place [] target is before after same some writes = absurd (omega arith)
+write_tree_some c w shows tree caller path place (b ∷ bs) target is before after same some writes =
+    write_tree c after w shows tree caller path target.number target.attrs is.object is.shown is.regular place target.start b bs is.start is.fits
+    (subst (λ x. WritesFile x after target.number caller target.start (b ∷ bs)) same writes)

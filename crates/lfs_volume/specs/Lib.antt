@@ -1,9 +1,12 @@
 pub mod Content
+pub mod Copies
 pub mod Effects
 pub mod FlatFiles
 pub mod Makes
 pub mod Outcomes
 pub mod Rules
+pub mod Runs
+pub mod Seen
 pub mod Steps
 pub mod Walks
 pub mod World

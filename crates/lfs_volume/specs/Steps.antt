@@ -1,8 +1,9 @@
 -- The steps of a volume, and the lists of entries that are runs of it.
-use Rattle.std.specs.Prelude.{◌≡◌, ℕ, ◌<◌, ◌≤◌, List, [], ◌∷◌, length, None, Some, IsSome}
+use Rattle.std.specs.Prelude.{◌≡◌, ℕ, ◌<◌, ◌≤◌, List, [], ◌∷◌, length, None, Some, IsSome, Contains}
 use Rattle.std.specs.FinMap as map
 use Rattle.lfs_types.specs.Caller.{Caller}
-use Rattle.lfs_types.specs.Tree.{World, root}
+use Rattle.lfs_types.specs.Tree.{World, Content, root, opening_world}
+use Rattle.lfs_types.specs.declared.level.Level.{Level}
 use Rattle.lfs_types.specs.declared.answer.Answer.{Answer}
 use Rattle.lfs_types.specs.declared.answer.Answer.TheVariants.{Served, Denied, Refused}
 use Rattle.lfs_types.specs.declared.answer.Resource.{Resource}
@@ -12,7 +13,8 @@ use Rattle.lfs_types.specs.declared.request.Request.TheVariants.{Stat, Read, Wri
 use Rattle.lfs_volume.specs.declared.journal.Entry.{Entry}
 use Rattle.lfs_volume.specs.declared.journal.Event.{Event}
 use Rattle.lfs_volume.specs.declared.journal.Event.TheVariants.{User}
-use Rattle.lfs_volume.specs.World.{Rows, children}
+use Rattle.lfs_volume.specs.World.{Rows, children, IsTree}
+use Rattle.lfs_volume.specs.Content.{Shows}
 use Rattle.lfs_volume.specs.Rules.{decide, front, reached}
 use Rattle.lfs_volume.specs.Effects.{effect, answer_of}
 
@@ -82,3 +84,22 @@ world_after numbers (entry ∷ entries) w = world_after numbers entries (after_e
 abbrev pub IsLegal : ℕ → List Entry → World → Type 0
 IsLegal numbers [] w = Unit {0}
 IsLegal numbers (entry ∷ entries) w = IsEvent numbers w entry.cred entry.event × IsLegal numbers entries (after_event numbers w entry.cred entry.event)
+
+-- the world that a journal leads to from that of a fresh volume
+abbrev pub world_of : ℕ → List Entry → World
+world_of numbers entries = world_after numbers entries opening_world
+
+-- an event is a call refused for want of space
+abbrev pub IsNoSpace : Event → Type 0
+IsNoSpace (User request answer) = answer ≡ Refused NoSpace
+
+-- A journal of a volume with this content, so many inode numbers and clean segments, and this level: it is a legal run
+-- from the world of a fresh volume to the one that content and level show, which is a tree; it is no longer than its
+-- limit; and a call refused for want of space stands in it only where at most two segments are clean.
+pub record IsJournal (c : Content) (numbers clean : ℕ) (level : Level) (entries : List Entry) (limit : ℕ) : Type 0 where
+  pub legal : IsLegal numbers entries opening_world
+  pub shows : Shows c (world_of numbers entries)
+  pub tree : IsTree (world_of numbers entries).rows
+  pub at_level : (world_of numbers entries).level ≡ level
+  pub within : length entries ≤ limit
+  pub space : (entry : Entry) → Contains entries entry → IsNoSpace entry.event → clean ≤ 2

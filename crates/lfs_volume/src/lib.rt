@@ -6,5 +6,6 @@ pub mod flat_files;
 pub mod journal;
 mod making;
 mod reading;
+pub mod volume;
 mod walking;
 mod writing;

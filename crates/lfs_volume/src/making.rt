@@ -10,7 +10,9 @@ ghost use Rattle.lfs_dirs.specs.Reading.{entries_of};
 ghost use Rattle.lfs_volume.specs.World.{IsTree};
 ghost use Rattle.lfs_volume.specs.Content.{Shows, listed, FitsNowhere, AreBlocks};
 ghost use Rattle.lfs_volume.specs.Makes.{JudgesMaking, IsRoom, MakesFile};
+ghost use Rattle.lfs_volume.specs.Copies.{HasBytes};
 ghost use Rattle.lfs_volume.specs.Outcomes.{IsOutcome};
+ghost use Rattle.lfs_volume.specs.Runs.{IsUnserved};
 ghost use Rattle.lfs_volume.specs.Steps.{after_answer};
 
 use crate::directory::{look_up, read_block};
@@ -177,6 +179,9 @@ pub(crate) fn create<F: FileStore>(store: &mut F, cred: &Cred, path: &Path, mode
     requires tree { (w : World) × (Shows (F.content store.old) w × IsTree w.rows) }
     ensures outcome { (w : World) → Shows (F.content store.old) w → IsTree w.rows → IsOutcome (F.numbers store.old) (F.clean store.old) F.can_lack_memory (F.content store.old) w cred.now (Request.Create path.now mode) result }
     ensures shows { (w : World) → Shows (F.content store.old) w → IsTree w.rows → Shows (F.content store.new) (after_answer (F.numbers store.old) w cred.now (Request.Create path.now mode) result) }
+    ensures tree_after { (w : World) → Shows (F.content store.old) w → IsTree w.rows → IsTree (after_answer (F.numbers store.old) w cred.now (Request.Create path.now mode) result).rows }
+    ensures same { IsUnserved result → F.content store.new ≡ F.content store.old }
+    ensures no_bytes { HasBytes result → ⊥ }
     ensures clean { F.clean store.new ≤ F.clean store.old }
     ensures numbers { F.numbers store.new ≡ F.numbers store.old }
     ensures segments { F.segments store.new ≡ F.segments store.old }

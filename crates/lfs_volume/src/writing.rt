@@ -8,7 +8,9 @@ ghost use Rattle.lfs_types.specs.Tree.{World};
 ghost use Rattle.lfs_volume.specs.World.{IsTree};
 ghost use Rattle.lfs_volume.specs.Rules.{start_of};
 ghost use Rattle.lfs_volume.specs.Content.{Shows};
+ghost use Rattle.lfs_volume.specs.Copies.{HasBytes};
 ghost use Rattle.lfs_volume.specs.Outcomes.{IsOutcome};
+ghost use Rattle.lfs_volume.specs.Runs.{IsUnserved};
 ghost use Rattle.lfs_volume.specs.Steps.{after_answer};
 ghost use Rattle.lfs_volume.specs.Writes.{JudgesWrite, WritesFile, resource_of};
 
@@ -48,6 +50,9 @@ pub(crate) fn write<F: FileStore>(
     requires tree { (w : World) × (Shows (F.content store.old) w × IsTree w.rows) }
     ensures outcome { (w : World) → Shows (F.content store.old) w → IsTree w.rows → IsOutcome (F.numbers store.old) (F.clean store.old) F.can_lack_memory (F.content store.old) w cred.now (Request.Write path.now place bytes.now) result }
     ensures shows { (w : World) → Shows (F.content store.old) w → IsTree w.rows → Shows (F.content store.new) (after_answer (F.numbers store.old) w cred.now (Request.Write path.now place bytes.now) result) }
+    ensures tree_after { (w : World) → Shows (F.content store.old) w → IsTree w.rows → IsTree (after_answer (F.numbers store.old) w cred.now (Request.Write path.now place bytes.now) result).rows }
+    ensures same { IsUnserved result → F.content store.new ≡ F.content store.old }
+    ensures no_bytes { HasBytes result → ⊥ }
     ensures clean { F.clean store.new ≤ F.clean store.old }
     ensures numbers { F.numbers store.new ≡ F.numbers store.old }
     ensures segments { F.segments store.new ≡ F.segments store.old }

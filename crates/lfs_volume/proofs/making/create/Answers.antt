@@ -1,10 +1,10 @@
-use Rattle.std.proofs.Common.{◌≡◌, ◌<◌, ◌≤◌, ◌%◌, ℕ, List, [], ◌∷◌, ◌++◌, length, Option, None, Some, Ok, Err, refl, sym, ap, subst, ◌∙◌, arith}
+use Rattle.std.proofs.Common.{◌≡◌, ◌≤◌, ◌%◌, ℕ, List, [], length, Some, Ok, refl, sym, ap, subst, ◌∙◌}
 use Rattle.std.specs.Prelude.{IsSomeAnd}
 use Rattle.std.specs.FinMap.{get}
 use Rattle.lfs_types.specs.Stored.{bytes_of, IsLeastFree, MayRefuse}
 use Rattle.lfs_types.specs.declared.answer.Answer.TheVariants.{Refused}
 use Rattle.lfs_types.specs.declared.request.Request.TheVariants.{Create}
-use Rattle.lfs_types.specs.Tree.{World, File, Content}
+use Rattle.lfs_types.specs.Tree.{World, Content}
 use Rattle.lfs_types.specs.declared.attrs.Kind.TheVariants.{File as Regular, Directory}
 use Rattle.lfs_dirs.specs.Directory.{number_in}
 use Rattle.lfs_volume.specs.World.{IsTree}
@@ -13,7 +13,7 @@ use Rattle.lfs_volume.specs.Content.{Shows, AreBlocks, FitsNowhere, listed}
 use Rattle.lfs_volume.specs.Outcomes.{IsOutcome}
 use Rattle.lfs_volume.specs.declared.making.Room.{Room}
 use Rattle.lfs_volume.specs.Makes.{JudgesMaking, IsParent, IsRoom}
-use Rattle.lfs_volume.proofs.CreateLemmas.{dir_whole, dir_bounded, dir_blocks, dir_free, room_ready, crowded_in, not_all_used, roomy, shows_after}
+use Rattle.lfs_volume.proofs.CreateLemmas.{dir_whole, dir_bounded, dir_blocks, dir_free, room_ready, crowded_in, not_all_used, roomy, shows_after, tree_after}
 use Rattle.lfs_volume.proofs.MakeLemmas.{last-last}
 use Rattle.lfs_volume.proofs.WriteLemmas.{refused_outcome}
 use Rattle.lfs_volume.proofs.making.create.Goals as goal
@@ -51,7 +51,7 @@ find_room-requires-clause-blocks g c =
     let k = (goal.at.find_room-requires-clause-blocks g c).In-Some-least_free in
     let t = c.requires.tree in
     subst (λ x. AreBlocks (bytes_of x c.in-Ok.dir.number)) (sym c.judge_make.ensures.content)
-      (dir_blocks (before g k) t.0 t.1.0 t.1.1 c.args.cred.now c.args.path.now c.in-Ok.dir (parent g k t.0 t.1.0 t.1.1))
+    (dir_blocks (before g k) t.0 t.1.0 t.1.1 c.args.cred.now c.args.path.now c.in-Ok.dir (parent g k t.0 t.1.0 t.1.1))
 
 pub find_room-requires-clause-free : goal.find_room-requires-clause-free
 find_room-requires-clause-free g c =
@@ -69,16 +69,17 @@ room_is : (g : _) (c : In-Some-least_free g) (dir number : ℕ) (room : Room) (n
     → IsRoom (bytes_of (before g c) dir) number (last c.args.path.now) room n
 room_is g c dir number room n h =
     subst (λ x. IsRoom (bytes_of x dir) number (last c.args.path.now) room n) c.judge_make.ensures.content
-      (subst (λ name. IsRoom (bytes_of (g.F.FileStore.content c.judge_make.new.store) dir) number name room n) (name_is g c) h)
+    (subst (λ name. IsRoom (bytes_of (g.F.FileStore.content c.judge_make.new.store) dir) number name room n) (name_is g c) h)
 
 pub returns-in_default-find_room-clause-outcome : goal.returns-in_default-find_room-clause-outcome
 returns-in_default-find_room-clause-outcome g c w shows tree =
     let k = (goal.at.returns-in_default-find_room-clause-outcome g c).In-Some-least_free in
     let is = parent g k w shows tree in
     let full = subst (λ x. FitsNowhere (bytes_of x c.in-Ok.dir.number) (last c.args.path.now)) c.judge_make.ensures.content
-      (subst (λ name. FitsNowhere (bytes_of (g.F.FileStore.content c.judge_make.new.store) c.in-Ok.dir.number) name) (name_is g k) c.in_default-find_room.ensures.room) in
-    ((is.allowed, (not_all_used (before g k) w shows tree c.args.cred.now c.args.path.now c.in-Ok.dir is (g.F.FileStore.numbers c.args.store.now) c.in-Some-least_free.number (least g k), crowded_in (before g k) w shows tree c.args.cred.now c.args.path.now c.in-Ok.dir is full (short g k))),
-     subst (λ p. FitsNowhere (bytes_of (before g k) p) (last c.args.path.now)) (sym is.object) full)
+    (subst (λ name. FitsNowhere (bytes_of (g.F.FileStore.content c.judge_make.new.store) c.in-Ok.dir.number) name) (name_is g k) c.in_default-find_room.ensures.room) in (
+      (is.allowed, (not_all_used (before g k) w shows tree c.args.cred.now c.args.path.now c.in-Ok.dir is (g.F.FileStore.numbers c.args.store.now) c.in-Some-least_free.number (least g k), crowded_in (before g k) w shows tree c.args.cred.now c.args.path.now c.in-Ok.dir is full (short g k))),
+      subst (λ p. FitsNowhere (bytes_of (before g k) p) (last c.args.path.now)) (sym is.object) full,
+    )
 
 pub put_new-requires-clause-directory : goal.put_new-requires-clause-directory
 put_new-requires-clause-directory g c =
@@ -86,16 +87,17 @@ put_new-requires-clause-directory g c =
     let t = c.requires.tree in
     let found = c.in-Some-find_room.ensures.room in
     subst (λ x. IsSomeAnd (get x c.in-Ok.dir.number) (λ f. (f.kind ≡ Directory) × (length f.bytes % 512 ≡ 0) × (length f.bytes ≤ 71680) × (c.in-Some-find_room.room.off ≤ length f.bytes)))
-      (sym (c.find_room.ensures.content ∙ c.judge_make.ensures.content))
-      (room_ready (before g k) t.0 t.1.0 t.1.1 c.args.cred.now c.args.path.now c.in-Ok.dir (parent g k t.0 t.1.0 t.1.1) c.in-Some-least_free.number c.in-Some-find_room.room found.0 (room_is g k c.in-Ok.dir.number c.in-Some-least_free.number c.in-Some-find_room.room found.0 found.1))
+    (sym (c.find_room.ensures.content ∙ c.judge_make.ensures.content))
+    (room_ready (before g k) t.0 t.1.0 t.1.1 c.args.cred.now c.args.path.now c.in-Ok.dir (parent g k t.0 t.1.0 t.1.1) c.in-Some-least_free.number c.in-Some-find_room.room found.0 (room_is g k c.in-Ok.dir.number c.in-Some-least_free.number c.in-Some-find_room.room found.0 found.1))
 
 pub returns-in-Ok-put_new-clause-outcome : goal.returns-in-Ok-put_new-clause-outcome
 returns-in-Ok-put_new-clause-outcome g c w shows tree =
     let k = (goal.at.returns-in-Ok-put_new-clause-outcome g c).In-Some-least_free in
     let is = parent g k w shows tree in
-    let found = c.in-Some-find_room.ensures.room in
-    ((is.allowed, not_all_used (before g k) w shows tree c.args.cred.now c.args.path.now c.in-Ok.dir is (g.F.FileStore.numbers c.args.store.now) c.in-Some-least_free.number (least g k), refl),
-     roomy (before g k) w shows tree c.args.cred.now c.args.path.now c.in-Ok.dir is c.in-Some-least_free.number c.in-Some-find_room.room found.0 (room_is g k c.in-Ok.dir.number c.in-Some-least_free.number c.in-Some-find_room.room found.0 found.1))
+    let found = c.in-Some-find_room.ensures.room in (
+      (is.allowed, not_all_used (before g k) w shows tree c.args.cred.now c.args.path.now c.in-Ok.dir is (g.F.FileStore.numbers c.args.store.now) c.in-Some-least_free.number (least g k), refl),
+      roomy (before g k) w shows tree c.args.cred.now c.args.path.now c.in-Ok.dir is c.in-Some-least_free.number c.in-Some-find_room.room found.0 (room_is g k c.in-Ok.dir.number c.in-Some-least_free.number c.in-Some-find_room.room found.0 found.1),
+    )
 
 pub returns-in-Ok-put_new-clause-shows : goal.returns-in-Ok-put_new-clause-shows
 returns-in-Ok-put_new-clause-shows g c w shows tree =
@@ -103,11 +105,11 @@ returns-in-Ok-put_new-clause-shows g c w shows tree =
     let is = parent g k w shows tree in
     let found = c.in-Some-find_room.ensures.room in
     shows_after (before g k) w shows tree c.args.cred.now c.args.path.now c.in-Ok.dir is (g.F.FileStore.numbers c.args.store.now) c.in-Some-least_free.number (least g k) c.args.mode c.in-Some-find_room.room found.0
-      (room_is g k c.in-Ok.dir.number c.in-Some-least_free.number c.in-Some-find_room.room found.0 found.1)
-      (g.F.FileStore.content c.find_room.new.store) (g.F.FileStore.content c.put_new.new.store) (c.find_room.ensures.content ∙ c.judge_make.ensures.content)
-      _ (ap (λ n. record { kind = Regular; uid = c.uid.result; gid = c.in-Ok.dir.attrs.gid; mode = c.args.mode; flags = n; bytes = [] }) c.none.ensures
-        ∙ ap (λ n. record { kind = Regular; uid = n; gid = c.in-Ok.dir.attrs.gid; mode = c.args.mode; flags = 0; bytes = [] }) c.uid.ensures)
-      c.in-Ok-put_new.ensures.ok
+    (room_is g k c.in-Ok.dir.number c.in-Some-least_free.number c.in-Some-find_room.room found.0 found.1)
+    (g.F.FileStore.content c.find_room.new.store) (g.F.FileStore.content c.put_new.new.store) (c.find_room.ensures.content ∙ c.judge_make.ensures.content)
+    _ (ap (λ n. record { kind = Regular; uid = c.uid.result; gid = c.in-Ok.dir.attrs.gid; mode = c.args.mode; flags = n; bytes = [] }) c.none.ensures
+    ∙ ap (λ n. record { kind = Regular; uid = n; gid = c.in-Ok.dir.attrs.gid; mode = c.args.mode; flags = 0; bytes = [] }) c.uid.ensures)
+    c.in-Ok-put_new.ensures.ok
 
 pub returns-in-Err-put_new-clause-outcome : goal.returns-in-Err-put_new-clause-outcome
 returns-in-Err-put_new-clause-outcome g c w shows tree =
@@ -115,8 +117,13 @@ returns-in-Err-put_new-clause-outcome g c w shows tree =
     let is = parent g k w shows tree in
     let found = c.in-Some-find_room.ensures.room in
     subst (λ r. IsOutcome (g.F.FileStore.numbers c.args.store.now) (g.F.FileStore.clean c.args.store.now) g.F.FileStore.can_lack_memory (before g k) w c.args.cred.now (Create c.args.path.now c.args.mode) (Refused r))
-      (sym c.lacking.ensures)
-      (refused_outcome (g.F.FileStore.numbers c.args.store.now) (g.F.FileStore.clean c.args.store.now) g.F.FileStore.can_lack_memory (before g k) w c.args.cred.now (Create c.args.path.now c.args.mode) c.in-Err-put_new.refusal
-        (subst (λ n. MayRefuse n g.F.FileStore.can_lack_memory c.in-Err-put_new.refusal) (c.find_room.ensures.clean ∙ c.judge_make.ensures.clean) c.in-Err-put_new.ensures.refused)
-        is.allowed (not_all_used (before g k) w shows tree c.args.cred.now c.args.path.now c.in-Ok.dir is (g.F.FileStore.numbers c.args.store.now) c.in-Some-least_free.number (least g k)) tt
-        (roomy (before g k) w shows tree c.args.cred.now c.args.path.now c.in-Ok.dir is c.in-Some-least_free.number c.in-Some-find_room.room found.0 (room_is g k c.in-Ok.dir.number c.in-Some-least_free.number c.in-Some-find_room.room found.0 found.1)))
+    (sym c.lacking.ensures)
+    (refused_outcome (g.F.FileStore.numbers c.args.store.now) (g.F.FileStore.clean c.args.store.now) g.F.FileStore.can_lack_memory (before g k) w c.args.cred.now (Create c.args.path.now c.args.mode) c.in-Err-put_new.refusal
+    (subst (λ n. MayRefuse n g.F.FileStore.can_lack_memory c.in-Err-put_new.refusal) (c.find_room.ensures.clean ∙ c.judge_make.ensures.clean) c.in-Err-put_new.ensures.refused)
+    is.allowed (not_all_used (before g k) w shows tree c.args.cred.now c.args.path.now c.in-Ok.dir is (g.F.FileStore.numbers c.args.store.now) c.in-Some-least_free.number (least g k)) tt
+    (roomy (before g k) w shows tree c.args.cred.now c.args.path.now c.in-Ok.dir is c.in-Some-least_free.number c.in-Some-find_room.room found.0 (room_is g k c.in-Ok.dir.number c.in-Some-least_free.number c.in-Some-find_room.room found.0 found.1)))
+
+pub returns-in-Ok-put_new-clause-tree_after : goal.returns-in-Ok-put_new-clause-tree_after
+returns-in-Ok-put_new-clause-tree_after g c w shows tree =
+    let k = (goal.at.returns-in-Ok-put_new-clause-tree_after g c).In-Some-least_free in
+    tree_after (before g k) w shows tree c.args.cred.now c.args.path.now c.in-Ok.dir (parent g k w shows tree) (g.F.FileStore.numbers c.args.store.now) c.in-Some-least_free.number (least g k) c.args.mode

@@ -1,4 +1,4 @@
-use Rattle.std.proofs.Common.{◌≡◌, ◌<◌, ◌≤◌, ◌+◌, ◌*◌, ◌/◌, ◌%◌, ℕ, List, [], ◌∷◌, ◌++◌, length, sym, ap, subst, ◌∙◌, arith}
+use Rattle.std.proofs.Common.{◌≡◌, ◌<◌, ◌/◌, ◌%◌, [], ◌∷◌, ◌++◌, length, sym, ap, subst, ◌∙◌, arith}
 use Rattle.lfs_types.specs.Stored.{bytes_of}
 use Rattle.lfs_dirs.specs.Directory.{number_in, IsDirectoryBlock}
 use Rattle.lfs_dirs.specs.Reading.{entries_of}
@@ -16,11 +16,13 @@ added-requires-clause-new_name g c =
 pub returns-clause-room : goal.returns-clause-room
 returns-clause-room g c =
     let bytes = bytes_of (g.F.FileStore.content c.args.store.now) c.args.dir in
-    let whole : length bytes % 512 ≡ 0 = ap (λ n. n % 512) (sym c.requires.size) ∙ c.requires.whole in
-    (length bytes / 512, record {
-      off = omega (arith, c.requires.size);
-      within = omega arith;
-      fits = let apart = c.if-size-eq-FILE_MAX.false in omega (arith, c.requires.size, c.requires.bounded, c.requires.whole);
-      block = subst (IsDirectoryBlock c.lone_entry-block.result) (sym c.lone_entry-block.ensures.listed) c.lone_entry-block.ensures.block;
-      adds = c.lone_entry-block.ensures.listed ∙ ap (λ es. es ++ (c.args.number, c.args.name.now) ∷ []) (sym (none_at_end bytes whole));
-    })
+    let whole : length bytes % 512 ≡ 0 = ap (λ n. n % 512) (sym c.requires.size) ∙ c.requires.whole in (
+      length bytes / 512,
+      record {
+        off = omega (arith, c.requires.size);
+        within = omega arith;
+        fits = let apart = c.if-size-eq-FILE_MAX.false in omega (arith, c.requires.size, c.requires.bounded, c.requires.whole);
+        block = subst (IsDirectoryBlock c.lone_entry-block.result) (sym c.lone_entry-block.ensures.listed) c.lone_entry-block.ensures.block;
+        adds = c.lone_entry-block.ensures.listed ∙ ap (λ es. es ++ (c.args.number, c.args.name.now) ∷ []) (sym (none_at_end bytes whole));
+      },
+    )

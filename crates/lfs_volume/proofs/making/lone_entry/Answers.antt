@@ -1,4 +1,4 @@
-use Rattle.std.proofs.Common.{◌≡◌, ◌≤◌, ◌+◌, ℕ, [], ◌∷◌, ◌++◌, length, ap, subst, sym, ◌∙◌, arith}
+use Rattle.std.proofs.Common.{◌≤◌, ◌+◌, [], ◌∷◌, ◌++◌, length, ap, subst, sym, ◌∙◌, arith}
 use Rattle.lfs_dirs.specs.Changes.{number_in-nil}
 use Rattle.lfs_dirs.specs.Directory.{IsDirectoryBlock, number_in, used_of}
 use Rattle.lfs_dirs.specs.Laws.{entries_of-zeros, zero_block_listed}

@@ -1,4 +1,4 @@
-use Rattle.std.proofs.Common.{◌≡◌, Ok, Err, refl, sym, ap, subst, ◌∙◌}
+use Rattle.std.proofs.Common.{Ok, Err, subst}
 use Rattle.lfs_volume.specs.Walks.{Reaches}
 use Rattle.lfs_volume.proofs.ReadLemmas.{stat_allowed, stat_answer, stat_denied}
 use Rattle.lfs_volume.proofs.reading.stat.Goals as goal

@@ -1,7 +1,7 @@
-use Rattle.std.proofs.Common.{◌≡◌, Err, None, sym, ap, subst, ◌∙◌}
+use Rattle.std.proofs.Common.{Err, sym, ap, subst, ◌∙◌}
 use Rattle.std.proofs.lemmas.Result.{err_from_is_err_and}
 use Rattle.lfs_types.specs.Stored.{shown_attrs}
-use Rattle.lfs_types.specs.Tree.{World, root}
+use Rattle.lfs_types.specs.Tree.{root}
 use Rattle.lfs_volume.specs.Content.{Shows}
 use Rattle.lfs_volume.specs.Walks.{Reaches}
 use Rattle.lfs_volume.proofs.Deciding.{walked-stored}

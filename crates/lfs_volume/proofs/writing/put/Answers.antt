@@ -1,4 +1,4 @@
-use Rattle.std.proofs.Common.{◌≡◌, Ok, Err, sym}
+use Rattle.std.proofs.Common.{sym}
 use Rattle.std.proofs.lemmas.Result.{IfOk-weaker}
 use Rattle.lfs_volume.proofs.WriteLemmas.{writes_plain, writes_cleared, can_put_cleared}
 use Rattle.lfs_volume.proofs.writing.put.Goals as goal

@@ -1,0 +1,125 @@
+//! A volume: a file store under the rules, and the journal of what was answered.
+
+ghost use Rattle.std.specs.Prelude.{◌≡◌, ◌↔◌, ◌≤◌, ◌<◌, [], ◌∷◌, ◌++◌, length, IfOk};
+ghost use Rattle.lfs_types.specs.Tree.{World, opening_content};
+ghost use Rattle.lfs_types.specs.declared.level.Level.TheVariants.{Insecure};
+ghost use Rattle.lfs_volume.specs.World.{IsTree};
+ghost use Rattle.lfs_volume.specs.Content.{Shows};
+ghost use Rattle.lfs_volume.specs.Copies.{HasBytes, is_lack_of_memory};
+ghost use Rattle.lfs_volume.specs.Outcomes.{IsOutcome};
+ghost use Rattle.lfs_volume.specs.Runs.{IsUnserved, kept_entry};
+ghost use Rattle.lfs_volume.specs.Steps.{IsJournal, after_answer, world_of};
+
+use crate::journal::{Entry, Event, copied};
+use crate::making::create;
+use crate::reading::{read, stat};
+use crate::writing::write;
+use lfs_types::answer::{Answer, Resource};
+use lfs_types::cred::Cred;
+use lfs_types::level::Level;
+use lfs_types::request::Request;
+use lfs_types::store::FileStore;
+use std::alloc::{AllocError, Global};
+use std::marker::Model;
+
+/// A volume over a file store. Its type keeps that its journal is a legal run from the tree of a fresh volume to
+/// the tree that its store and its level show.
+#[derive(Drop)]
+pub struct Volume<F: FileStore + Drop> {
+    store: F,
+    level: Level,
+    journal: Vec<Entry>,
+    limit: u32,
+}
+
+impl<F: FileStore + Drop> Model for Volume<F> {
+    ghost use Rattle.std.specs.Prelude.{◌≤◌};
+    ghost use Rattle.std.specs.Vec.{vec_capacity};
+    ghost use Rattle.lfs_volume.specs.Seen.{Seen};
+
+    ghost Value = { Seen F };
+
+    ghost use Rattle.lfs_volume.specs.Steps.{IsJournal};
+
+    ghost view = { λ v. record { store = v.store; level = v.level; journal = v.journal.items; limit = v.limit } };
+
+    ghost invariant = { λ v. IsJournal (F.content v.store) (F.numbers v.store) (F.clean v.store) v.level v.journal.items v.limit × (v.limit ≤ vec_capacity v.journal) };
+}
+
+impl<F: FileStore + Drop> Volume<F> {
+    /// A volume over a store that holds the tree of a fresh volume, with room for `journal_limit` entries.
+    pub fn new(alloc: Global, store: F, journal_limit: u32) -> Result<Volume<F>, AllocError>
+        requires { F.content store ≡ opening_content }
+        ensures { IfOk result (λ v. v ≡ record { store = store; level = Insecure; journal = []; limit = journal_limit }) }
+    {
+        let journal = Vec::with_capacity(alloc, journal_limit as usize)?;
+        Ok(Volume {
+            store,
+            level: Level::Insecure,
+            journal,
+            limit: journal_limit,
+        })
+    }
+
+    /// Makes a user's call: judges it by the rules on the tree that the journal leads to, does it, and enters it.
+    pub fn call(&mut self, session: u8, cred: &Cred, request: Request) -> Answer
+        ensures full { (result ≡ Answer.Refused Resource.JournalFull) ↔ (length self.old.journal ≡ self.old.limit) }
+        ensures outcome { length self.old.journal < self.old.limit → IsOutcome (F.numbers self.old.store) (F.clean self.old.store) F.can_lack_memory (F.content self.old.store) (world_of (F.numbers self.old.store) self.old.journal) cred.now request result }
+        ensures entered { self.new.journal ≡ self.old.journal ++ kept_entry session cred.now request result }
+        ensures legal { IsJournal (F.content self.new.store) (F.numbers self.new.store) (F.clean self.new.store) self.new.level self.new.journal self.new.limit }
+        ensures same { IsUnserved result → F.content self.new.store ≡ F.content self.old.store }
+        ensures level { self.new.level ≡ self.old.level }
+        ensures limit { self.new.limit ≡ self.old.limit }
+        ensures clean { F.clean self.new.store ≤ F.clean self.old.store }
+        ensures numbers { F.numbers self.new.store ≡ F.numbers self.old.store }
+        ensures segments { F.segments self.new.store ≡ F.segments self.old.store }
+    {
+        if self.journal.len() >= self.limit as usize {
+            return Answer::Refused(Resource::JournalFull);
+        }
+        let alloc = *self.journal.allocator();
+        let answer = answer(alloc, &mut self.store, cred, &request);
+        if lacks_memory(&answer) {
+            return answer;
+        }
+        let Some(copy) = copied(alloc, &answer) else {
+            return Answer::Refused(Resource::NoMemory);
+        };
+        let entry = Entry {
+            session,
+            cred: *cred,
+            event: Event::User(request, copy),
+        };
+        match self.journal.push(entry) {
+            Ok(()) => answer,
+            Err(_) => unreachable!(),
+        }
+    }
+}
+
+/// Whether a call was refused for want of memory.
+fn lacks_memory(answer: &Answer) -> bool
+    ensures { result ≡ is_lack_of_memory answer.now }
+{
+    matches!(answer, Answer::Refused(Resource::NoMemory))
+}
+
+/// The answer to a call by the rules, and its effect on the store.
+fn answer<F: FileStore>(alloc: Global, store: &mut F, cred: &Cred, request: &Request) -> Answer
+    requires tree { (w : World) × (Shows (F.content store.old) w × IsTree w.rows) }
+    ensures outcome { (w : World) → Shows (F.content store.old) w → IsTree w.rows → IsOutcome (F.numbers store.old) (F.clean store.old) F.can_lack_memory (F.content store.old) w cred.now request.now result }
+    ensures shows { (w : World) → Shows (F.content store.old) w → IsTree w.rows → Shows (F.content store.new) (after_answer (F.numbers store.old) w cred.now request.now result) }
+    ensures tree_after { (w : World) → Shows (F.content store.old) w → IsTree w.rows → IsTree (after_answer (F.numbers store.old) w cred.now request.now result).rows }
+    ensures same { IsUnserved result → F.content store.new ≡ F.content store.old }
+    ensures reads { HasBytes result → F.content store.new ≡ F.content store.old }
+    ensures clean { F.clean store.new ≤ F.clean store.old }
+    ensures numbers { F.numbers store.new ≡ F.numbers store.old }
+    ensures segments { F.segments store.new ≡ F.segments store.old }
+{
+    match request {
+        Request::Stat { path } => stat(store, cred, path),
+        Request::Read { path, off, len } => read(alloc, store, cred, path, *off, *len),
+        Request::Write { path, place, bytes } => write(store, cred, path, *place, bytes),
+        Request::Create { path, mode } => create(store, cred, path, *mode),
+    }
+}
