@@ -1,5 +1,5 @@
 -- Journals: the opening one, and one with an entry more.
-use Rattle.std.proofs.Common.{◌≡◌, ℕ, ◌<◌, ◌≤◌, Bool, List, [], ◌∷◌, ◌++◌, length, Option, None, Some, inr, true, false, refl, sym, ap, subst, ◌∙◌, ⊎_elim, arith, length-append}
+use Rattle.std.proofs.Common.{◌≡◌, ℕ, ◌<◌, ◌≤◌, Bool, List, [], ◌∷◌, ◌++◌, length, Option, ◌⊎◌, ◌↔◌, None, Some, inr, true, false, refl, sym, ap, subst, ◌∙◌, ⊎_elim, arith, length-append}
 use Rattle.std.specs.Prelude.{option_map, IsSomeAnd, Contains}
 use Rattle.std.proofs.lemmas.List.Elements.{Contains-push_cases}
 use Rattle.std.specs.FinMap as map
@@ -16,14 +16,15 @@ use Rattle.lfs_types.specs.declared.level.Level.TheVariants.{Insecure}
 use Rattle.lfs_types.specs.declared.request.Request.{Request}
 use Rattle.lfs_types.specs.declared.request.Request.TheVariants.{Stat, Read, Write, Create}
 use Rattle.lfs_dirs.specs.Changes.{number_in-nil}
+use Rattle.lfs_volume.specs.declared.journal.Call.{Call}
 use Rattle.lfs_volume.specs.declared.journal.Entry.{Entry}
 use Rattle.lfs_volume.specs.declared.journal.Event.TheVariants.{User}
 use Rattle.lfs_volume.specs.World.{Rows, ancestor, IsTree, IsChild}
 use Rattle.lfs_volume.specs.Content.{visible, Shows, IsListing, entries_below}
 use Rattle.lfs_volume.specs.Effects.{effect, with_file}
 use Rattle.lfs_volume.specs.Copies.{HasBytes, is_lack_of_memory}
-use Rattle.lfs_volume.specs.Outcomes.{IsOutcome}
-use Rattle.lfs_volume.specs.Runs.{IsUnserved}
+use Rattle.lfs_volume.specs.Outcomes.{IsOutcome, IsCopying}
+use Rattle.lfs_volume.specs.Runs.{IsUnserved, AreAnswers, kept, kept_entry}
 use Rattle.lfs_volume.specs.Steps.{IsEvent, IsLegal, IsAnswer, IsJournal, IsNoSpace, after_answer, after_event, world_after, world_of}
 use Rattle.lfs_volume.proofs.Children.{child-answer, same_or_not}
 use Rattle.lfs_volume.proofs.Maps.{get-insert_same, get-insert_other}
@@ -206,3 +207,49 @@ lack_is (Refused NoSpace) h = absurd (cc)
 lack_is (Refused NoInodes) h = absurd (cc)
 lack_is (Refused DirectoryFull) h = absurd (cc)
 lack_is (Refused JournalFull) h = absurd (cc)
+
+-- ---- runs
+
+pub append-assoc : {X : Type 0} (a b c : List X) → (a ++ b) ++ c ≡ a ++ (b ++ c)
+append-assoc [] b c = refl
+append-assoc (x ∷ a) b c = ap (λ l. x ∷ l) (append-assoc a b c)
+
+append-nil : {X : Type 0} (a : List X) → a ++ [] ≡ a
+append-nil [] = refl
+append-nil (x ∷ a) = ap (λ l. x ∷ l) (append-nil a)
+
+-- what a call more keeps
+pub kept-append : (calls : List Call) (answers : List Answer) (call : Call) (answer : Answer) → length answers ≡ length calls
+    → kept (calls ++ call ∷ []) (answers ++ answer ∷ []) ≡ kept calls answers ++ kept_entry call.session call.cred call.request answer
+kept-append [] [] call answer h = append-nil (kept_entry call.session call.cred call.request answer)
+kept-append [] (a ∷ answers) call answer h = absurd (omega (arith, h))
+kept-append (c ∷ calls) [] call answer h = absurd (omega (arith, h))
+kept-append (c ∷ calls) (a ∷ answers) call answer h =
+    ap (λ l. kept_entry c.session c.cred c.request a ++ l) (kept-append calls answers call answer (omega (arith, h)))
+    ∙ sym (append-assoc (kept_entry c.session c.cred c.request a) (kept calls answers) (kept_entry call.session call.cred call.request answer))
+
+-- a call more
+pub AreAnswers-append : (limit : ℕ) (can_lack : Bool) (journal : List Entry) (calls : List Call) (answers : List Answer) (call : Call) (answer : Answer)
+    → AreAnswers limit can_lack journal calls answers
+    → ((answer ≡ Refused JournalFull) ↔ (length (journal ++ kept calls answers) ≡ limit))
+    → (answer ≡ Refused NoMemory → (can_lack ≡ true) ⊎ IsCopying call.request)
+    → AreAnswers limit can_lack journal (calls ++ call ∷ []) (answers ++ answer ∷ [])
+AreAnswers-append limit can_lack journal [] [] call answer are full lack = (subst (λ j. (answer ≡ Refused JournalFull) ↔ (length j ≡ limit)) (append-nil journal) full, lack, tt)
+AreAnswers-append limit can_lack journal [] (a ∷ answers) call answer are full lack = absurd are
+AreAnswers-append limit can_lack journal (c ∷ calls) [] call answer are full lack = absurd are
+AreAnswers-append limit can_lack journal (c ∷ calls) (a ∷ answers) call answer are full lack = (
+  are.0,
+  are.1,
+  AreAnswers-append limit can_lack (journal ++ kept_entry c.session c.cred c.request a) calls answers call answer are.2
+      (subst (λ j. (answer ≡ Refused JournalFull) ↔ (length j ≡ limit)) (sym (append-assoc journal (kept_entry c.session c.cred c.request a) (kept calls answers))) full) lack,
+)
+
+-- the causes of one more answer's refusals
+pub lack_cause : (limit clean numbers : ℕ) (can_lack : Bool) (c : Content) (journal : List Entry) (w : World) (caller : Caller) (request : Request) (answer : Answer)
+    → ((answer ≡ Refused JournalFull) ↔ (length journal ≡ limit)) → length journal ≤ limit
+    → (length journal < limit → IsOutcome numbers clean can_lack c w caller request answer)
+    → answer ≡ Refused NoMemory → (can_lack ≡ true) ⊎ IsCopying request
+lack_cause limit clean numbers can_lack c journal w caller request answer full within outcome e = ⊎_elim
+    (λ at. let is : answer ≡ Refused JournalFull = full.1 at in absurd (cc))
+    (λ other. let o = subst (IsOutcome numbers clean can_lack c w caller request) e (outcome (omega (arith, within, other))) in o.3)
+    (same_or_not (length journal) limit)

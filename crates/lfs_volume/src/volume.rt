@@ -1,16 +1,16 @@
 //! A volume: a file store under the rules, and the journal of what was answered.
 
-ghost use Rattle.std.specs.Prelude.{◌≡◌, ◌↔◌, ◌≤◌, ◌<◌, [], ◌∷◌, ◌++◌, length, IfOk};
+ghost use Rattle.std.specs.Prelude.{◌≡◌, ◌↔◌, ◌≤◌, ◌<◌, [], ◌∷◌, ◌++◌, length, IfOk, IfErr};
 ghost use Rattle.lfs_types.specs.Tree.{World, opening_content};
 ghost use Rattle.lfs_types.specs.declared.level.Level.TheVariants.{Insecure};
 ghost use Rattle.lfs_volume.specs.World.{IsTree};
 ghost use Rattle.lfs_volume.specs.Content.{Shows};
 ghost use Rattle.lfs_volume.specs.Copies.{HasBytes, is_lack_of_memory};
 ghost use Rattle.lfs_volume.specs.Outcomes.{IsOutcome};
-ghost use Rattle.lfs_volume.specs.Runs.{IsUnserved, kept_entry};
+ghost use Rattle.lfs_volume.specs.Runs.{AreAnswers, IsUnserved, kept, kept_entry};
 ghost use Rattle.lfs_volume.specs.Steps.{IsJournal, after_answer, world_of};
 
-use crate::journal::{Entry, Event, copied};
+use crate::journal::{Call, Entry, Event, copied};
 use crate::making::create;
 use crate::reading::{read, stat};
 use crate::writing::write;
@@ -21,6 +21,7 @@ use lfs_types::request::Request;
 use lfs_types::store::FileStore;
 use std::alloc::{AllocError, Global};
 use std::marker::Model;
+use thiserror::Error;
 
 /// A volume over a file store. Its type keeps that its journal is a legal run from the tree of a fresh volume to
 /// the tree that its store and its level show.
@@ -95,7 +96,70 @@ impl<F: FileStore + Drop> Volume<F> {
             Err(_) => unreachable!(),
         }
     }
+
+    /// Makes calls one after another, each as `call` does. Room for the answers is asked for before the first.
+    pub fn run(&mut self, calls: Vec<Call>) -> Result<Vec<Answer>, RunMemory>
+        ensures each { IfOk result (λ answers. AreAnswers self.old.limit F.can_lack_memory self.old.journal calls.items answers.items) }
+        ensures entered { IfOk result (λ answers. self.new.journal ≡ self.old.journal ++ kept calls.items answers.items) }
+        ensures legal { IsJournal (F.content self.new.store) (F.numbers self.new.store) (F.clean self.new.store) self.new.level self.new.journal self.new.limit }
+        ensures refused { IfErr result (λ _. self.new ≡ self.old) }
+        ensures level { self.new.level ≡ self.old.level }
+        ensures limit { self.new.limit ≡ self.old.limit }
+        ensures clean { F.clean self.new.store ≤ F.clean self.old.store }
+        ensures numbers { F.numbers self.new.store ≡ F.numbers self.old.store }
+        ensures segments { F.segments self.new.store ≡ F.segments self.old.store }
+    {
+        let Ok(mut answers) = Vec::with_capacity(*self.journal.allocator(), calls.len()) else {
+            return Err(RunMemory);
+        };
+        for Call {
+            session,
+            cred,
+            request,
+        } in calls {
+            let answer = self.call(session, &cred, request);
+            match answers.push(answer) {
+                Ok(()) => (),
+                Err(_) => unreachable!(),
+            }
+        }
+        Ok(answers)
+    }
+
+    /// What was called and answered, in order.
+    pub fn journal(&self) -> &[Entry]
+        ensures entries { result.now ≡ self.now.journal }
+        ensures legal { IsJournal (F.content self.now.store) (F.numbers self.now.store) (F.clean self.now.store) self.now.level result.now self.now.limit }
+    {
+        self.journal.as_slice()
+    }
+
+    /// How many entries the journal may have.
+    pub fn journal_limit(&self) -> u32
+        ensures { result ≡ self.now.limit }
+    {
+        self.limit
+    }
+
+    /// The securelevel.
+    pub fn level(&self) -> Level
+        ensures { result ≡ self.now.level }
+    {
+        self.level
+    }
+
+    /// How many segments of the store are clean.
+    pub fn clean_segments(&self) -> u32
+        ensures { result ≡ F.clean self.now.store }
+    {
+        self.store.clean_segments()
+    }
 }
+
+/// There was no memory for the answers of a run. Nothing was called.
+#[derive(Clone, Copy, PartialEq, Eq, Debug, Error)]
+#[error("no memory for the answers")]
+pub struct RunMemory;
 
 /// Whether a call was refused for want of memory.
 fn lacks_memory(answer: &Answer) -> bool
