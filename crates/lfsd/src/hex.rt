@@ -1,0 +1,96 @@
+//! Bytes in scripts.
+
+ghost use Rattle.std.specs.Prelude.{◌≡◌, ◌≢◌, ◌<◌, ◌≤◌, length, true, Some, None, IfOk, MatchResult};
+ghost use Rattle.lfsd.specs.BytesText.{is_hex_digit, is_hex, hex_text, bytes_text, bytes_fault};
+ghost use Rattle.std.specs.Char.{digit_char};
+ghost use Rattle.std.specs.List.{list_all};
+ghost use Rattle.lfsd.specs.declared.fault.FaultKind.TheVariants.{Memory};
+
+use crate::fault::FaultKind;
+use lfs_types::payload::{PAYLOAD_MAX, Payload};
+use std::alloc::{AllocError, Global};
+
+/// The bytes that an even, positive number of digits of 0-9 a-f spells, at most 4,096, or none for `-`.
+pub fn payload(alloc: Global, word: &str) -> Result<Payload, FaultKind>
+    ensures { MatchResult result
+        (λ bytes. bytes_text bytes ≡ word.now)
+        (λ kind. kind ≢ Memory → bytes_fault word.now ≡ Some kind) }
+{
+    let digits = word.as_bytes();
+    if let [b'-'] = digits {
+        return Ok(payload_of(Vec::new(alloc)));
+    }
+    if digits.len() > 2 * PAYLOAD_MAX {
+        return Err(FaultKind::Range);
+    }
+    if !is_hex(digits) {
+        return Err(FaultKind::Hex);
+    }
+    let Ok(bytes) = decoded(alloc, digits) else {
+        return Err(FaultKind::Memory);
+    };
+    Ok(payload_of(bytes))
+}
+
+/// The payload of bytes that are not too many.
+fn payload_of(bytes: Vec<u8>) -> Payload
+    requires { length bytes.items ≤ 4096 }
+    ensures { result ≡ bytes.items }
+{
+    match Payload::new(bytes) {
+        Ok(payload) => payload,
+        Err(_) => unreachable!(),
+    }
+}
+
+/// Whether a byte is a digit of 0-9 a-f.
+fn is_hex_digit(byte: u8) -> bool
+    ensures { result ≡ is_hex_digit byte }
+{
+    match byte {
+        b'0'..=b'9' | b'a'..=b'f' => true,
+        _ => false,
+    }
+}
+
+/// Whether these are an even, positive number of digits.
+fn is_hex(digits: &[u8]) -> bool
+    ensures { result ≡ is_hex digits.now }
+{
+    !digits.is_empty() && digits.len() % 2 == 0 && has_hex_alone(digits)
+}
+
+/// Whether every byte is a digit.
+fn has_hex_alone(bytes: &[u8]) -> bool
+    ensures { result ≡ list_all is_hex_digit bytes.now }
+{
+    bytes.iter().all(|byte| is_hex_digit(*byte))
+}
+
+/// The value of a digit.
+fn digit_value(digit: u8) -> u8
+    requires { is_hex_digit digit ≡ true }
+    ensures bounded { result < 16 }
+    ensures spelled { digit_char result ≡ digit }
+{
+    if digit <= b'9' {
+        digit - b'0'
+    } else {
+        digit - b'a' + 10
+    }
+}
+
+/// The bytes that these digits spell.
+fn decoded(alloc: Global, digits: &[u8]) -> Result<Vec<u8>, AllocError>
+    requires { is_hex digits.now ≡ true }
+    ensures { IfOk result (λ bytes. hex_text bytes.items ≡ digits.now) }
+{
+    let half = digits.len() / 2;
+    let mut bytes = Vec::with_capacity(alloc, half)?;
+    for k in 0..half {
+        let high = digit_value(digits[2 * k]);
+        let low = digit_value(digits[2 * k + 1]);
+        bytes.push(16 * high + low)?;
+    }
+    Ok(bytes)
+}

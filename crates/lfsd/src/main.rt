@@ -1,0 +1,50 @@
+//! A file server that runs a script: it reads lines of calls from standard input and prints the answer to each.
+#![tactic(auto)]
+
+mod caller;
+mod fault;
+mod hex;
+mod number;
+mod options;
+mod plan;
+mod print;
+mod read;
+mod run;
+mod script;
+mod tell;
+#[cfg(test)]
+mod tests;
+mod words;
+
+use clap::error::ErrorKind;
+use fault::LinesFault;
+use std::env::Env;
+use std::process::ExitCode;
+use std::{env, io};
+
+fn main(rt: HostRuntime) -> ExitCode {
+    let alloc = rt.alloc();
+    let mut stderr = rt.stderr();
+    let Ok(words) = program_words(&rt) else {
+        return ExitCode::from(tell::tell(&mut stderr, &LinesFault::Memory));
+    };
+    let params = match options::params_of(alloc, words.as_slice()) {
+        Ok(params) => params,
+        Err(error) if error.kind() == ErrorKind::OutOfMemory => {
+            return ExitCode::from(tell::tell(&mut stderr, &LinesFault::Memory));
+        }
+        Err(error) => {
+            let _ = error.print(&rt);
+            return ExitCode::from(error.exit_code() as u8);
+        }
+    };
+    match run::run_lines(alloc, &mut rt.stdin(), &mut rt.stdout(), params) {
+        Ok(()) => ExitCode::SUCCESS,
+        Err(fault) => ExitCode::from(tell::tell(&mut stderr, &fault)),
+    }
+}
+
+/// The words of the command line, the program's name first.
+fn program_words<R: Env + Alloc>(rt: &R) -> io::Result<Vec<String<R::A>, R::A>> {
+    Ok(env::args(rt)?.collect(rt.alloc())?)
+}

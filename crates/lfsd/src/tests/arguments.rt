@@ -1,0 +1,62 @@
+//! The program's arguments.
+
+use crate::options::{DEFAULTS, params_of};
+use clap::error::ErrorKind;
+use lfs_types::store::Params;
+use std::test::Fail;
+
+#[test]
+fn parameters(rt: HostRuntime) -> Result<(), Fail> {
+    let alloc = rt.alloc();
+    assert_eq!(rt; params_of(alloc, &["lfsd"])?, DEFAULTS);
+    let least = Params {
+        inodes: 16,
+        journal: 1,
+        ..DEFAULTS
+    };
+    let words = ["lfsd", "--inodes", "16", "--journal", "1"];
+    assert_eq!(rt; params_of(alloc, &words)?, least);
+    let most = Params {
+        inodes: 4096,
+        journal: 100_000,
+        ..DEFAULTS
+    };
+    let words = ["lfsd", "--journal=100000", "--inodes=0004096"];
+    assert_eq!(rt; params_of(alloc, &words)?, most);
+    Ok(())
+}
+
+#[test]
+fn usage_faults(rt: HostRuntime) {
+    let cases: [&[&str]; 14] = [
+        &["lfsd", "--inodes", "15"],
+        &["lfsd", "--inodes", "4097"],
+        &["lfsd", "--inodes", "+16"],
+        &["lfsd", "--inodes", "-16"],
+        &["lfsd", "--inodes=-16"],
+        &["lfsd", "--inodes", "0x20"],
+        &["lfsd", "--inodes", "4294967312"],
+        &["lfsd", "--inodes", ""],
+        &["lfsd", "--inodes"],
+        &["lfsd", "--journal", "0"],
+        &["lfsd", "--journal", "100001"],
+        &["lfsd", "--journal=+1"],
+        &["lfsd", "script"],
+        &["lfsd", "--threads"],
+    ];
+    for words in cases {
+        let code = params_of(rt.alloc(), words).map_err(|error| error.exit_code());
+        assert_eq!(rt; code, Err(2), "{words:?}");
+    }
+}
+
+#[test]
+fn help(rt: HostRuntime) {
+    let Err(error) = params_of(rt.alloc(), &["lfsd", "--help"]) else {
+        assert!(rt; false);
+        return;
+    };
+    assert_eq!(rt; error.kind(), ErrorKind::DisplayHelp);
+    assert_eq!(rt; error.exit_code(), 0);
+    assert!(rt; !error.use_stderr());
+}
