@@ -1,0 +1,2 @@
+pub mod InfosLemmas
+pub mod PackingLemmas
