@@ -1,5 +1,5 @@
 -- The infos of a segment: which blocks and inodes its log names, and where they lie.
-use Rattle.std.specs.Prelude.{ℕ, List, [], ◌∷◌, Option, option_map, map}
+use Rattle.std.specs.Prelude.{ℕ, List, [], ◌∷◌, Option, option_map}
 use Rattle.std.specs.List.{filter_map, flat_map}
 use Rattle.lfs_inodes.specs.declared.inode.Inode.{Inode}
 use Rattle.lfs_inodes.specs.Reading.{fields_in}

@@ -6,7 +6,7 @@ ghost use Rattle.lfs_inodes.specs.declared.inode.Inode.{Inode};
 ghost use Rattle.lfs_inodes.specs.Reading.{fields_in, fields_of};
 ghost use Rattle.lfs_inodes.specs.Slots.{slots};
 ghost use Rattle.lfs_segments.specs.Log.{IsReady, segment_log};
-ghost use Rattle.lfs_segments.specs.Memory.{appended, block_at, next_address, room_of};
+ghost use Rattle.lfs_segments.specs.Memory.{IsLaidOut, appended, block_at, next_address, room_of};
 ghost use Rattle.lfs_segments.specs.Reading.{named_by};
 ghost use Rattle.lfs_logstore.specs.Infos.{info_of, segment_infos};
 ghost use Rattle.lfs_logstore.specs.Packing.{IsInodeBlock, IsInodeSummary, inodes_entry};
@@ -74,6 +74,7 @@ pub fn append_inodes(segments: &mut Segments, active: u32, inodes: &[Inode]) -> 
     ensures infos { segment_infos segments.new active
         ≡ segment_infos segments.old active ++ map (info_of result) inodes.now }
     ensures ready { IsReady segments.new }
+    ensures laid_out { IsLaidOut segments.new }
 {
     let offset = SEGMENT_BLOCKS - segments.room();
     let summary = inode_summary(active, offset);

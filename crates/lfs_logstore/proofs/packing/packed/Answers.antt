@@ -1,4 +1,4 @@
-use Rattle.std.proofs.Common.{length, refl, sym, ◌∙◌, arith}
+use Rattle.std.proofs.Common.{length, refl, arith}
 use Rattle.std.proofs.lemmas.Option.{slice_get_read}
 use Rattle.lfs_logstore.proofs.PackingLemmas.{IsPackedBelow-none, IsPackedBelow-more, IsInodeBlock-packed}
 use Rattle.lfs_logstore.proofs.packing.packed.Goals as goal
