@@ -1,6 +1,7 @@
 -- The infos of a segment before and after an inode block is appended.
-use Rattle.std.proofs.Common.{◌≡◌, ℕ, ◌+◌, ◌-◌, ◌*◌, ◌<◌, ◌≤◌, List, [], ◌∷◌, ◌++◌, Option, Some, None, option_map, unwrap_or, length, take, map, refl, sym, ap, ◌∙◌, arith}
+use Rattle.std.proofs.Common.{◌≡◌, ◌≢◌, ℕ, ◌+◌, ◌-◌, ◌*◌, ◌<◌, ◌≤◌, List, [], ◌∷◌, ◌++◌, Option, Some, None, option_map, unwrap_or, length, take, map, refl, sym, ap, ◌∙◌, ⊎_elim, arith}
 use Rattle.std.specs.List.{filter_map, flat_map, slice_get}
+use Rattle.std.proofs.lemmas.Bool.{cases_lt}
 use Rattle.std.proofs.lemmas.List.{append-nil, length-take-le}
 use Rattle.std.proofs.lemmas.List.Concat.{flat_map-append}
 use Rattle.lfs_inodes.specs.declared.inode.Inode.{Inode}
@@ -12,8 +13,9 @@ use Rattle.lfs_segments.specs.Log.{IsReady, log_blocks, named, segment_log}
 use Rattle.lfs_segments.specs.Memory.{IsLaidOut, SegmentMemory, appended, block_at, log_start, next_address, room_of}
 use Rattle.lfs_segments.specs.Reading.{named_by, summary_entries}
 use Rattle.lfs_segments.specs.Summary.{IsSummaryBlock}
-use Rattle.lfs_segments.proofs.SegmentLemmas.{segment_log-appended}
-use Rattle.lfs_segments.proofs.WindowLemmas.{get_or-written_before, get_or-written_inside, named-open}
+use Rattle.lfs_segments.proofs.MemoryLemmas.{log_start-le}
+use Rattle.lfs_segments.proofs.SegmentLemmas.{segment_log-appended, segment_log-appended_other}
+use Rattle.lfs_segments.proofs.WindowLemmas.{get_or-written_after, get_or-written_before, get_or-written_inside, length-window, named-open}
 use Rattle.lfs_logstore.specs.declared.infos.BlockInfo.{BlockInfo}
 use Rattle.lfs_logstore.specs.Infos.{entry_infos, info_of, inode_infos, segment_infos, slot_info}
 use Rattle.lfs_logstore.specs.Packing.{IsInodeBlock, IsSlot, inodes_entry}
@@ -95,3 +97,26 @@ module _ (m : SegmentMemory) (head body : List ℕ) (s : Summary) (laid : IsLaid
       ∙ ap (λ (infos : List BlockInfo). infos ++ (inode_infos address (block_at new address) ++ [])) log_infos-kept
       ∙ ap (λ (infos : List BlockInfo). segment_infos m m.active ++ infos)
       (append-nil (inode_infos address (block_at new address)) ∙ ap (inode_infos address) body_at ∙ inode_infos-packed address body inodes packed)
+
+-- what is appended leaves the infos of each other segment
+pub segment_infos-appended_other : (m : SegmentMemory) (others : List (List ℕ)) (segment : ℕ) → IsLaidOut m → length others ≤ room_of m → segment < m.segments → segment ≢ m.active
+    → segment_infos (appended m others) segment ≡ segment_infos m segment
+segment_infos-appended_other m others segment laid fits inside other =
+    let whole = laid.whole in
+    let active = laid.active in
+    let within = laid.within in
+    let low = log_start-le segment in
+    let start : ℕ = segment * 64 + log_start segment in
+    let place : ℕ = next_address m in
+    let room : place + length others ≤ length m.blocks = omega arith in
+    let long : length (log_blocks m segment) ≡ 64 - log_start segment = length-window m.blocks start (64 - log_start segment) (omega arith) in
+    ap (flat_map (entry_infos (appended m others))) (segment_log-appended_other m others segment laid fits inside other)
+    ∙ infos_same m (appended m others) (segment * 64) (segment * 64 + 64)
+    (λ a from below. ⊎_elim
+    (λ (before : a < place). get_or-written_before m.blocks place others room a [] before)
+    (λ (behind : place ≤ a). get_or-written_after m.blocks place others room a [] (past a from below behind))
+    (cases_lt a place))
+    start [] (log_blocks m segment) (omega arith) (omega arith)
+  where
+    past : (a : ℕ) → segment * 64 ≤ a → a < segment * 64 + 64 → next_address m ≤ a → next_address m + length others ≤ a
+    past a from below behind = let within = laid.within in omega arith

@@ -72,7 +72,8 @@ fn push_infos(
     block: &Block,
 ) -> Result<(), AllocError>
     ensures { OnOk result (infos.new.items
-        ≡ infos.old.items ++ block_infos address entry.now.number entry.now.version entry.now.block block.now) }
+        ≡ infos.old.items
+        ++ block_infos address entry.now.number entry.now.version entry.now.block block.now) }
 {
     match entry.block {
         LogicalBlock::Inodes => push_inode_infos(infos, address, block),

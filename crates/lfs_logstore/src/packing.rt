@@ -1,6 +1,7 @@
 //! Inode records in the log: up to four of them share a block.
 
-ghost use Rattle.std.specs.Prelude.{◌≡◌, ◌≤◌, ◌<◌, ◌+◌, ◌-◌, ◌*◌, ◌++◌, ◌∷◌, [], ℕ, List, Some, None, length, map, replicate};
+ghost use Rattle.std.specs.Prelude.{◌≡◌, ◌≢◌, ◌≤◌, ◌<◌, ◌+◌, ◌-◌, ◌*◌, ◌++◌, ◌∷◌, [], ℕ, List};
+ghost use Rattle.std.specs.Prelude.{Some, None, length, map, replicate};
 ghost use Rattle.std.specs.Option.{option_map};
 ghost use Rattle.lfs_inodes.specs.declared.inode.Inode.{Inode};
 ghost use Rattle.lfs_inodes.specs.Reading.{fields_in, fields_of};
@@ -66,13 +67,18 @@ pub fn append_inodes(segments: &mut Segments, active: u32, inodes: &[Inode]) -> 
     requires at_most { length inodes.now ≤ 4 }
     ensures address { result ≡ next_address segments.old + 1 }
     ensures written { segments.new
-        ≡ appended segments.old (block_at segments.new (result - 1) ∷ block_at segments.new result ∷ []) }
-    ensures summary { IsInodeSummary (block_at segments.new (result - 1)) segments.old.active segments.old.fill }
+        ≡ appended segments.old
+        (block_at segments.new (result - 1) ∷ block_at segments.new result ∷ []) }
+    ensures summary { IsInodeSummary (block_at segments.new (result - 1))
+        segments.old.active segments.old.fill }
     ensures packed { IsInodeBlock (block_at segments.new result) inodes.now }
 
-    ensures log { segment_log segments.new active ≡ segment_log segments.old active ++ (result, inodes_entry) ∷ [] }
+    ensures log { segment_log segments.new active
+        ≡ segment_log segments.old active ++ (result, inodes_entry) ∷ [] }
     ensures infos { segment_infos segments.new active
         ≡ segment_infos segments.old active ++ map (info_of result) inodes.now }
+    ensures others { (other : ℕ) → other < segments.old.segments → other ≢ active
+        → segment_infos segments.new other ≡ segment_infos segments.old other }
     ensures ready { IsReady segments.new }
     ensures laid_out { IsLaidOut segments.new }
 {
@@ -84,7 +90,8 @@ pub fn append_inodes(segments: &mut Segments, active: u32, inodes: &[Inode]) -> 
 /// The inodes whose records stand in the slots of the block at an address.
 pub fn inodes_at(segments: &Segments, address: u32) -> [Option<Inode>; SLOT_COUNT]
     requires { address < segments.now.segments * 64 }
-    ensures reading { map (option_map fields_of) result ≡ map fields_in (slots (block_at segments.now address)) }
+    ensures reading { map (option_map fields_of) result
+        ≡ map fields_in (slots (block_at segments.now address)) }
     // The records of an inode block are read back.
     ensures packed { (inodes : List Inode) → IsInodeBlock (block_at segments.now address) inodes
         → result ≡ map Some inodes ++ replicate (4 - length inodes) None }

@@ -3,7 +3,7 @@ use Rattle.lfs_segments.specs.Log.{IsReady}
 use Rattle.lfs_segments.specs.Memory.{SegmentMemory, appended, block_at, next_address}
 use Rattle.lfs_segments.proofs.SegmentLemmas.{IsReady-appended}
 use Rattle.lfs_logstore.specs.Packing.{IsInodeBlock}
-use Rattle.lfs_logstore.proofs.InfosLemmas.{body_at, head_at, segment_infos-inodes, segment_log-inodes}
+use Rattle.lfs_logstore.proofs.InfosLemmas.{body_at, head_at, segment_infos-appended_other, segment_infos-inodes, segment_log-inodes}
 use Rattle.lfs_logstore.proofs.packing.append_inodes.Goals as goal
 
 head_is : (c : goal.After-append) → block_at c.append.new.self (c.append.result + 1 - 1) ≡ c.encode.result
@@ -48,3 +48,7 @@ returns-clause-infos c = rw (c.requires.active, c.append.ensures.appended, c.app
 pub returns-clause-ready : goal.returns-clause-ready
 returns-clause-ready c = subst IsReady (sym c.append.ensures.appended)
     (IsReady-appended c.args.segments.now _ c.inode_summary-summary.result (c.packed.result ∷ []) c.room-offset.ensures.laid_out c.requires.ready c.encode.ensures.spelled (sym c.inode_summary-summary.ensures.count) (omega arith))
+
+pub returns-clause-others : goal.returns-clause-others
+returns-clause-others c = λ segment inside other. rw c.append.ensures.appended
+    (segment_infos-appended_other c.args.segments.now (c.encode.result ∷ c.packed.result ∷ []) segment c.room-offset.ensures.laid_out (omega arith) inside (λ same. other (same ∙ sym c.requires.active)))
