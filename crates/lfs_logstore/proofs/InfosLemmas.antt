@@ -57,8 +57,8 @@ module _ (old new : SegmentMemory) (low limit : ℕ) (same : (a : ℕ) → low �
   infos_same address (entry ∷ expected) (block ∷ blocks) from fits =
       rw (same address from (omega arith), infos_same (address + 1) expected blocks (omega arith) (omega arith)) refl
 
--- a partial segment that has one block of inodes
-module _ (m : SegmentMemory) (head body : List ℕ) (s : Summary) (laid : IsLaidOut m) (ready : IsReady m) (room : 2 ≤ room_of m) (spelled : IsSummaryBlock head s) (one : s.count ≡ 1) where
+-- two blocks that are appended, by their addresses
+module _ (m : SegmentMemory) (head body : List ℕ) (laid : IsLaidOut m) (room : 2 ≤ room_of m) where
   inside : next_address m + 2 ≤ length m.blocks
   inside = let whole = laid.whole in let active = laid.active in omega arith
 
@@ -70,12 +70,9 @@ module _ (m : SegmentMemory) (head body : List ℕ) (s : Summary) (laid : IsLaid
   pub body_at : block_at (appended m (head ∷ body ∷ [])) (next_address m + 1) ≡ body
   body_at = get_or-written_inside m.blocks (next_address m) (head ∷ body ∷ []) inside 1 [] (omega arith)
 
-  pub segment_log-inodes : named_by s ≡ inodes_entry ∷ [] → segment_log (appended m (head ∷ body ∷ [])) m.active ≡ segment_log m m.active ++ (next_address m + 1, inodes_entry) ∷ []
-  segment_log-inodes entries = segment_log-appended m head s (body ∷ []) laid ready spelled (sym one) (omega arith) ∙ rw entries refl
-
-  -- what the log named keeps its infos
-  log_infos-kept : flat_map (entry_infos (appended m (head ∷ body ∷ []))) (segment_log m m.active) ≡ segment_infos m m.active
-  log_infos-kept =
+  -- what the log named before keeps its infos
+  log_infos-kept : IsReady m → flat_map (entry_infos (appended m (head ∷ body ∷ []))) (segment_log m m.active) ≡ segment_infos m m.active
+  log_infos-kept ready =
       let new = appended m (head ∷ body ∷ []) in
       let base : ℕ = m.active * 64 + log_start m.active in
       let used : ℕ = m.fill - log_start m.active in
@@ -87,16 +84,21 @@ module _ (m : SegmentMemory) (head body : List ℕ) (s : Summary) (laid : IsLaid
       ∙ infos_same m new 0 (next_address m) (λ a from below. get_or-written_before m.blocks (next_address m) (head ∷ body ∷ []) inside a [] below) base [] (take used log) (omega arith) (omega arith)
       ∙ ap (flat_map (entry_infos m)) (sym opened)
 
-  pub segment_infos-inodes : (inodes : List Inode) → named_by s ≡ inodes_entry ∷ [] → IsInodeBlock body inodes
+-- the partial segment of one block of inodes
+module _ (m : SegmentMemory) (head body : List ℕ) (laid : IsLaidOut m) (room : 2 ≤ room_of m) (ready : IsReady m) (s : Summary) (spelled : IsSummaryBlock head s) (one : s.count ≡ 1) (entries : named_by s ≡ inodes_entry ∷ []) where
+  pub segment_log-inodes : segment_log (appended m (head ∷ body ∷ [])) m.active ≡ segment_log m m.active ++ (next_address m + 1, inodes_entry) ∷ []
+  segment_log-inodes = segment_log-appended m head s (body ∷ []) laid ready spelled (sym one) (omega arith) ∙ rw entries refl
+
+  pub segment_infos-inodes : (inodes : List Inode) → IsInodeBlock body inodes
       → segment_infos (appended m (head ∷ body ∷ [])) m.active ≡ segment_infos m m.active ++ map (info_of (next_address m + 1)) inodes
-  segment_infos-inodes inodes entries packed =
+  segment_infos-inodes inodes packed =
       let new = appended m (head ∷ body ∷ []) in
       let address : ℕ = next_address m + 1 in
-      ap (flat_map (entry_infos new)) (segment_log-inodes entries)
+      ap (flat_map (entry_infos new)) segment_log-inodes
       ∙ flat_map-append (entry_infos new) (segment_log m m.active) ((address, inodes_entry) ∷ [])
-      ∙ ap (λ (infos : List BlockInfo). infos ++ (inode_infos address (block_at new address) ++ [])) log_infos-kept
+      ∙ ap (λ (infos : List BlockInfo). infos ++ (inode_infos address (block_at new address) ++ [])) (log_infos-kept m head body laid room ready)
       ∙ ap (λ (infos : List BlockInfo). segment_infos m m.active ++ infos)
-      (append-nil (inode_infos address (block_at new address)) ∙ ap (inode_infos address) body_at ∙ inode_infos-packed address body inodes packed)
+      (append-nil (inode_infos address (block_at new address)) ∙ ap (inode_infos address) (body_at m head body laid room) ∙ inode_infos-packed address body inodes packed)
 
 -- what is appended leaves the infos of each other segment
 pub segment_infos-appended_other : (m : SegmentMemory) (others : List (List ℕ)) (segment : ℕ) → IsLaidOut m → length others ≤ room_of m → segment < m.segments → segment ≢ m.active

@@ -10,13 +10,13 @@ head_is : (c : goal.After-append) → block_at c.append.new.self (c.append.resul
 head_is c =
     ap (block_at c.append.new.self) (omega arith)
     ∙ ap (λ (m : SegmentMemory). block_at m (next_address c.args.segments.now)) c.append.ensures.appended
-    ∙ head_at c.args.segments.now _ _ c.inode_summary-summary.result c.room-offset.ensures.laid_out c.requires.ready c.requires.room c.encode.ensures.spelled c.inode_summary-summary.ensures.count
+    ∙ head_at c.args.segments.now _ _ c.room-offset.ensures.laid_out c.requires.room
 
 body_is : (c : goal.After-append) → block_at c.append.new.self (c.append.result + 1) ≡ c.packed.result
 body_is c =
     ap (block_at c.append.new.self) (omega arith)
     ∙ ap (λ (m : SegmentMemory). block_at m (next_address c.args.segments.now + 1)) c.append.ensures.appended
-    ∙ body_at c.args.segments.now _ _ c.inode_summary-summary.result c.room-offset.ensures.laid_out c.requires.ready c.requires.room c.encode.ensures.spelled c.inode_summary-summary.ensures.count
+    ∙ body_at c.args.segments.now _ _ c.room-offset.ensures.laid_out c.requires.room
 
 pub returns-clause-written : goal.returns-clause-written
 returns-clause-written c =
@@ -37,13 +37,14 @@ returns-clause-packed c = subst (λ (block : List ℕ). IsInodeBlock block c.arg
 
 pub returns-clause-log : goal.returns-clause-log
 returns-clause-log c = rw (c.requires.active, c.append.ensures.appended, c.append.ensures.address)
-    (segment_log-inodes c.args.segments.now _ _ c.inode_summary-summary.result c.room-offset.ensures.laid_out c.requires.ready c.requires.room c.encode.ensures.spelled c.inode_summary-summary.ensures.count
-    c.inode_summary-summary.ensures.entries)
+    (segment_log-inodes c.args.segments.now _ _ c.room-offset.ensures.laid_out c.requires.room c.requires.ready c.inode_summary-summary.result c.encode.ensures.spelled
+    c.inode_summary-summary.ensures.count c.inode_summary-summary.ensures.entries)
 
 pub returns-clause-infos : goal.returns-clause-infos
 returns-clause-infos c = rw (c.requires.active, c.append.ensures.appended, c.append.ensures.address)
-    (segment_infos-inodes c.args.segments.now _ _ c.inode_summary-summary.result c.room-offset.ensures.laid_out c.requires.ready c.requires.room c.encode.ensures.spelled c.inode_summary-summary.ensures.count
-    c.args.inodes.now c.inode_summary-summary.ensures.entries c.packed.ensures)
+    (segment_infos-inodes c.args.segments.now _ _ c.room-offset.ensures.laid_out c.requires.room c.requires.ready c.inode_summary-summary.result c.encode.ensures.spelled
+    c.inode_summary-summary.ensures.count c.inode_summary-summary.ensures.entries
+    c.args.inodes.now c.packed.ensures)
 
 pub returns-clause-ready : goal.returns-clause-ready
 returns-clause-ready c = subst IsReady (sym c.append.ensures.appended)
