@@ -1,17 +1,21 @@
 -- What is left of the infos of a segment, block by block.
-use Rattle.std.proofs.Common.{◌≡◌, ℕ, suc, ◌+◌, ◌-◌, ◌<◌, ◌≤◌, List, [], ◌∷◌, ◌++◌, Option, Some, None, option_map, unwrap_or, length, get_or, take, drop, append-nil, append_assoc, refl, sym, ap, ◌∙◌, arith}
+use Rattle.std.proofs.Common.{◌≡◌, ℕ, suc, ◌+◌, ◌-◌, ◌*◌, ◌<◌, ◌≤◌, List, [], ◌∷◌, ◌++◌, Option, Some, None, option_map, unwrap_or, length, get_or, take, drop, append-nil, append_assoc, refl, sym, ap, ◌∙◌, arith}
 use Rattle.std.specs.List.{flat_map}
 use Rattle.std.proofs.lemmas.List.{drop_all, drop_more, get_or-take, length-take, length-take-le}
+use Rattle.std.proofs.lemmas.List.Elements.{All-get_or}
 use Rattle.lfs_segments.specs.declared.entry.SummaryEntry.{SummaryEntry}
 use Rattle.lfs_segments.specs.declared.summary.Summary.{Summary}
 use Rattle.lfs_segments.specs.Entry.{unused}
 use Rattle.lfs_segments.specs.Log.{named}
-use Rattle.lfs_segments.specs.Memory.{SegmentMemory, block_at}
+use Rattle.lfs_segments.specs.Memory.{IsLaidOut, SegmentMemory, block_at}
 use Rattle.lfs_segments.specs.Reading.{named_by, summary_entries}
 use Rattle.lfs_logstore.specs.declared.infos.BlockInfo.{BlockInfo}
 use Rattle.lfs_segments.specs.Summary.{IsSummaryBlock}
 use Rattle.lfs_segments.proofs.ReadingLemmas.{summary_entries-spelled}
 use Rattle.lfs_logstore.specs.Infos.{block_infos, entry_infos}
+
+pub length-block_at : (m : SegmentMemory) (address : ℕ) → IsLaidOut m → address < m.segments * 64 → length (block_at m address) ≡ 512
+length-block_at m address laid inside = let whole = laid.whole in All-get_or (λ block. length block ≡ 512) m.blocks address [] (omega arith) laid.each
 
 -- the blocks from one address to before another
 abbrev pub blocks_between : SegmentMemory → ℕ → ℕ → List (List ℕ)

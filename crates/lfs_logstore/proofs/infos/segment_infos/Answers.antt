@@ -1,8 +1,7 @@
-use Rattle.std.proofs.Common.{◌≡◌, ◌+◌, ◌*◌, [], length, sym, ◌∙◌, ap, arith}
-use Rattle.std.proofs.lemmas.List.Elements.{All-get_or}
+use Rattle.std.proofs.Common.{◌+◌, ◌*◌, length, sym, ◌∙◌, ap, arith}
 use Rattle.std.proofs.lemmas.Option.{none-some}
 use Rattle.lfs_segments.proofs.ReadingLemmas.{summary_entries-none}
-use Rattle.lfs_logstore.proofs.ScanLemmas.{scan_ended, scan_named, scan_summary}
+use Rattle.lfs_logstore.proofs.ScanLemmas.{length-block_at, scan_ended, scan_named, scan_summary}
 use Rattle.lfs_logstore.proofs.infos.segment_infos.Goals.{then-next-count+in_ok-push_infos, else-next-count+in-Some}
 use Rattle.lfs_logstore.proofs.infos.segment_infos.Goals as goal
 
@@ -10,7 +9,7 @@ pub returns-in_default : goal.returns-in_default
 returns-in_default c =
     let whole = c.requires.laid_out.whole in
     scan_ended c.args.segments.now c.loop-address.address (c.args.segment * 64 + 64) c.loop-address-test.true (omega arith) _ _ _ _ _ _ c.if-next-count.false c.block-block.ensures.block
-    (summary_entries-none _ (ap length c.block-block.ensures.block ∙ All-get_or (λ block. length block ≡ 512) c.args.segments.now.blocks c.loop-address.address [] (omega arith) c.requires.laid_out.each) (λ s p. none-some s (sym c.in_default.is ∙ c.decode.ensures.only s p)))
+    (summary_entries-none _ (ap length c.block-block.ensures.block ∙ length-block_at c.args.segments.now c.loop-address.address c.requires.laid_out (omega arith)) (λ s p. none-some s (sym c.in_default.is ∙ c.decode.ensures.only s p)))
     c.loop-address.invariant.rest
 
 pub loop-address-preserved : goal.loop-address-preserved
