@@ -1,0 +1,3 @@
+pub mod InfosLemmas
+pub mod PackingLemmas
+pub mod ScanLemmas
