@@ -1,0 +1,3 @@
+pub mod FrameLists
+pub mod Links
+pub mod Places

@@ -1,0 +1,44 @@
+//! The links between frames. Each queue is a ring of frames through its head, so that no link is missing.
+ghost use Rattle.std.specs.Prelude.{◌≡◌, ◌<◌, vec_len};
+ghost use Rattle.std.specs.Vec.{vec_ptr};
+ghost use Rattle.lfs_recency.specs.Places.{IsItemPlace};
+ghost use Rattle.lfs_recency.specs.Links.{frame_size, next_at, prev_at, unlinked, linked_after};
+
+use crate::frame::Frame;
+use crate::place::{item_at_mut, place_of};
+use crate::queue::Queue;
+
+/// Takes a frame out of its ring: its two neighbours are linked to one another.
+pub(crate) fn unlink(frames: &mut Vec<Frame>, number: usize)
+    requires in_range { number < vec_len frames.old }
+    requires next { IsItemPlace frame_size (vec_ptr frames.old) (vec_len frames.old) (next_at frames.old.items number) }
+    requires prev { IsItemPlace frame_size (vec_ptr frames.old) (vec_len frames.old) (prev_at frames.old.items number) }
+    ensures items { frames.new.items ≡ unlinked (vec_ptr frames.old) number frames.old.items }
+    ensures place { vec_ptr frames.new ≡ vec_ptr frames.old }
+    ensures len { vec_len frames.new ≡ vec_len frames.old }
+{
+    let prev = frames[number].prev;
+    let next = frames[number].next;
+    item_at_mut(frames, prev).next = next;
+    item_at_mut(frames, next).prev = prev;
+}
+
+/// Links a frame in right after the head of a ring.
+pub(crate) fn link_front(frames: &mut Vec<Frame>, head: usize, number: usize, queue: Queue)
+    requires head { head < vec_len frames.old }
+    requires in_range { number < vec_len frames.old }
+    requires next { IsItemPlace frame_size (vec_ptr frames.old) (vec_len frames.old) (next_at frames.old.items head) }
+    ensures items { frames.new.items ≡ linked_after (vec_ptr frames.old) head number queue frames.old.items }
+    ensures place { vec_ptr frames.new ≡ vec_ptr frames.old }
+    ensures len { vec_len frames.new ≡ vec_len frames.old }
+{
+    let this = place_of(frames, number);
+    let before = place_of(frames, head);
+    let after = frames[head].next;
+    let frame = &mut frames[number];
+    frame.prev = before;
+    frame.next = after;
+    frame.queue = queue;
+    item_at_mut(frames, after).prev = this;
+    item_at_mut(frames, before).next = this;
+}
