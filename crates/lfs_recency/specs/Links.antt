@@ -6,7 +6,7 @@ use Rattle.lfs_recency.specs.declared.queue.Queue.{Queue}
 use Rattle.lfs_recency.specs.declared.queue.Queue.TheVariants.{Locked, Lru, Age, Empty}
 use Rattle.lfs_recency.specs.declared.frame.Frame.{Frame}
 use Rattle.lfs_recency.specs.contracts.frame.Frame.{the_row as frame_row}
-use Rattle.lfs_recency.specs.FrameLists.{FrameLists, listed}
+use Rattle.lfs_recency.specs.FrameLists.{FrameLists, listed, IsWhole}
 use Rattle.lfs_recency.specs.Places.{item_place, item_number, IsItemPlace}
 
 abbrev pub frame_size : ℕ
@@ -64,45 +64,52 @@ abbrev pub Every : (ℕ → Type 0) → List ℕ → Type 0
 Every P [] = Unit {0}
 Every P (x ∷ xs) = P x × Every P xs
 
--- the links as numbers of frames
-abbrev pub step_by : Ptr → (ℕ → Ptr) → ℕ → ℕ
-step_by base link i = item_number frame_size base (link i)
+module _ (size : ℕ) (base : Ptr) where
+  -- a link as the number of the frame that it leads to
+  abbrev pub step_by : (ℕ → Ptr) → ℕ → ℕ
+  step_by link i = item_number size base (link i)
 
--- n frames and their heads, whose items begin at base, are linked as the lists say, all but the one of the number `but`
-pub record IsLinked (base : Ptr) (n : ℕ) (next prev : ℕ → Ptr) (number : ℕ → ℕ) (queue : ℕ → Queue) (but : ℕ) (s : FrameLists) : Type 0 where
-  pub places : (i : ℕ) → i < n + 4 → IsItemPlace frame_size base (n + 4) (next i) × IsItemPlace frame_size base (n + 4) (prev i)
-  pub forth : (i : ℕ) → i < n + 4 → i ≢ but → (step_by base prev (step_by base next i) ≡ i) × (step_by base next i ≢ but)
-  pub back : (i : ℕ) → i < n + 4 → i ≢ but → (step_by base next (step_by base prev i) ≡ i) × (step_by base prev i ≢ but)
+  -- the links after frame f has left its ring: its neighbours lead to one another
+  abbrev pub unlinked : ℕ → List Frame → List Frame
+  unlinked f fs = with_prev (with_next fs (step_by (prev_at fs) f) (next_at fs f)) (step_by (next_at fs) f) (prev_at fs f)
+
+  -- frame f between the head of a queue and what follows that
+  abbrev pub placed_after : ℕ → ℕ → Queue → List Frame → List Frame
+  placed_after head f q fs = slice_set fs f (record (frame_at fs f) { prev = item_place size base head; next = next_at fs head; queue = q })
+
+  -- the links after frame f has come right after the head of a queue
+  abbrev pub linked_after : ℕ → ℕ → Queue → List Frame → List Frame
+  linked_after head f q fs = with_next (with_prev (placed_after head f q fs) (step_by (next_at fs) head) (item_place size base f)) head (item_place size base f)
+
+  -- the numbers in the ring of a queue, of n frames
+  abbrev pub ring : ℕ → List Frame → Queue → List ℕ
+  ring n fs q = chain (step_by (next_at fs)) n n (step_by (next_at fs) (head_of n q))
+
+  -- the lists that the links show
+  abbrev pub shown : ℕ → List Frame → FrameLists
+  shown n fs = record { locked = ring n fs Locked; lru = ring n fs Lru; age = ring n fs Age; empty = ring n fs Empty; blocks = take n (map (λ f. f.bytes) fs) }
+
+-- n frames and then their heads, which lie from base on, are linked as the lists say, all but the one of the number `but`
+pub record IsLinked (size : ℕ) (base : Ptr) (n : ℕ) (next prev : ℕ → Ptr) (number : ℕ → ℕ) (queue : ℕ → Queue) (but : ℕ) (s : FrameLists) : Type 0 where
+  pub places : (i : ℕ) → i < n + 4 → IsItemPlace size base (n + 4) (next i) × IsItemPlace size base (n + 4) (prev i)
+  pub forth : (i : ℕ) → i < n + 4 → i ≢ but → (step_by size base prev (step_by size base next i) ≡ i) × (step_by size base next i ≢ but)
+  pub back : (i : ℕ) → i < n + 4 → i ≢ but → (step_by size base next (step_by size base prev i) ≡ i) × (step_by size base prev i ≢ but)
   pub numbers : (i : ℕ) → i < n + 4 → number i ≡ min i n
-  pub rings : (q : Queue) → IsPath (step_by base next) (head_of n q) (listed q s) (head_of n q)
+  pub rings : (q : Queue) → IsPath (step_by size base next) (head_of n q) (listed q s) (head_of n q)
   pub members : (q : Queue) → Every (λ i. (i < n) × (queue i ≡ q)) (listed q s)
 
 -- the same of a list of frames
-abbrev pub AreLinked : Ptr → ℕ → List Frame → ℕ → FrameLists → Type 0
-AreLinked base n fs but s = IsLinked base n (next_at fs) (prev_at fs) (number_at fs) (queue_at fs) but s
+abbrev pub AreLinked : ℕ → Ptr → ℕ → ℕ → FrameLists → List Frame → Type 0
+AreLinked size base n but s fs = IsLinked size base n (next_at fs) (prev_at fs) (number_at fs) (queue_at fs) but s
 
--- the lists that the links show
-abbrev pub ring : Ptr → ℕ → List Frame → Queue → List ℕ
-ring base n fs q = chain (step_by base (next_at fs)) n n (step_by base (next_at fs) (head_of n q))
+-- how many numbers stand in the four lists
+abbrev pub count_all : FrameLists → ℕ
+count_all s = length s.locked + length s.lru + length s.age + length s.empty
 
-abbrev pub shown : Ptr → ℕ → List Frame → FrameLists
-shown base n fs = record {
-  locked = ring base n fs Locked;
-  lru = ring base n fs Lru;
-  age = ring base n fs Age;
-  empty = ring base n fs Empty;
-  blocks = map (λ f. f.bytes) (take n fs);
-}
-
--- the links after frame f has left its ring: its neighbours lead to one another
-abbrev pub unlinked : Ptr → ℕ → List Frame → List Frame
-unlinked base f fs =
-    let before = item_number frame_size base (prev_at fs f) in let after = item_number frame_size base (next_at fs f) in
-    with_prev (with_next fs before (next_at fs f)) after (prev_at fs f)
-
--- the links after frame f has come right after the head of a queue
-abbrev pub linked_after : Ptr → ℕ → ℕ → Queue → List Frame → List Frame
-linked_after base head f q fs =
-    let first = item_number frame_size base (next_at fs head) in
-    let own = slice_set fs f (record (frame_at fs f) { prev = item_place frame_size base head; next = next_at fs head; queue = q }) in
-    with_next (with_prev own first (item_place frame_size base f)) head (item_place frame_size base f)
+-- n frames and their heads are linked as the lists say that the links show, and these hold each number once
+pub record AreKept (size : ℕ) (base : Ptr) (n : ℕ) (fs : List Frame) : Type 0 where
+  pub long : length fs ≡ n + 4
+  pub inside : InBlock base
+  pub linked : AreLinked size base n (n + 4) (shown size base n fs) fs
+  pub whole : IsWhole (shown size base n fs)
+  pub counted : count_all (shown size base n fs) ≡ n

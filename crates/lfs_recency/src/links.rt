@@ -13,7 +13,7 @@ pub(crate) fn unlink(frames: &mut Vec<Frame>, number: usize)
     requires in_range { number < vec_len frames.old }
     requires next { IsItemPlace frame_size (vec_ptr frames.old) (vec_len frames.old) (next_at frames.old.items number) }
     requires prev { IsItemPlace frame_size (vec_ptr frames.old) (vec_len frames.old) (prev_at frames.old.items number) }
-    ensures items { frames.new.items ≡ unlinked (vec_ptr frames.old) number frames.old.items }
+    ensures items { frames.new.items ≡ unlinked frame_size (vec_ptr frames.old) number frames.old.items }
     ensures place { vec_ptr frames.new ≡ vec_ptr frames.old }
     ensures len { vec_len frames.new ≡ vec_len frames.old }
 {
@@ -28,7 +28,7 @@ pub(crate) fn link_front(frames: &mut Vec<Frame>, head: usize, number: usize, qu
     requires head { head < vec_len frames.old }
     requires in_range { number < vec_len frames.old }
     requires next { IsItemPlace frame_size (vec_ptr frames.old) (vec_len frames.old) (next_at frames.old.items head) }
-    ensures items { frames.new.items ≡ linked_after (vec_ptr frames.old) head number queue frames.old.items }
+    ensures items { frames.new.items ≡ linked_after frame_size (vec_ptr frames.old) head number queue frames.old.items }
     ensures place { vec_ptr frames.new ≡ vec_ptr frames.old }
     ensures len { vec_len frames.new ≡ vec_len frames.old }
 {

@@ -1,0 +1,4 @@
+pub mod Fields
+pub mod Linked
+pub mod Lists
+pub mod Rings
