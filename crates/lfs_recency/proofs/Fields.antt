@@ -4,6 +4,7 @@ use Rattle.std.proofs.Math.ListN.{get_or, set, length-set}
 use Rattle.std.proofs.Math.Nat.{mul-div_cancel}
 use Rattle.std.proofs.Math.Seq.{map-set_same}
 use Rattle.std.specs.Prelude.{map}
+use Rattle.std.proofs.slice.Lists.{any-default}
 use Rattle.std.proofs.lemmas.List.{get_or-set_same, get_or-set_other}
 use Rattle.std.proofs.lemmas.Bool.Decides.{eqb_tells}
 use denote.RawPtr.{Ptr, block_ptr, null_ptr, InBlock}
@@ -22,6 +23,10 @@ number-place size null_ptr i pos inside = absurd inside
 pub place-is_place : (size : ℕ) (base : Ptr) (len i : ℕ) → 0 < size → InBlock base → i < len → IsItemPlace size base len (item_place size base i)
 place-is_place size base len i pos inside below =
     (ap (item_place size base) (sym (number-place size base i pos inside)), subst (λ k. k < len) (sym (number-place size base i pos inside)) below)
+
+-- what an index shows is the frame there
+pub frame_is : (fs : List Frame) (i : ℕ) (x : Frame) → i < length fs → x ≡ get_or fs i x → x ≡ frame_at fs i
+frame_is fs i x inside e = e ∙ sym (any-default fs i no_frame x inside)
 
 -- a field of frame j after frame i is written
 module _ {X : Type 0} (field : Frame → X) (fs : List Frame) (i : ℕ) (new : Frame) where

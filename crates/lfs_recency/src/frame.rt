@@ -1,4 +1,7 @@
-//! A frame, and the changes of its links.
+//! A frame.
+ghost use Rattle.std.specs.Prelude.{◌≡◌, ◌<◌, vec_len, slice_index_or};
+ghost use Rattle.std.specs.Borrow.{sem};
+ghost use Rattle.lfs_recency.specs.FrameLends.{LendsBytes};
 
 use crate::queue::Queue;
 use std::marker::Send;
@@ -14,3 +17,13 @@ pub struct Frame {
 }
 
 unsafe impl Send for Frame {}
+
+impl Frame {
+    pub(crate) fn bytes_mut(&mut self) -> &mut [u8; 512]
+        ensures* writes_back { sem 𝓛 (LendsBytes self.entry result) }
+        ensures value { result.now ≡ self.old.bytes }
+    {
+        &mut self.bytes
+    }
+}
+

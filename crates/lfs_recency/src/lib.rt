@@ -2,8 +2,10 @@
 #![tactic(auto)]
 
 mod frame;
+mod frames;
 mod links;
 mod place;
 mod queue;
 
+pub use frames::Frames;
 pub use queue::Queue;

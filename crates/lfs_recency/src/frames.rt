@@ -1,0 +1,98 @@
+//! The frames of a cache in four queues.
+ghost use Rattle.std.specs.Prelude.{◌≡◌, ◌<◌, IfOk, [], length, slice_index_or, slice_set};
+ghost use Rattle.std.specs.Borrow.{Lends, sem, Array, u8 as byte};
+ghost use Rattle.lfs_recency.specs.Links.{head_of as head_after};
+ghost use Rattle.lfs_recency.specs.FrameLists.{frame_count, listed, fronted, times, oldest_of, descending, IsWhole};
+
+use crate::frame::Frame;
+use crate::links::{link_front, unlink};
+use crate::place::{item_at, place_of};
+use crate::queue::Queue;
+use std::alloc::{AllocError, Global};
+use std::marker::Model;
+
+/// Frames of 512 bytes, each in one of four queues (after 4.4BSD's buffer cache).
+///
+/// A frame goes by its number. Contracts see the queues as lists of numbers, newest first, and the bytes by number.
+#[derive(Drop)]
+pub struct Frames {
+    // The frames and then the heads of the queues, in one block that never moves.
+    frames: Vec<Frame>,
+    // How many are no heads.
+    count: u32,
+}
+
+impl Model for Frames {
+    ghost use Rattle.std.specs.Vec.{vec_ptr};
+    ghost use Rattle.lfs_recency.specs.FrameLists.{FrameLists};
+
+    ghost Value = { FrameLists };
+
+    ghost use Rattle.lfs_recency.specs.Links.{frame_size, shown, AreKept};
+
+    ghost view = { λ f. shown frame_size (vec_ptr f.frames) f.count f.frames.items };
+
+    ghost invariant = { λ f. AreKept frame_size (vec_ptr f.frames) f.count f.frames.items };
+}
+
+// Where the head of a queue stands, after the frames.
+fn head_of(count: u32, queue: Queue) -> usize
+    ensures { result ≡ head_after count queue }
+{
+    let count = count as usize;
+    match queue {
+        Queue::Locked => count,
+        Queue::Lru => count + 1,
+        Queue::Age => count + 2,
+        Queue::Empty => count + 3,
+    }
+}
+
+impl Frames {
+    ghost use Rattle.lfs_recency.specs.Lending.{LendsBlock};
+
+    /// The queue that a frame is in.
+    pub fn queue(&self, frame: u32) -> Queue
+        requires { frame < frame_count self.now }
+        ensures { 0 < times frame (listed result self.now) }
+    {
+        self.frames[frame as usize].queue
+    }
+
+    /// Moves a frame from its queue to the front of a queue. All others stay in order.
+    pub fn to_front(&mut self, frame: u32, queue: Queue)
+        requires { frame < frame_count self.old }
+        ensures moved { self.new ≡ fronted frame queue self.old }
+        ensures whole { IsWhole self.new }
+    {
+        let head = head_of(self.count, queue);
+        unlink(&mut self.frames, frame as usize);
+        link_front(&mut self.frames, head, frame as usize, queue);
+    }
+
+    /// The frame that was longest ago moved to the front of a queue.
+    pub fn oldest(&self, queue: Queue) -> Option<u32>
+        ensures { result ≡ oldest_of (listed queue self.now) }
+    {
+        let head = head_of(self.count, queue);
+        let last = item_at(&self.frames, self.frames[head].prev).number;
+        if last < self.count { Some(last) } else { None }
+    }
+
+    /// The bytes of a frame.
+    pub fn bytes(&self, frame: u32) -> &[u8; 512]
+        requires { frame < frame_count self.now }
+        ensures { result.now ≡ slice_index_or self.now.blocks frame [] }
+    {
+        &self.frames[frame as usize].bytes
+    }
+
+    /// The bytes of a frame, to be written.
+    pub fn bytes_mut(&mut self, frame: u32) -> &mut [u8; 512]
+        requires { frame < frame_count self.old }
+        ensures* writes_back { sem 𝓛 (LendsBlock self.entry frame result) }
+        ensures value { result.now ≡ slice_index_or self.old.blocks frame [] }
+    {
+        self.frames[frame as usize].bytes_mut()
+    }
+}
