@@ -1,4 +1,5 @@
 pub mod Fields
+pub mod Filled
 pub mod Kept
 pub mod Linked
 pub mod Lists

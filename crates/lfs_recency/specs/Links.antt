@@ -1,12 +1,12 @@
 -- The frames as they are linked: the frames proper and then a head for each queue, each link a pointer.
-use Rattle.std.specs.Prelude.{◌≡◌, ◌≢◌, ℕ, zero, suc, ◌+◌, ◌<◌, Bool, cond, nat_lt, min, List, [], ◌∷◌, map, take, length, slice_index_or, slice_set}
+use Rattle.std.specs.Prelude.{◌≡◌, ◌≢◌, ℕ, zero, suc, ◌+◌, ◌<◌, ◌≤◌, Bool, cond, nat_lt, min, List, [], ◌∷◌, map, take, length, slice_index_or, slice_set}
 use Rattle.std.specs.Mem.{type_size}
 use denote.RawPtr.{Ptr, null_ptr, InBlock}
 use Rattle.lfs_recency.specs.declared.queue.Queue.{Queue}
 use Rattle.lfs_recency.specs.declared.queue.Queue.TheVariants.{Locked, Lru, Age, Empty}
 use Rattle.lfs_recency.specs.declared.frame.Frame.{Frame}
 use Rattle.lfs_recency.specs.contracts.frame.Frame.{the_row as frame_row}
-use Rattle.lfs_recency.specs.FrameLists.{FrameLists, listed, IsWhole}
+use Rattle.lfs_recency.specs.FrameLists.{FrameLists, listed, descending, IsWhole}
 use Rattle.lfs_recency.specs.Places.{item_place, item_number, IsItemPlace}
 
 abbrev pub frame_size : ℕ
@@ -113,3 +113,28 @@ pub record AreKept (size : ℕ) (base : Ptr) (n : ℕ) (fs : List Frame) : Type 
   pub linked : AreLinked size base n (n + 4) (shown size base n fs) fs
   pub whole : IsWhole (shown size base n fs)
   pub counted : count_all (shown size base n fs) ≡ n
+
+-- n frames and their heads, not yet linked
+pub record AreBlank (n : ℕ) (fs : List Frame) : Type 0 where
+  pub long : length fs ≡ n + 4
+  pub numbers : (i : ℕ) → i < n + 4 → number_at fs i ≡ min i n
+
+-- n frames and their heads, each in a ring of its own
+pub record AreAlone (size : ℕ) (base : Ptr) (n : ℕ) (fs : List Frame) : Type 0 where
+  pub long : length fs ≡ n + 4
+  pub inside : InBlock base
+  pub numbers : (i : ℕ) → i < n + 4 → number_at fs i ≡ min i n
+  pub next : (i : ℕ) → i < n + 4 → next_at fs i ≡ item_place size base i
+  pub prev : (i : ℕ) → i < n + 4 → prev_at fs i ≡ item_place size base i
+
+-- the lists when the first i of n frames are in EMPTY, and the others in no queue yet
+abbrev pub first_lists : ℕ → ℕ → List Frame → FrameLists
+first_lists n i fs = record { locked = []; lru = []; age = []; empty = descending i; blocks = take n (map (λ f. f.bytes) fs) }
+
+-- the first i of n frames are in EMPTY, and each other one is in a ring of its own
+pub record AreFilled (size : ℕ) (base : Ptr) (n i : ℕ) (fs : List Frame) : Type 0 where
+  pub long : length fs ≡ n + 4
+  pub inside : InBlock base
+  pub linked : AreLinked size base n (n + 4) (first_lists n i fs) fs
+  pub next : (k : ℕ) → i ≤ k → k < n → next_at fs k ≡ item_place size base k
+  pub prev : (k : ℕ) → i ≤ k → k < n → prev_at fs k ≡ item_place size base k

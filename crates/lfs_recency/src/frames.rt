@@ -1,12 +1,13 @@
 //! The frames of a cache in four queues.
 ghost use Rattle.std.specs.Prelude.{◌≡◌, ◌<◌, IfOk, [], length, slice_index_or, slice_set};
 ghost use Rattle.std.specs.Borrow.{Lends, sem, Array, u8 as byte};
-ghost use Rattle.lfs_recency.specs.Links.{head_of as head_after};
+ghost use Rattle.lfs_recency.specs.Links.{head_of as head_after, frame_size as frame_bytes, AreAlone, AreFilled};
+ghost use Rattle.std.specs.Vec.{vec_ptr};
 ghost use Rattle.lfs_recency.specs.FrameLists.{frame_count, listed, fronted, times, oldest_of, descending, IsWhole};
 
-use crate::frame::Frame;
-use crate::links::{link_front, unlink};
-use crate::place::{item_at, place_of};
+use crate::frame::{Frame, blank_frames};
+use crate::links::{link_alone, link_front, unlink};
+use crate::place::item_at;
 use crate::queue::Queue;
 use std::alloc::{AllocError, Global};
 use std::marker::Model;
@@ -48,8 +49,31 @@ fn head_of(count: u32, queue: Queue) -> usize
     }
 }
 
+// Links frames that are each in a ring of their own into EMPTY, one after another.
+fn link_all(frames: &mut Vec<Frame>, count: u32)
+    requires { AreAlone frame_bytes (vec_ptr frames.old) count frames.old.items }
+    ensures { AreFilled frame_bytes (vec_ptr frames.new) count count frames.new.items }
+{
+    let head = head_of(count, Queue::Empty);
+    for number in 0..count as usize {
+        link_front(frames, head, number, Queue::Empty);
+    }
+}
+
 impl Frames {
     ghost use Rattle.lfs_recency.specs.Lending.{LendsBlock};
+
+    /// As many frames as `count` says, all in EMPTY, the frame 0 oldest.
+    pub fn new(alloc: Global, count: u32) -> Result<Frames, AllocError>
+        ensures lists { IfOk result (λ s. (s.locked ≡ []) × (s.lru ≡ []) × (s.age ≡ []) × (s.empty ≡ descending count)) }
+        ensures count { IfOk result (λ s. frame_count s ≡ count) }
+        ensures whole { IfOk result IsWhole }
+    {
+        let mut frames = blank_frames(alloc, count)?;
+        link_alone(&mut frames, count);
+        link_all(&mut frames, count);
+        Ok(Frames { frames, count })
+    }
 
     /// The queue that a frame is in.
     pub fn queue(&self, frame: u32) -> Queue

@@ -2,11 +2,24 @@
 ghost use Rattle.std.specs.Prelude.{◌≡◌, ◌<◌, vec_len};
 ghost use Rattle.std.specs.Vec.{vec_ptr};
 ghost use Rattle.lfs_recency.specs.Places.{IsItemPlace};
-ghost use Rattle.lfs_recency.specs.Links.{frame_size, next_at, prev_at, unlinked, linked_after};
+ghost use Rattle.lfs_recency.specs.Links.{frame_size, next_at, prev_at, unlinked, linked_after, AreBlank, AreAlone};
 
 use crate::frame::Frame;
 use crate::place::{item_at_mut, place_of};
 use crate::queue::Queue;
+
+/// Makes each of the frames, and each head after them, a ring of its own.
+pub(crate) fn link_alone(frames: &mut Vec<Frame>, count: u32)
+    requires { AreBlank count frames.old.items }
+    ensures { AreAlone frame_size (vec_ptr frames.new) count frames.new.items }
+{
+    for number in 0..frames.len() {
+        let this = place_of(frames, number);
+        let frame = &mut frames[number];
+        frame.prev = this;
+        frame.next = this;
+    }
+}
 
 /// Takes a frame out of its ring: its two neighbours are linked to one another.
 pub(crate) fn unlink(frames: &mut Vec<Frame>, number: usize)
