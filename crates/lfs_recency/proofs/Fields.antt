@@ -1,5 +1,5 @@
 -- What each frame's fields are after the links have changed.
-use Rattle.std.proofs.Common.{◌≡◌, ◌≢◌, ℕ, ◌+◌, ◌-◌, ◌*◌, ◌/◌, ◌<◌, ◌≤◌, Bool, true, false, cond, ◌==◌, List, [], ◌∷◌, length, refl, sym, ap, subst, ◌∙◌, inl, inr, arith}
+use Rattle.std.proofs.Common.{◌≡◌, ℕ, ◌+◌, ◌-◌, ◌*◌, ◌/◌, ◌<◌, cond, ◌==◌, List, length, refl, sym, ap, subst, ◌∙◌, inl, inr, arith}
 use Rattle.std.proofs.Math.ListN.{get_or, set, length-set}
 use Rattle.std.proofs.Math.Nat.{mul-div_cancel}
 use Rattle.std.proofs.Math.Seq.{map-set_same}
@@ -11,7 +11,7 @@ use denote.RawPtr.{Ptr, block_ptr, null_ptr, InBlock}
 use Rattle.lfs_recency.specs.declared.queue.Queue.{Queue}
 use Rattle.lfs_recency.specs.declared.frame.Frame.{Frame}
 use Rattle.lfs_recency.specs.Places.{item_place, item_number, IsItemPlace}
-use Rattle.lfs_recency.specs.Links.{no_frame, frame_at, next_at, prev_at, number_at, queue_at, with_next, with_prev, step_by, unlinked, placed_after, linked_after}
+use Rattle.lfs_recency.specs.Links.{no_frame, frame_at, next_at, prev_at, number_at, queue_at, with_next, with_prev, step_by, unlinked, linked_after}
 use Rattle.lfs_recency.proofs.Rings.{at_same, at_other}
 
 -- the place of an item tells its number
@@ -32,15 +32,17 @@ frame_is fs i x inside e = e ∙ sym (any-default fs i no_frame x inside)
 module _ {X : Type 0} (field : Frame → X) (fs : List Frame) (i : ℕ) (new : Frame) where
   pub field-set : (j : ℕ) → i < length fs → field (frame_at (set fs i new) j) ≡ cond (j == i) (field new) (field (frame_at fs j))
   field-set j inside =
-      elim (eqb_tells j i) as (λ _. field (frame_at (set fs i new) j) ≡ cond (j == i) (field new) (field (frame_at fs j)))
-      [ inl t ↦ ap (λ k. field (frame_at (set fs i new) k)) t.1 ∙ (ap field (get_or-set_same fs i new no_frame inside) ∙ sym (at_same j i (field new) (field (frame_at fs j)) t.1))
-      | inr t ↦ ap field (get_or-set_other fs i j new no_frame t.1) ∙ sym (at_other j i (field new) (field (frame_at fs j)) t.1) ]
+      elim (eqb_tells j i) as (λ _. field (frame_at (set fs i new) j) ≡ cond (j == i) (field new) (field (frame_at fs j))) [
+        | inl t ↦ ap (λ k. field (frame_at (set fs i new) k)) t.1 ∙ (ap field (get_or-set_same fs i new no_frame inside) ∙ sym (at_same j i (field new) (field (frame_at fs j)) t.1))
+        | inr t ↦ ap field (get_or-set_other fs i j new no_frame t.1) ∙ sym (at_other j i (field new) (field (frame_at fs j)) t.1)
+      ]
 
   pub field-kept : (j : ℕ) → i < length fs → field new ≡ field (frame_at fs i) → field (frame_at (set fs i new) j) ≡ field (frame_at fs j)
   field-kept j inside same =
-      elim (eqb_tells j i) as (λ _. field (frame_at (set fs i new) j) ≡ field (frame_at fs j))
-      [ inl t ↦ ap (λ k. field (frame_at (set fs i new) k)) t.1 ∙ (ap field (get_or-set_same fs i new no_frame inside) ∙ (same ∙ ap (λ k. field (frame_at fs k)) (sym t.1)))
-      | inr t ↦ ap field (get_or-set_other fs i j new no_frame t.1) ]
+      elim (eqb_tells j i) as (λ _. field (frame_at (set fs i new) j) ≡ field (frame_at fs j)) [
+        | inl t ↦ ap (λ k. field (frame_at (set fs i new) k)) t.1 ∙ (ap field (get_or-set_same fs i new no_frame inside) ∙ (same ∙ ap (λ k. field (frame_at fs k)) (sym t.1)))
+        | inr t ↦ ap field (get_or-set_other fs i j new no_frame t.1)
+      ]
 
 module _ (size : ℕ) (base : Ptr) (f : ℕ) (fs : List Frame)
     (before : step_by size base (prev_at fs) f < length fs) (after : step_by size base (next_at fs) f < length fs) where

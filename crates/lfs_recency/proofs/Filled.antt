@@ -1,16 +1,16 @@
 -- The frames are put into EMPTY one after another.
-use Rattle.std.proofs.Common.{◌≡◌, ◌≢◌, ◌⊎◌, ℕ, zero, suc, ◌+◌, ◌<◌, ◌≤◌, Bool, true, false, cond, ◌==◌, nat_lt, min, List, [], ◌∷◌, length, refl, sym, ap, subst, ◌∙◌, inl, inr, zero-add, add-one, arith}
-use Rattle.std.specs.Prelude.{map, take}
+use Rattle.std.proofs.Common.{◌≡◌, ◌≢◌, ℕ, zero, suc, ◌+◌, ◌<◌, ◌≤◌, true, false, cond, ◌==◌, nat_lt, List, [], length, refl, sym, ap, subst, ◌∙◌, inl, inr, zero-add, add-one, arith}
+use Rattle.std.specs.Prelude.{take}
 use Rattle.std.proofs.lemmas.Bool.Decides.{eqb_tells, nat_tests}
-use denote.RawPtr.{Ptr, InBlock}
+use denote.RawPtr.{Ptr}
 use Rattle.lfs_recency.specs.declared.queue.Queue.{Queue}
 use Rattle.lfs_recency.specs.declared.queue.Queue.TheVariants.{Locked, Lru, Age, Empty}
 use Rattle.lfs_recency.specs.declared.frame.Frame.{Frame}
-use Rattle.lfs_recency.specs.FrameLists.{FrameLists, listed, pushed, times, times_in_all, descending}
+use Rattle.lfs_recency.specs.FrameLists.{FrameLists, listed, pushed, times, descending}
 use Rattle.lfs_recency.specs.Places.{item_place, item_number, IsItemPlace}
-use Rattle.lfs_recency.specs.Links.{next_at, prev_at, queue_at, head_of, IsPath, Every, step_by, linked_after, shown, IsLinked, AreLinked, AreKept, AreAlone, AreFilled, first_lists}
-use Rattle.lfs_recency.proofs.Rings.{at_same, at_other}
-use Rattle.lfs_recency.proofs.Lists.{head_high, head_low, less_test}
+use Rattle.lfs_recency.specs.Links.{next_at, prev_at, queue_at, head_of, IsPath, Every, step_by, linked_after, shown, AreLinked, AreKept, AreAlone, AreFilled, first_lists}
+use Rattle.lfs_recency.proofs.Rings.{at_other}
+use Rattle.lfs_recency.proofs.Lists.{head_low, less_test}
 use Rattle.lfs_recency.proofs.Fields.{number-place, place-is_place, linked-next, linked-prev, linked-length, linked-bytes}
 use Rattle.lfs_recency.proofs.Linked.{linked_linked}
 use Rattle.lfs_recency.proofs.Kept.{kept_by}
@@ -26,8 +26,10 @@ filled_none size base n fs pos h =
       long = h.long;
       inside = h.inside;
       linked = record {
-        places = λ i inside. (subst (IsItemPlace size base (n + 4)) (sym (h.next i inside)) (place-is_place size base (n + 4) i pos h.inside inside),
-            subst (IsItemPlace size base (n + 4)) (sym (h.prev i inside)) (place-is_place size base (n + 4) i pos h.inside inside));
+        places = λ i inside. (
+          subst (IsItemPlace size base (n + 4)) (sym (h.next i inside)) (place-is_place size base (n + 4) i pos h.inside inside),
+          subst (IsItemPlace size base (n + 4)) (sym (h.prev i inside)) (place-is_place size base (n + 4) i pos h.inside inside),
+        );
         forth = λ i inside _. (ap (step_by size base (prev_at fs)) (to i inside) ∙ fro i inside, subst (λ k. k ≢ n + 4) (sym (to i inside)) (far i inside));
         back = λ i inside _. (ap (step_by size base (next_at fs)) (fro i inside) ∙ to i inside, subst (λ k. k ≢ n + 4) (sym (fro i inside)) (far i inside));
         numbers = h.numbers;
@@ -58,11 +60,12 @@ times-descending_over f (suc n) over =
 
 descending_step : (f n : ℕ) → times f (descending n) ≡ cond (nat_lt f n) 1 0 → times f (descending (suc n)) ≡ cond (nat_lt f (suc n)) 1 0
 descending_step f n known =
-    elim (eqb_tells n f) as (λ _. times f (descending (suc n)) ≡ cond (nat_lt f (suc n)) 1 0)
-    [ inl t ↦ let on : nat_lt f (suc n) ≡ true = let e = t.1 in less_test f (suc n) (omega arith) in let none = times-descending_over f n (let e = t.1 in omega arith) in
-    ap (λ b. cond b (suc (times f (descending n))) (times f (descending n))) t.0 ∙ (ap suc none ∙ ap (λ b. cond b 1 0) (sym on))
-    | inr t ↦ let ne = t.1 in let same : nat_lt f n ≡ nat_lt f (suc n) = grind (arith, nat_tests) in
-    ap (λ b. cond b (suc (times f (descending n))) (times f (descending n))) t.0 ∙ (known ∙ ap (λ b. cond b 1 0) same) ]
+    elim (eqb_tells n f) as (λ _. times f (descending (suc n)) ≡ cond (nat_lt f (suc n)) 1 0) [
+      | inl t ↦ let on : nat_lt f (suc n) ≡ true = let e = t.1 in less_test f (suc n) (omega arith) in let none = times-descending_over f n (let e = t.1 in omega arith) in
+          ap (λ b. cond b (suc (times f (descending n))) (times f (descending n))) t.0 ∙ (ap suc none ∙ ap (λ b. cond b 1 0) (sym on))
+      | inr t ↦ let ne = t.1 in let same : nat_lt f n ≡ nat_lt f (suc n) = grind (arith, nat_tests) in
+          ap (λ b. cond b (suc (times f (descending n))) (times f (descending n))) t.0 ∙ (known ∙ ap (λ b. cond b 1 0) same)
+    ]
 
 times-descending : (f n : ℕ) → times f (descending n) ≡ cond (nat_lt f n) 1 0
 times-descending f zero = let off : nat_lt f 0 ≡ false = grind (arith, nat_tests) in ap (λ b. cond b 1 0) (sym off)

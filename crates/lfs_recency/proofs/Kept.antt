@@ -1,6 +1,6 @@
 -- What the links show is what the lists say, also after a frame has come to the front of a queue.
-use Rattle.std.proofs.Common.{◌≡◌, ◌≢◌, ◌⊎◌, ℕ, zero, suc, ◌+◌, ◌<◌, ◌≤◌, Bool, true, false, cond, ◌==◌, nat_lt, min, List, [], ◌∷◌, length, refl, sym, ap, subst, ◌∙◌, inl, inr, arith}
-use Rattle.std.specs.Prelude.{map, take, Option, Some, None}
+use Rattle.std.proofs.Common.{◌≡◌, ℕ, ◌+◌, ◌<◌, ◌≤◌, cond, nat_lt, min, List, [], ◌∷◌, length, refl, sym, ap, subst, ◌∙◌, inl, inr, arith}
+use Rattle.std.specs.Prelude.{map, take, Some, None}
 use Rattle.std.proofs.Math.Nat.{eq-zero-or-pos}
 use Rattle.std.proofs.Math.ListN.{get_or, set, length-set}
 use Rattle.std.proofs.Math.Seq.{take-set-lt}
@@ -9,7 +9,7 @@ use denote.RawPtr.{Ptr, InBlock}
 use Rattle.lfs_recency.specs.declared.queue.Queue.{Queue}
 use Rattle.lfs_recency.specs.declared.queue.Queue.TheVariants.{Locked, Lru, Age, Empty}
 use Rattle.lfs_recency.specs.declared.frame.Frame.{Frame}
-use Rattle.lfs_recency.specs.FrameLists.{FrameLists, listed, without, taken, pushed, fronted, times, times_in_all, frame_count, last_from, oldest_of, IsWhole}
+use Rattle.lfs_recency.specs.FrameLists.{FrameLists, listed, taken, fronted, times, times_in_all, frame_count, last_from, oldest_of, IsWhole}
 use Rattle.lfs_recency.specs.Places.{IsItemPlace}
 use Rattle.lfs_recency.specs.FrameLends.{with_bytes}
 use Rattle.lfs_recency.specs.Lending.{with_block}
@@ -38,14 +38,16 @@ frame_count_is n fs long = let bytes : List (List ℕ) = map (λ (f : Frame). f.
 pub kept_by : (size : ℕ) (base : Ptr) (n : ℕ) (s : FrameLists) (fs : List Frame) → length fs ≡ n + 4 → InBlock base → AreLinked size base n (n + 4) s fs
     → s.blocks ≡ take n (map (λ (f : Frame). f.bytes) fs) → count_all s ≡ n → ((g : ℕ) → times_in_all g s ≡ cond (nat_lt g n) 1 0) → AreKept size base n fs × (shown size base n fs ≡ s)
 kept_by size base n s fs long inside linked blocks count whole =
-    let same : shown size base n fs ≡ s = shown_is size base n (n + 4) s fs linked count blocks in
-    (record {
-      long = long;
-      inside = inside;
-      linked = subst (λ t. AreLinked size base n (n + 4) t fs) (sym same) linked;
-      whole = subst IsWhole (sym same) (λ g. whole g ∙ ap (λ k. cond (nat_lt g k) 1 0) (sym (ap length blocks ∙ frame_count_is n fs long)));
-      counted = ap count_all same ∙ count;
-    }, same)
+    let same : shown size base n fs ≡ s = shown_is size base n (n + 4) s fs linked count blocks in (
+      record {
+        long = long;
+        inside = inside;
+        linked = subst (λ t. AreLinked size base n (n + 4) t fs) (sym same) linked;
+        whole = subst IsWhole (sym same) (λ g. whole g ∙ ap (λ k. cond (nat_lt g k) 1 0) (sym (ap length blocks ∙ frame_count_is n fs long)));
+        counted = ap count_all same ∙ count;
+      },
+      same,
+    )
 
 module _ (size : ℕ) (base : Ptr) (pos : 0 < size) (n f : ℕ) (q : Queue) (fs : List Frame) (below : f < n) (h : AreKept size base n fs) where
   abbrev s : FrameLists
@@ -110,11 +112,13 @@ module _ (size : ℕ) (base : Ptr) (pos : 0 < size) (n f : ℕ) (q : Queue) (fs 
 -- a number that stands in the four lists stands in one of them
 some_list : (f : ℕ) (s : FrameLists) → 0 < times_in_all f s → (p : Queue) × (0 < times f (listed p s))
 some_list f s some =
-    elim (eq-zero-or-pos (times f s.locked)) as (λ _. (p : Queue) × (0 < times f (listed p s)))
-    [ inr h ↦ (Locked, h)
-    | inl a ↦ elim (eq-zero-or-pos (times f s.lru)) as (λ _. (p : Queue) × (0 < times f (listed p s)))
-    [ inr h ↦ (Lru, h)
-    | inl b ↦ elim (eq-zero-or-pos (times f s.age)) as (λ _. (p : Queue) × (0 < times f (listed p s))) [ inr h ↦ (Age, h) | inl c ↦ (Empty, omega arith) ] ] ]
+    elim (eq-zero-or-pos (times f s.locked)) as (λ _. (p : Queue) × (0 < times f (listed p s))) [
+      | inr h ↦ (Locked, h)
+      | inl a ↦ elim (eq-zero-or-pos (times f s.lru)) as (λ _. (p : Queue) × (0 < times f (listed p s))) [
+        | inr h ↦ (Lru, h)
+        | inl b ↦ elim (eq-zero-or-pos (times f s.age)) as (λ _. (p : Queue) × (0 < times f (listed p s))) [ inr h ↦ (Age, h) | inl c ↦ (Empty, omega arith) ]
+      ]
+    ]
 
 -- a frame's queue is the one in whose list it stands
 pub queue_is : (size : ℕ) (base : Ptr) (n f : ℕ) (fs : List Frame) → AreKept size base n fs → f < n → 0 < times f (listed (queue_at fs f) (shown size base n fs))

@@ -1,16 +1,14 @@
 -- The frames stay linked, as the lists say, after a frame has left its queue and come into one.
-use Rattle.std.proofs.Common.{◌≡◌, ◌≢◌, ◌⊎◌, ℕ, zero, suc, ◌+◌, ◌<◌, ◌≤◌, Bool, true, false, cond, ◌==◌, nat_lt, min, List, [], ◌∷◌, length, refl, sym, ap, subst, ◌∙◌, inl, inr, arith}
-use Rattle.std.specs.Prelude.{map, take}
+use Rattle.std.proofs.Common.{◌≡◌, ◌≢◌, ℕ, ◌+◌, ◌<◌, Bool, true, false, cond, ◌==◌, List, length, refl, sym, ap, subst, ◌∙◌, inl, inr, arith}
 use denote.RawPtr.{Ptr, InBlock}
 use Rattle.lfs_recency.specs.declared.queue.Queue.{Queue}
-use Rattle.lfs_recency.specs.declared.queue.Queue.TheVariants.{Locked, Lru, Age, Empty}
 use Rattle.lfs_recency.specs.declared.frame.Frame.{Frame}
-use Rattle.lfs_recency.specs.FrameLists.{FrameLists, listed, without, taken, pushed, fronted, times, times_in_all, frame_count, IsWhole}
+use Rattle.lfs_recency.specs.FrameLists.{FrameLists, listed, taken, pushed, times}
 use Rattle.lfs_recency.specs.Places.{item_place, item_number, IsItemPlace}
-use Rattle.lfs_recency.specs.Links.{next_at, prev_at, number_at, queue_at, head_of, chain, IsPath, Every, step_by, unlinked, linked_after, ring, shown, IsLinked, AreLinked, count_all, AreKept}
-use Rattle.lfs_recency.proofs.Lists.{Every-without, Every-map, Every-lacks, Every-both, listed-taken, listed-pushed, head_high, head_low, times-listed, length-listed, length-without, times-without_same, times-without_other, times-taken_same, times-taken_other, whole-pushed, count-pushed, count-taken, blocks-pushed, less_test}
-use Rattle.lfs_recency.proofs.Rings.{at_same, at_other, chain_is, path_kept, path_without, Passes, passes, passed_there, put_at_head, put_at_new, put_elsewhere, put_there, put_back}
-use Rattle.lfs_recency.proofs.Fields.{number-place, place-is_place, unlinked-next, unlinked-prev, unlinked-number, unlinked-queue, unlinked-length, unlinked-bytes, linked-next, linked-prev, linked-number, linked-queue, linked-length, linked-bytes}
+use Rattle.lfs_recency.specs.Links.{next_at, prev_at, queue_at, head_of, IsPath, Every, step_by, unlinked, linked_after, AreLinked}
+use Rattle.lfs_recency.proofs.Lists.{Every-without, Every-map, Every-lacks, Every-both, listed-taken, listed-pushed, head_high, head_low}
+use Rattle.lfs_recency.proofs.Rings.{at_same, at_other, path_kept, path_without, passes, passed_there, put_at_head, put_at_new, put_elsewhere, put_there, put_back}
+use Rattle.lfs_recency.proofs.Fields.{number-place, place-is_place, unlinked-next, unlinked-prev, unlinked-number, unlinked-queue, linked-next, linked-prev, linked-number, linked-queue}
 
 ap-cond : {X Y : Type 0} (g : X → Y) (t : Bool) (x y : X) → g (cond t x y) ≡ cond t (g x) (g y)
 ap-cond g true x y = refl
@@ -82,9 +80,10 @@ module _ (size : ℕ) (base : Ptr) (n f : ℕ) (s : FrameLists) (fs : List Frame
 
   pub unlinked_linked : AreLinked size base n f (taken f s) fs'
   unlinked_linked = record {
-    places = λ i inside.
-        (subst (IsItemPlace size base (n + 4)) (sym (unlinked-next size base f fs before after i)) (cond-has (IsItemPlace size base (n + 4)) (i == back f) (next_at fs f) (next_at fs i) (h.places f f_inside).0 (h.places i inside).0),
-        subst (IsItemPlace size base (n + 4)) (sym (unlinked-prev size base f fs before after i)) (cond-has (IsItemPlace size base (n + 4)) (i == step f) (prev_at fs f) (prev_at fs i) (h.places f f_inside).1 (h.places i inside).1));
+    places = λ i inside. (
+      subst (IsItemPlace size base (n + 4)) (sym (unlinked-next size base f fs before after i)) (cond-has (IsItemPlace size base (n + 4)) (i == back f) (next_at fs f) (next_at fs i) (h.places f f_inside).0 (h.places i inside).0),
+      subst (IsItemPlace size base (n + 4)) (sym (unlinked-prev size base f fs before after i)) (cond-has (IsItemPlace size base (n + 4)) (i == step f) (prev_at fs f) (prev_at fs i) (h.places f f_inside).1 (h.places i inside).1),
+    );
     forth = passed_there (n + 4) f step back step' back' f_inside inner inner_back there again step-is back-is;
     back = passed_there (n + 4) f back step back' step' f_inside inner_back inner again there back-is step-is;
     numbers = λ i inside. unlinked-number size base f fs before after i ∙ h.numbers i inside;
@@ -153,13 +152,15 @@ module _ (size : ℕ) (base : Ptr) (pos : 0 < size) (inside_block : InBlock base
 
   ring_with : (p : Queue) → IsPath to' (head_of n p) (listed p (pushed f q s)) (head_of n p)
   ring_with p =
-      elim (listed-pushed n f s p q) as (λ _. IsPath to' (head_of n p) (listed p (pushed f q s)) (head_of n p))
-      [ inl t ↦ subst (λ xs. IsPath to' (head_of n p) xs (head_of n p)) (sym t.1)
-      (ap (λ r. to' (head_of n r)) t.0 ∙ put_at_head (n + 4) f hd to fro to' fro' hd_inside apart h.forth h.back to-is fro-is,
-      path_kept to to' f (head_of n p) (listed p s) (head_of n p) (put_at_new (n + 4) f hd to fro to' fro' hd_inside apart h.forth h.back to-is fro-is ∙ ap (λ r. to (head_of n r)) (sym t.0)) (elsewhere p) (h.rings p))
-      | inr t ↦ subst (λ xs. IsPath to' (head_of n p) xs (head_of n p)) (sym t.1)
-      (path_kept to to' (head_of n p) (head_of n p) (listed p s) (head_of n p)
-      (put_elsewhere (n + 4) f hd to fro to' fro' hd_inside apart h.forth h.back to-is fro-is (head_of n p) t.0 (λ e. let high = head_high n p in omega arith)) (elsewhere p) (h.rings p)) ]
+      elim (listed-pushed n f s p q) as (λ _. IsPath to' (head_of n p) (listed p (pushed f q s)) (head_of n p)) [
+        | inl t ↦ subst (λ xs. IsPath to' (head_of n p) xs (head_of n p)) (sym t.1) (
+          ap (λ r. to' (head_of n r)) t.0 ∙ put_at_head (n + 4) f hd to fro to' fro' hd_inside apart h.forth h.back to-is fro-is,
+          path_kept to to' f (head_of n p) (listed p s) (head_of n p) (put_at_new (n + 4) f hd to fro to' fro' hd_inside apart h.forth h.back to-is fro-is ∙ ap (λ r. to (head_of n r)) (sym t.0)) (elsewhere p) (h.rings p),
+        )
+        | inr t ↦ subst (λ xs. IsPath to' (head_of n p) xs (head_of n p)) (sym t.1)
+            (path_kept to to' (head_of n p) (head_of n p) (listed p s) (head_of n p)
+            (put_elsewhere (n + 4) f hd to fro to' fro' hd_inside apart h.forth h.back to-is fro-is (head_of n p) t.0 (λ e. let high = head_high n p in omega arith)) (elsewhere p) (h.rings p))
+      ]
 
   member_new : queue_at ls f ≡ q
   member_new = linked-queue size base hd f q fs new front follows f ∙ at_same f f q (queue_at fs f) refl
@@ -172,9 +173,10 @@ module _ (size : ℕ) (base : Ptr) (pos : 0 < size) (inside_block : InBlock base
 
   members_with : (p : Queue) → Every (λ i. (i < n) × (queue_at ls i ≡ p)) (listed p (pushed f q s))
   members_with p =
-      elim (listed-pushed n f s p q) as (λ _. Every (λ i. (i < n) × (queue_at ls i ≡ p)) (listed p (pushed f q s)))
-      [ inl t ↦ subst (Every (λ i. (i < n) × (queue_at ls i ≡ p))) (sym t.1) ((below, member_new ∙ sym t.0), member_old p)
-      | inr t ↦ subst (Every (λ i. (i < n) × (queue_at ls i ≡ p))) (sym t.1) (member_old p) ]
+      elim (listed-pushed n f s p q) as (λ _. Every (λ i. (i < n) × (queue_at ls i ≡ p)) (listed p (pushed f q s))) [
+        | inl t ↦ subst (Every (λ i. (i < n) × (queue_at ls i ≡ p))) (sym t.1) ((below, member_new ∙ sym t.0), member_old p)
+        | inr t ↦ subst (Every (λ i. (i < n) × (queue_at ls i ≡ p))) (sym t.1) (member_old p)
+      ]
 
   place_next : (i : ℕ) → i < n + 4 → IsItemPlace size base (n + 4) (next_at ls i)
   place_next i inside =

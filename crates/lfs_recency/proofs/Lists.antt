@@ -1,5 +1,5 @@
 -- The lists of the queues after a number has left them or come in.
-use Rattle.std.proofs.Common.{◌≡◌, ◌≢◌, ◌⊎◌, ℕ, zero, suc, ◌+◌, ◌<◌, ◌≤◌, Bool, true, false, cond, ◌==◌, nat_lt, List, [], ◌∷◌, length, refl, sym, ap, subst, ◌∙◌, inl, inr, zero-add, arith}
+use Rattle.std.proofs.Common.{◌≡◌, ◌≢◌, ◌⊎◌, ℕ, suc, ◌+◌, ◌<◌, ◌≤◌, Bool, true, false, cond, ◌==◌, nat_lt, List, [], ◌∷◌, length, refl, sym, ap, subst, ◌∙◌, inl, inr, zero-add, arith}
 use Rattle.std.proofs.lemmas.Bool.Decides.{eqb_tells, nat_tests}
 use Rattle.lfs_recency.specs.declared.queue.Queue.{Queue}
 use Rattle.lfs_recency.specs.declared.queue.Queue.TheVariants.{Locked, Lru, Age, Empty}
@@ -23,9 +23,10 @@ times-without_same f (x ∷ xs) =
 
 times_step : (f g x : ℕ) (xs : List ℕ) → g ≢ f → times g (without f xs) ≡ times g xs → times g (without f (x ∷ xs)) ≡ times g (x ∷ xs)
 times_step f g x xs ne known =
-    elim (eqb_tells x f) as (λ _. times g (without f (x ∷ xs)) ≡ times g (x ∷ xs))
-    [ inl h ↦ let off : (x == g) ≡ false = other_test x g (λ e. ne (sym e ∙ h.1)) in simp (h.0, off) known
-    | inr h ↦ simp h.0 (ap (λ k. cond (x == g) (suc k) k) known) ]
+    elim (eqb_tells x f) as (λ _. times g (without f (x ∷ xs)) ≡ times g (x ∷ xs)) [
+      | inl h ↦ let off : (x == g) ≡ false = other_test x g (λ e. ne (sym e ∙ h.1)) in simp (h.0, off) known
+      | inr h ↦ simp h.0 (ap (λ k. cond (x == g) (suc k) k) known)
+    ]
 
 pub times-without_other : (f g : ℕ) (xs : List ℕ) → g ≢ f → times g (without f xs) ≡ times g xs
 times-without_other f g [] ne = refl
@@ -60,9 +61,10 @@ module _ (P : ℕ → Type 0) where
 pub Every-lacks : (f : ℕ) (xs : List ℕ) → times f xs ≡ 0 → Every (λ i. i ≢ f) xs
 Every-lacks f [] h = tt
 Every-lacks f (x ∷ xs) h =
-    elim (eqb_tells x f) as (λ _. Every (λ i. i ≢ f) (x ∷ xs))
-    [ inl t ↦ absurd (let none : suc (times f xs) ≡ 0 = subst (λ (b : Bool). cond b (suc (times f xs)) (times f xs) ≡ 0) t.0 h in omega arith)
-    | inr t ↦ (t.1, Every-lacks f xs (subst (λ (b : Bool). cond b (suc (times f xs)) (times f xs) ≡ 0) t.0 h)) ]
+    elim (eqb_tells x f) as (λ _. Every (λ i. i ≢ f) (x ∷ xs)) [
+      | inl t ↦ absurd (let none : suc (times f xs) ≡ 0 = subst (λ (b : Bool). cond b (suc (times f xs)) (times f xs) ≡ 0) t.0 h in omega arith)
+      | inr t ↦ (t.1, Every-lacks f xs (subst (λ (b : Bool). cond b (suc (times f xs)) (times f xs) ≡ 0) t.0 h))
+    ]
 
 pub Every-both : (P Q : ℕ → Type 0) (xs : List ℕ) → Every P xs → Every Q xs → Every (λ i. P i × Q i) xs
 Every-both P Q [] h k = tt
@@ -155,7 +157,8 @@ length-listed s Empty = omega arith
 pub whole-pushed : (n f : ℕ) (s : FrameLists) (q : Queue) → f < n → ((g : ℕ) → g ≢ f → times_in_all g s ≡ cond (nat_lt g n) 1 0) → times_in_all f s ≡ 0
     → (g : ℕ) → times_in_all g (pushed f q s) ≡ cond (nat_lt g n) 1 0
 whole-pushed n f s q below others none g =
-    elim (eqb_tells f g) as (λ _. times_in_all g (pushed f q s) ≡ cond (nat_lt g n) 1 0)
-    [ inl t ↦ let on : nat_lt g n ≡ true = subst (λ k. nat_lt k n ≡ true) t.1 (less_test f n below) in
-    times-pushed f g s q ∙ (ap (λ b. cond b 1 0 + times_in_all g s) t.0 ∙ (ap (λ k. 1 + times_in_all k s) (sym t.1) ∙ (ap (λ k. 1 + k) none ∙ ap (λ b. cond b 1 0) (sym on))))
-    | inr t ↦ times-pushed f g s q ∙ (ap (λ b. cond b 1 0 + times_in_all g s) t.0 ∙ (zero-add (times_in_all g s) ∙ others g (λ e. t.1 (sym e)))) ]
+    elim (eqb_tells f g) as (λ _. times_in_all g (pushed f q s) ≡ cond (nat_lt g n) 1 0) [
+      | inl t ↦ let on : nat_lt g n ≡ true = subst (λ k. nat_lt k n ≡ true) t.1 (less_test f n below) in
+          times-pushed f g s q ∙ (ap (λ b. cond b 1 0 + times_in_all g s) t.0 ∙ (ap (λ k. 1 + times_in_all k s) (sym t.1) ∙ (ap (λ k. 1 + k) none ∙ ap (λ b. cond b 1 0) (sym on))))
+      | inr t ↦ times-pushed f g s q ∙ (ap (λ b. cond b 1 0 + times_in_all g s) t.0 ∙ (zero-add (times_in_all g s) ∙ others g (λ e. t.1 (sym e))))
+    ]

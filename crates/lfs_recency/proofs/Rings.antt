@@ -1,6 +1,6 @@
 -- Rings as functions from number to number: what a ring is after a number has left it or come in.
-use Rattle.std.proofs.Common.{◌≡◌, ◌≢◌, ℕ, zero, suc, ◌+◌, ◌<◌, ◌≤◌, Bool, true, false, cond, ◌==◌, nat_lt, List, [], ◌∷◌, length, refl, sym, ap, subst, ◌∙◌, inl, inr, arith}
-use Rattle.std.proofs.lemmas.Bool.Decides.{eqb_tells, leb_tells, nat_tests}
+use Rattle.std.proofs.Common.{◌≡◌, ◌≢◌, ℕ, zero, suc, ◌<◌, ◌≤◌, true, false, cond, ◌==◌, nat_lt, List, [], ◌∷◌, length, refl, sym, ap, subst, ◌∙◌, inl, inr, arith}
+use Rattle.std.proofs.lemmas.Bool.Decides.{eqb_tells, nat_tests}
 use Rattle.lfs_recency.specs.FrameLists.{without, last_from}
 use Rattle.lfs_recency.specs.Links.{chain, IsPath, Every}
 use Rattle.lfs_recency.proofs.Lists.{same_test, other_test}
@@ -42,11 +42,12 @@ pub path_without : (step step' : ℕ → ℕ) (m f a b : ℕ) (xs : List ℕ) (z
 path_without step step' m f a b [] z all inner inside here far p = here.0 (λ e. far (sym p ∙ e)) ∙ p
 path_without step step' m f a b (c ∷ cs) z all inner inside here far p =
     let c_inside : c < m = subst (λ k. k < m) p.0 (inner b inside) in
-    elim (eqb_tells c f) as (λ _. IsPath step' a (without f (c ∷ cs)) z)
-    [ inl t ↦ let on = t.0 in rw on (
-      let leads : step' a ≡ step f = here.1 (p.0 ∙ t.1) in
-      path_without step step' m f a c cs z all inner c_inside ((λ _. leads ∙ ap step (sym t.1)), (λ _. leads)) far p.1)
-    | inr t ↦ let off = t.0 in rw off (here.0 (λ e. t.1 (sym p.0 ∙ e)) ∙ p.0, path_without step step' m f c c cs z all inner c_inside (all c c_inside) far p.1) ]
+    elim (eqb_tells c f) as (λ _. IsPath step' a (without f (c ∷ cs)) z) [
+      | inl t ↦ let on = t.0 in rw on (
+          let leads : step' a ≡ step f = here.1 (p.0 ∙ t.1) in
+          path_without step step' m f a c cs z all inner c_inside ((λ _. leads ∙ ap step (sym t.1)), (λ _. leads)) far p.1)
+      | inr t ↦ let off = t.0 in rw off (here.0 (λ e. t.1 (sym p.0 ∙ e)) ∙ p.0, path_without step step' m f c c cs z all inner c_inside (all c c_inside) far p.1)
+    ]
 
 -- f is passed over by the steps forth and by the steps back
 module _ (m f : ℕ) (step back step' back' : ℕ → ℕ)
@@ -57,21 +58,24 @@ module _ (m f : ℕ) (step back step' back' : ℕ → ℕ)
     (again : (i : ℕ) → i < m → step (back i) ≡ i)
     (step-is : (i : ℕ) → step' i ≡ cond (i == back f) (step f) (step i))
     (back-is : (i : ℕ) → back' i ≡ cond (i == step f) (back f) (back i)) where
-
   pub passes : (i : ℕ) → i < m → Passes step step' f i i
-  passes i inside =
-      ((λ ne. step-is i ∙ at_other i (back f) (step f) (step i) (λ e. ne (ap step e ∙ again f f_inside))),
-      (λ e. step-is i ∙ at_same i (back f) (step f) (step i) (sym (there i inside) ∙ ap back e)))
+  passes i inside = (
+    (λ ne. step-is i ∙ at_other i (back f) (step f) (step i) (λ e. ne (ap step e ∙ again f f_inside))),
+    (λ e. step-is i ∙ at_same i (back f) (step f) (step i) (sym (there i inside) ∙ ap back e)),
+  )
 
   pub passed_there : (i : ℕ) → i < m → i ≢ f → (back' (step' i) ≡ i) × (step' i ≢ f)
   passed_there i inside ne =
-      elim (eqb_tells (step i) f) as (λ _. (back' (step' i) ≡ i) × (step' i ≢ f))
-      [ inl t ↦ let leads : step' i ≡ step f = (passes i inside).1 t.1 in
-      (ap back' leads ∙ (back-is (step f) ∙ (at_same (step f) (step f) (back f) (back (step f)) refl ∙ (ap back (sym t.1) ∙ there i inside))),
-      (λ e. ne (sym (there i inside) ∙ (ap back (t.1 ∙ (sym e ∙ leads)) ∙ there f f_inside))))
-      | inr t ↦ let stays : step' i ≡ step i = (passes i inside).0 t.1 in
-      (ap back' stays ∙ (back-is (step i) ∙ (at_other (step i) (step f) (back f) (back (step i)) (λ e. ne (sym (there i inside) ∙ (ap back e ∙ there f f_inside))) ∙ there i inside)),
-      (λ e. t.1 (sym stays ∙ e))) ]
+      elim (eqb_tells (step i) f) as (λ _. (back' (step' i) ≡ i) × (step' i ≢ f)) [
+        | inl t ↦ let leads : step' i ≡ step f = (passes i inside).1 t.1 in (
+          ap back' leads ∙ (back-is (step f) ∙ (at_same (step f) (step f) (back f) (back (step f)) refl ∙ (ap back (sym t.1) ∙ there i inside))),
+          (λ e. ne (sym (there i inside) ∙ (ap back (t.1 ∙ (sym e ∙ leads)) ∙ there f f_inside))),
+        )
+        | inr t ↦ let stays : step' i ≡ step i = (passes i inside).0 t.1 in (
+          ap back' stays ∙ (back-is (step i) ∙ (at_other (step i) (step f) (back f) (back (step i)) (λ e. ne (sym (there i inside) ∙ (ap back e ∙ there f f_inside))) ∙ there i inside)),
+          (λ e. t.1 (sym stays ∙ e)),
+        )
+      ]
 
 -- f is put after h by the steps forth and by the steps back. So far neither led to f
 module _ (m f h : ℕ) (step back step' back' : ℕ → ℕ)
@@ -81,7 +85,6 @@ module _ (m f h : ℕ) (step back step' back' : ℕ → ℕ)
     (again : (i : ℕ) → i < m → i ≢ f → (step (back i) ≡ i) × (back i ≢ f))
     (step-is : (i : ℕ) → step' i ≡ cond (i == h) f (cond (i == f) (step h) (step i)))
     (back-is : (i : ℕ) → back' i ≡ cond (i == step h) f (cond (i == f) h (back i))) where
-
   pub put_at_head : step' h ≡ f
   put_at_head = step-is h ∙ at_same h h f (cond (h == f) (step h) (step h)) refl
 
@@ -107,11 +110,13 @@ module _ (m f h : ℕ) (step back step' back' : ℕ → ℕ)
 
   pub put_there : (i : ℕ) → i < m → back' (step' i) ≡ i
   put_there i inside =
-      elim (eqb_tells i h) as (λ _. back' (step' i) ≡ i)
-      [ inl t ↦ ap (λ j. back' (step' j)) t.1 ∙ (ap back' put_at_head ∙ (back_at_new ∙ sym t.1))
-      | inr t ↦ elim (eqb_tells i f) as (λ _. back' (step' i) ≡ i)
-      [ inl u ↦ ap (λ j. back' (step' j)) u.1 ∙ (ap back' put_at_new ∙ (back_at_first ∙ sym u.1))
-      | inr u ↦ put_there_other i inside t.1 u.1 ] ]
+      elim (eqb_tells i h) as (λ _. back' (step' i) ≡ i) [
+        | inl t ↦ ap (λ j. back' (step' j)) t.1 ∙ (ap back' put_at_head ∙ (back_at_new ∙ sym t.1))
+        | inr t ↦ elim (eqb_tells i f) as (λ _. back' (step' i) ≡ i) [
+          | inl u ↦ ap (λ j. back' (step' j)) u.1 ∙ (ap back' put_at_new ∙ (back_at_first ∙ sym u.1))
+          | inr u ↦ put_there_other i inside t.1 u.1
+        ]
+      ]
 
   put_back_other : (i : ℕ) → i < m → i ≢ step h → i ≢ f → step' (back' i) ≡ i
   put_back_other i inside off_first off_new =
@@ -120,8 +125,10 @@ module _ (m f h : ℕ) (step back step' back' : ℕ → ℕ)
 
   pub put_back : (i : ℕ) → i < m → step' (back' i) ≡ i
   put_back i inside =
-      elim (eqb_tells i (step h)) as (λ _. step' (back' i) ≡ i)
-      [ inl t ↦ ap (λ j. step' (back' j)) t.1 ∙ (ap step' back_at_first ∙ (put_at_new ∙ sym t.1))
-      | inr t ↦ elim (eqb_tells i f) as (λ _. step' (back' i) ≡ i)
-      [ inl u ↦ ap (λ j. step' (back' j)) u.1 ∙ (ap step' back_at_new ∙ (put_at_head ∙ sym u.1))
-      | inr u ↦ put_back_other i inside t.1 u.1 ] ]
+      elim (eqb_tells i (step h)) as (λ _. step' (back' i) ≡ i) [
+        | inl t ↦ ap (λ j. step' (back' j)) t.1 ∙ (ap step' back_at_first ∙ (put_at_new ∙ sym t.1))
+        | inr t ↦ elim (eqb_tells i f) as (λ _. step' (back' i) ≡ i) [
+          | inl u ↦ ap (λ j. step' (back' j)) u.1 ∙ (ap step' back_at_new ∙ (put_at_head ∙ sym u.1))
+          | inr u ↦ put_back_other i inside t.1 u.1
+        ]
+      ]

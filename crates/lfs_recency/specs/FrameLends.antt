@@ -1,12 +1,8 @@
 -- What a `&mut` to the bytes of a frame leaves.
 use Rattle.std.specs.Prelude.{ℕ, List}
 use Rattle.std.specs.Borrow.{Lends, MutBor, Fml, Array, u8}
-use Rattle.std.specs.Vec.{with_item}
-use Rattle.std.specs.declared.vec.Vec.{Vec}
-use Rattle.std.specs.declared.alloc.Global.{Global}
 use Rattle.lfs_recency.specs.declared.frame.Frame.{Frame}
 use Rattle.lfs_recency.specs.contracts.frame.Frame.{the_row}
-use Rattle.lfs_recency.specs.Links.{frame_at}
 
 abbrev pub with_bytes : Frame → List ℕ → Frame
 with_bytes f bytes = record f { bytes = bytes }

@@ -1,5 +1,5 @@
 -- The frames as they are linked: the frames proper and then a head for each queue, each link a pointer.
-use Rattle.std.specs.Prelude.{◌≡◌, ◌≢◌, ℕ, zero, suc, ◌+◌, ◌<◌, ◌≤◌, Bool, cond, nat_lt, min, List, [], ◌∷◌, map, take, length, slice_index_or, slice_set}
+use Rattle.std.specs.Prelude.{◌≡◌, ◌≢◌, ℕ, zero, suc, ◌+◌, ◌<◌, ◌≤◌, cond, nat_lt, min, List, [], ◌∷◌, map, take, length, slice_index_or, slice_set}
 use Rattle.std.specs.Mem.{type_size}
 use denote.RawPtr.{Ptr, null_ptr, InBlock}
 use Rattle.lfs_recency.specs.declared.queue.Queue.{Queue}

@@ -30,7 +30,6 @@ impl Frame {
     }
 }
 
-
 /// Blank frames, and as many more as there are queues, whose number is the count.
 pub(crate) fn blank_frames(alloc: Global, count: u32) -> Result<Vec<Frame>, AllocError>
     ensures { IfOk result (λ frames. AreBlank count frames.items) }

@@ -6,6 +6,8 @@ mod frames;
 mod links;
 mod place;
 mod queue;
+#[cfg(test)]
+mod tests;
 
 pub use frames::Frames;
 pub use queue::Queue;

@@ -10,13 +10,10 @@ use std::alloc::Allocator;
 
 // Says of a vector what its type keeps: its pointer is not null, and its items fit a block. It does nothing.
 fn note_block<T, A: Allocator>(_items: &mut Vec<T, A>)
-    ensures {
-      InBlock (vec_ptr _items.old)
+    ensures { InBlock (vec_ptr _items.old)
         × (vec_len _items.old * type_size T.row < 2 ^ 63)
-        × (_items.new ≡ _items.old)
-    }
-{
-}
+        × (_items.new ≡ _items.old) }
+{}
 
 /// Where the item `number` lies.
 pub(crate) fn place_of<T, A: Allocator>(items: &mut Vec<T, A>, number: usize) -> *mut T

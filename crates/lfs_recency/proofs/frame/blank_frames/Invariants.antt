@@ -1,4 +1,4 @@
-use Rattle.std.proofs.Common.{◌≡◌, ℕ, ◌+◌, ◌<◌, length, min}
+use Rattle.std.proofs.Common.{◌≡◌, ℕ, ◌<◌, length, min}
 use Rattle.lfs_recency.specs.Links.{number_at}
 use Rattle.lfs_recency.proofs.frame.blank_frames.Given as goal
 

@@ -1,4 +1,4 @@
-use Rattle.std.proofs.Common.{◌≡◌, ℕ, ◌+◌, ◌∙◌, refl, lit<}
+use Rattle.std.proofs.Common.{◌≡◌, ◌+◌, ◌∙◌, refl, lit<}
 use Rattle.std.specs.Vec.{vec_ptr, vec_len}
 use Rattle.lfs_recency.specs.declared.queue.Queue.TheVariants.{Empty}
 use Rattle.lfs_recency.specs.Links.{frame_size, head_of}

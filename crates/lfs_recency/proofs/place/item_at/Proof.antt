@@ -1,5 +1,5 @@
 -- `item_at` shows the item that the pointer leads to: one of those that a `&` to the vector shares, at any type of items.
-use Rattle.std.proofs.Common.{◌≡◌, ℕ, zero, suc, ◌+◌, ◌*◌, ◌≤◌, ◌<◌, ◌^◌, List, [], ◌∷◌, length, get_or, refl, sym, ap, ◌∙◌, add_comm, arith}
+use Rattle.std.proofs.Common.{◌≡◌, ℕ, zero, suc, ◌+◌, ◌*◌, ◌<◌, List, [], ◌∷◌, length, get_or, refl, ap, ◌∙◌, add_comm, arith}
 use Rattle.std.proofs.Math.Nat.{not-suc-le-zero, le_of_suc-le-suc}
 use seplogic.Ra.Ura.{Ura}
 use mir.Syntax.{Fn, named, ty_ptr}
@@ -13,7 +13,7 @@ use types.Logic.{Logic, sem}
 use contract.Monad.{fact}
 use contract.Running.{tables, tables_of}
 use sound.WpLaws.{WpFn-mono}
-use types.Kit.{‵, ◌⊛◌, raw, at_ret, ◌$◌, ◌∵◌, !, qed, by, move, keep, use1, drop, split, join, fsplit, fjoin, feq_i, flt_l, rewrite, suffices, frame, done}
+use types.Kit.{‵, ◌⊛◌, raw, at_ret, ◌$◌, ◌∵◌, !, qed, by, move, keep, use1, drop, split, join, fsplit, fjoin, feq_i, rewrite, suffices, frame, done}
 use types.Run.{stop, addr, of_opd, first, blocks, exec, returns, enter}
 use types.ByLocal.{alloc_all, pass_all, free_all, look_at, get, through, sets, sets_last, take_at, give_at, env}
 use denote.Exit.{yes}

@@ -1,5 +1,5 @@
 -- `item_at_mut` lends the item that the pointer leads to, and the vector follows it, at any type of items.
-use Rattle.std.proofs.Common.{◌≡◌, ℕ, ◌+◌, ◌*◌, ◌≤◌, ◌<◌, ◌^◌, List, [], ◌∷◌, length, get_or, refl, sym, ap, ◌∙◌, add_comm, arith}
+use Rattle.std.proofs.Common.{◌≡◌, ℕ, ◌+◌, ◌*◌, ◌≤◌, ◌<◌, [], ◌∷◌, length, get_or, refl, ap, ◌∙◌, add_comm, arith}
 use seplogic.Ra.Ura.{Ura}
 use mir.Syntax.{Fn, named, ty_ptr}
 use mir.MapTy.{inst_fn}

@@ -1,5 +1,5 @@
 -- `note_block` opens the vector, learns what it keeps, and closes it.
-use Rattle.std.proofs.Common.{◌≡◌, ℕ, ◌*◌, ◌≤◌, ◌<◌, ◌^◌, List, [], ◌∷◌, refl, sym, subst}
+use Rattle.std.proofs.Common.{◌≡◌, ℕ, ◌*◌, ◌<◌, ◌^◌, List, [], ◌∷◌, refl, sym, subst}
 use Rattle.std.proofs.Math.Nat.{mul-le-mul_right, lt_of_le_of_lt}
 use seplogic.Ra.Ura.{Ura}
 use mir.Syntax.{Fn, named}
@@ -19,7 +19,7 @@ use types.ByLocal.{alloc_all, pass_all, free_all, look_at, sets}
 use denote.Exit.{yes}
 use denote.Memory.{mem}
 use denote.RattleType.{owns}
-use denote.RawPtr.{Ptr, InBlock, block_ptr}
+use denote.RawPtr.{InBlock}
 use denote.Ref.{MutBor, MutRef, mut_vals, mut_Tells}
 use denote.Builtin.{RefMutOf, unit}
 use denote.Signature.{plain}

@@ -1,21 +1,19 @@
 -- `bytes_mut` lends the first field, and the frame follows it.
-use Rattle.std.proofs.Common.{◌≡◌, ℕ, ◌+◌, List, [], ◌∷◌, refl, MutBor}
+use Rattle.std.proofs.Common.{ℕ, ◌+◌, List, [], ◌∷◌, refl, MutBor}
 use seplogic.Ra.Ura.{Ura}
-use mir.Syntax.{Ty, named}
-use mir.Val.{Val, vptr}
+use mir.Syntax.{named}
+use mir.Val.{vptr}
 use base.Fraction.{full_share}
 use base.Logic.{SProp, ent, sep, id⊢}
 use base.Fml.{Lft, GName, Share, ftrue, flft}
 use types.Logic.{Logic, sem}
 use types.Mut.{open_ref}
-use contract.Monad.{fact}
-use contract.Running.{tables}
-use types.Kit.{‵, ◌⊛◌, raw, some, later, await, group, ◌$◌, ◌∵◌, !, qed, by, move, keep, use1, drop, split, join, pick, fsplit, fsplit3, fjoin, suffices, frame, done}
+use types.Kit.{‵, ◌⊛◌, raw, some, later, await, group, ◌$◌, ◌∵◌, !, qed, move, keep, use1, drop, split, join, pick, fsplit3, fjoin, suffices, frame, done}
 use types.Run.{stop, fld, addr, returns, enter}
 use types.ByLocal.{alloc_all, pass_all, free_all, look_at, through, sets}
 use denote.Exit.{no}
 use denote.RattleType.{RattleType}
-use denote.Memory.{part_at, lone, mem}
+use denote.Memory.{lone, mem}
 use denote.Array.{Array}
 use denote.Builtin.{u8}
 use denote.Ref.{MutRef, mut_vals, mut_Tells}
@@ -24,10 +22,9 @@ use denote.Signature.{plain, mut_ref_to}
 use denote.Steps.{nothing}
 use denote.Struct.Field.{Field}
 use denote.Struct.Laws.{lawfuls}
-use denote.Struct.Members.{Member, rows_of}
+use denote.Struct.Members.{Member}
 use denote.Struct.Parts.{PartsBack}
 use denote.Struct.Pick.{rest_at, record_field_out, record_field_back}
-use denote.Triple.Clauses.{Ended}
 use denote.Triple.Walked.{says, Stays, stay_dropped, walk_of, ends_at, Goes-spent_ref}
 use Rattle.std.proofs.raw_atomic.Walks.{proved}
 use Rattle.lfs_recency.specs.declared.frame.Frame.{Frame}

@@ -1,4 +1,4 @@
-use Rattle.std.proofs.Common.{ℕ, ◌+◌, ◌<◌, ◌≡◌, List, [], length, get_or, set, refl, sym, ap, subst, ◌∙◌, arith}
+use Rattle.std.proofs.Common.{ℕ, ◌+◌, ◌<◌, ◌≡◌, List, [], length, get_or, set, refl, sym, ap, ◌∙◌, arith}
 use Rattle.std.specs.Vec.{vec_ptr}
 use denote.RawPtr.{Ptr}
 use Rattle.lfs_recency.specs.declared.frame.Frame.{Frame}
@@ -29,9 +29,10 @@ returns c =
     let below : f < n = frame_below frame_size (vec_ptr v) n f v.items c.args.self.now c.self.invariant c.self.view_is c.requires in
     let long : length v.items ≡ n + 4 = c.self.invariant.long in
     let x = c.index_mut.result.now in
-    let is : x ≡ frame_at v.items f = frame_is v.items f x (omega arith) c.index_mut.ensures.value in
-    ((refl, λ w. (written frame_size (vec_ptr v) n f v.items c.args.self.now x c.self.invariant c.self.view_is below c.index_mut.ensures.value w).1),
-    record {
-      writes_back = tt;
-      value = c.bytes_mut.ensures.value ∙ (ap (λ (r : Frame). r.bytes) is ∙ (sym (block_is frame_size (vec_ptr v) n f v.items c.self.invariant below) ∙ ap (λ (s : FrameLists). get_or s.blocks f []) c.self.view_is));
-    })
+    let is : x ≡ frame_at v.items f = frame_is v.items f x (omega arith) c.index_mut.ensures.value in (
+      (refl, λ w. (written frame_size (vec_ptr v) n f v.items c.args.self.now x c.self.invariant c.self.view_is below c.index_mut.ensures.value w).1),
+      record {
+        writes_back = tt;
+        value = c.bytes_mut.ensures.value ∙ (ap (λ (r : Frame). r.bytes) is ∙ (sym (block_is frame_size (vec_ptr v) n f v.items c.self.invariant below) ∙ ap (λ (s : FrameLists). get_or s.blocks f []) c.self.view_is));
+      },
+    )

@@ -1,11 +1,11 @@
-use Rattle.std.proofs.Common.{ℕ, ◌+◌, ◌<◌, ◌≤◌, ◌≡◌, List, length, get_or, sym, ap, subst, ◌∙◌, Option, Some, None, arith}
-use Rattle.std.specs.Vec.{vec_ptr, vec_len}
+use Rattle.std.proofs.Common.{ℕ, ◌<◌, ◌≤◌, ◌≡◌, List, length, get_or, sym, ap, subst, ◌∙◌, Some, arith}
+use Rattle.std.specs.Vec.{vec_ptr}
 use denote.RawPtr.{Ptr}
 use Rattle.lfs_recency.specs.declared.frame.Frame.{Frame}
 use Rattle.lfs_recency.specs.declared.queue.Queue.{Queue}
-use Rattle.lfs_recency.specs.Places.{item_number, IsItemPlace}
+use Rattle.lfs_recency.specs.Places.{item_number}
 use Rattle.lfs_recency.specs.FrameLists.{FrameLists, listed, oldest_of}
-use Rattle.lfs_recency.specs.Links.{frame_size, head_of, frame_at, prev_at, number_at, step_by, shown, AreKept}
+use Rattle.lfs_recency.specs.Links.{frame_size, head_of, frame_at, prev_at, step_by, AreKept}
 use Rattle.lfs_recency.proofs.Fields.{frame_is}
 use Rattle.lfs_recency.proofs.Lists.{head_low}
 use Rattle.lfs_recency.proofs.Kept.{last_number, oldest_some, oldest_none}

@@ -1,6 +1,5 @@
-use Rattle.std.proofs.Common.{ℕ, ◌+◌, ◌<◌, ◌≡◌, List, length, sym, ap, subst, arith}
+use Rattle.std.proofs.Common.{◌+◌, ◌<◌, ◌≡◌, length, subst, arith}
 use Rattle.std.specs.Vec.{vec_ptr}
-use Rattle.lfs_recency.specs.declared.frame.Frame.{Frame}
 use Rattle.lfs_recency.specs.FrameLists.{FrameLists, listed, times}
 use Rattle.lfs_recency.specs.Links.{frame_size, frame_at}
 use Rattle.lfs_recency.proofs.Fields.{frame_is}

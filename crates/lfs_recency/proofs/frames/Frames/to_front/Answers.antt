@@ -1,4 +1,4 @@
-use Rattle.std.proofs.Common.{ℕ, ◌+◌, ◌<◌, ◌≡◌, ap, ◌∙◌, lit<}
+use Rattle.std.proofs.Common.{◌+◌, ◌<◌, ◌≡◌, ap, ◌∙◌, lit<}
 use Rattle.std.specs.Vec.{vec_ptr, vec_len}
 use Rattle.lfs_recency.specs.FrameLists.{fronted}
 use Rattle.lfs_recency.specs.Links.{frame_size}
