@@ -58,3 +58,37 @@ not_found ps start at f P from missed stops h holds =
 -- what an index shows
 pub shown_at : {X : Type 0} (xs : List (Option X)) (i : ℕ) (x : Option X) → i < length xs → x ≡ get_or xs i x → x ≡ get_or xs i None
 shown_at xs i x inside e = e ∙ sym (any-default xs i None x inside)
+
+pub count_none : (ps : List (Option ℕ)) → ((p : ℕ) → frame_at ps p ≡ None) → count_taken ps ≡ 0
+count_none [] none = refl
+count_none (None ∷ ps) none = count_none ps (λ p. none (suc p))
+count_none (Some f ∷ ps) none = let bad : Some f ≡ None = none 0 in absurd (cc)
+
+-- the frame f is named at a free place, the first from s on
+module _ (ps : List (Option ℕ)) (f s at : ℕ) (from : s ≤ at) (h : IsFree ps s (at - s)) where
+  here : s + (at - s) ≡ at
+  here = omega arith
+
+  abbrev qs : List (Option ℕ)
+  qs = set ps at (Some f)
+
+  pub entered_free : frame_at ps at ≡ None
+  entered_free = subst (λ k. frame_at ps k ≡ None) here h.1
+
+  pub entered_inside : at < length ps
+  entered_inside = subst (λ k. k < length ps) here h.0
+
+  pub entered_new : IsReached qs s f
+  entered_new = subst (λ k. IsReached (set ps k (Some f)) s f) here (reached-new ps s (at - s) f h)
+
+  pub entered_old : (g start : ℕ) → IsReached ps start g → IsReached qs start g
+  entered_old g start = reached-set ps at f g start entered_free
+
+  pub entered_count : count_taken qs ≡ suc (count_taken ps)
+  entered_count = count-set ps at f entered_inside entered_free
+
+  pub entered_bound : (n : ℕ) → f < n → ((p g : ℕ) → frame_at ps p ≡ Some g → g < n) → (p g : ℕ) → frame_at qs p ≡ Some g → g < n
+  entered_bound n below all p g is =
+      elim (cases_eq p at) as (λ _. g < n)
+      [ inl same ↦ (let e : Some f ≡ Some g = sym (ap (frame_at qs) same ∙ get_or-set_same ps at (Some f) None entered_inside) ∙ is in let same_frame : f ≡ g = cc in subst (λ k. k < n) same_frame below)
+      | inr other ↦ all p g (sym (get_or-set_other ps at p (Some f) None other) ∙ is) ]
