@@ -1,2 +1,3 @@
+pub mod KeyLists
 pub mod Named
 pub mod Places

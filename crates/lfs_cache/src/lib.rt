@@ -1,7 +1,10 @@
 //! The block cache: blocks by key, in frames of which the dirty ones are locked.
 #![tactic(auto)]
 
+mod cache;
 mod index;
 mod key;
+mod names;
 
+pub use cache::{Cache, LOCKED_LIMIT};
 pub use key::Key;
