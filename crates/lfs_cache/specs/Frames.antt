@@ -1,5 +1,5 @@
 -- The frame that is taken next, and the list of LOCKED keys.
-use Rattle.std.specs.Prelude.{ℕ, Bool, cond, List, [], ◌∷◌, Option, Some, None, slice_index_or}
+use Rattle.std.specs.Prelude.{ℕ, ◌<◌, Bool, cond, List, [], ◌∷◌, Option, Some, None, slice_index_or}
 use Rattle.lfs_recency.specs.declared.queue.Queue.{Queue}
 use Rattle.lfs_recency.specs.declared.queue.Queue.TheVariants.{Locked, Lru, Age, Empty}
 use Rattle.lfs_recency.specs.FrameLists.{FrameLists, oldest_of}
@@ -34,3 +34,10 @@ names_after Locked k ns = k ∷ names_without k ns
 names_after Lru k ns = names_without k ns
 names_after Age k ns = names_without k ns
 names_after Empty k ns = names_without k ns
+
+-- the list of LOCKED keys has room for one that comes to a queue
+abbrev pub HasRoom : Queue → ℕ → ℕ → Type 0
+HasRoom Locked n capacity = n < capacity
+HasRoom Lru n capacity = Unit {0}
+HasRoom Age n capacity = Unit {0}
+HasRoom Empty n capacity = Unit {0}

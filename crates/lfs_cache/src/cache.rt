@@ -1,10 +1,10 @@
 //! Blocks by key, in frames.
 ghost use Rattle.std.specs.Prelude.{◌≡◌, ◌⊎◌, ℕ, ◌+◌, ◌<◌, ◌≤◌, [], ◌∷◌, length, Some, None, IsSome, IfOk, option_copied, vec_len, vec_capacity, map};
 ghost use Rattle.std.specs.Borrow.{sem};
-ghost use Rattle.lfs_recency.specs.FrameLists.{fronted, oldest_of, listed, frame_count};
+ghost use Rattle.lfs_recency.specs.FrameLists.{fronted, oldest_of, listed, frame_count, IsWhole};
 ghost use Rattle.lfs_recency.specs.declared.queue.Queue.TheVariants.{Locked, Lru, Age, Empty};
 ghost use Rattle.lfs_recency.specs.Lending.{with_block};
-ghost use Rattle.lfs_cache.specs.Frames.{next_of, names_after, names_without};
+ghost use Rattle.lfs_cache.specs.Frames.{next_of, names_after, names_without, HasRoom};
 ghost use Rattle.lfs_cache.specs.Contents.{block_of, used, filled, written, settled, forgotten, IsLocked, keys_of};
 
 use crate::index::Index;
@@ -43,8 +43,9 @@ impl Model for Cache {
 // Moves the frame of a key to the front of a queue, and keeps the list of LOCKED keys in step.
 fn move_first(frames: &mut Frames, locked: &mut Vec<Key>, frame: u32, key: Key, queue: Queue)
     requires in_range { frame < frame_count frames.old }
-    requires room { length (names_without key locked.old.items) < vec_capacity locked.old }
+    requires room { HasRoom queue (length (names_without key locked.old.items)) (vec_capacity locked.old) }
     ensures frames { frames.new ≡ fronted frame queue frames.old }
+    ensures whole { IsWhole frames.new }
     ensures names { locked.new.items ≡ names_after queue key locked.old.items }
     ensures room { vec_capacity locked.new ≡ vec_capacity locked.old }
 {
