@@ -19,14 +19,14 @@ use Rattle.lfs_cache.specs.Contents.{Contents, block_in, block_of, without_key, 
 use Rattle.lfs_cache.specs.Held.{name_at, entry_at, held_by, AreHeld, IsCache}
 use Rattle.lfs_cache.proofs.Entries.{same_is, same_cases, without_absent, oldest_times, oldest_dropped, drop_last-map, map_same, IsAloneIn, entries_without, names_kept, block_found, block_absent, block_missing}
 
-some_not_none : {X : Type 0} (o : Option X) (x : X) → o ≡ Some x → IsSome o
+pub some_not_none : {X : Type 0} (o : Option X) (x : X) → o ≡ Some x → IsSome o
 some_not_none o x e = subst IsSome (sym e) refl
 
-some_is : {X : Type 0} (o : Option X) → IsSome o → (x : X) × (o ≡ Some x)
+pub some_is : {X : Type 0} (o : Option X) → IsSome o → (x : X) × (o ≡ Some x)
 some_is None h = absurd (cc)
 some_is (Some x) h = (x, refl)
 
-none_not : {X : Type 0} (o : Option X) (x : X) → o ≡ None → o ≡ Some x → ⊥
+pub none_not : {X : Type 0} (o : Option X) (x : X) → o ≡ None → o ≡ Some x → ⊥
 none_not o x e h = let bad : None ≡ Some x = sym e ∙ h in absurd (cc)
 
 over : (g n : ℕ) → n ≤ g → let c : ℕ = cond (nat_lt g n) 1 0 in c ≡ 0
@@ -122,7 +122,7 @@ module _ (l : FrameLists) (keys : List (Option Key)) (f : ℕ) (names : List Key
     pub to_lru : held_by (fronted f Lru lb) keys ≡ lru_first k (get_or bl f []) (held_by (taken f lb) keys)
     to_lru = ap (λ (z : Key). lru_first z (get_or bl f []) (held_by (taken f lb) keys)) (ap name_or is)
 
-times_other : (f g : ℕ) (xs : List ℕ) → g ≢ f → times g (f ∷ xs) ≡ times g xs
+pub times_other : (f g : ℕ) (xs : List ℕ) → g ≢ f → times g (f ∷ xs) ≡ times g xs
 times_other f g xs ne = ap (λ b. cond b (suc (times g xs)) (times g xs)) (other_test f g (λ e. ne (sym e)))
 
 -- the frames are held as the queues say once the frame f, of which that was not known, is at the front of LOCKED or of LRU
@@ -133,7 +133,7 @@ module _ (l : FrameLists) (keys : List (Option Key)) (f : ℕ) (names : List Key
   in_once : times f l.locked ≤ 1
   in_once = let one = once l h.whole f (key_range l keys f f names k h is) in omega arith
 
-  names_left : names_without k names ≡ map (name_at keys) (without f l.locked)
+  pub names_left : names_without k names ≡ map (name_at keys) (without f l.locked)
   names_left = ap (names_without k) h.named ∙ names_kept keys l.blocks k f is l.locked in_once alone
 
   pub names_length : length (names_without k names) ≡ length (without f l.locked)

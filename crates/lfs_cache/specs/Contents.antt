@@ -96,3 +96,7 @@ IsLocked k s = IsSome (block_in k s.locked)
 
 abbrev pub keys_of : List (Key × List ℕ) → List Key
 keys_of es = map (λ e. e.0) es
+
+-- so many empty frames
+abbrev pub nothing_in : ℕ → Contents
+nothing_in n = record { locked = []; lru = []; age = 0; empty = n }

@@ -5,7 +5,7 @@ ghost use Rattle.lfs_recency.specs.FrameLists.{fronted, oldest_of, listed, frame
 ghost use Rattle.lfs_recency.specs.declared.queue.Queue.TheVariants.{Locked, Lru, Age, Empty};
 ghost use Rattle.lfs_recency.specs.Lending.{with_block};
 ghost use Rattle.lfs_cache.specs.Frames.{next_of, names_after, names_without, HasRoom};
-ghost use Rattle.lfs_cache.specs.Contents.{block_of, used, filled, written, settled, forgotten, IsLocked, keys_of};
+ghost use Rattle.lfs_cache.specs.Contents.{block_of, used, filled, written, settled, forgotten, IsLocked, keys_of, nothing_in};
 
 use crate::index::Index;
 use crate::key::Key;
@@ -80,4 +80,98 @@ fn copy_in(frames: &mut Frames, frame: u32, block: &Block)
     ensures { frames.new ≡ with_block frames.old frame block.now }
 {
     *frames.bytes_mut(frame) = *block;
+}
+
+impl Cache {
+    ghost use Rattle.lfs_cache.specs.Ends.{ends_as};
+
+    /// A cache of so many frames, which holds no block. All room is taken here.
+    pub fn new(alloc: Global, frames: u32) -> Result<Cache, AllocError>
+        requires at_least { 32 ≤ frames }
+        requires at_most { frames ≤ 1024 }
+        ensures { IfOk result (λ s. s ≡ nothing_in frames) }
+    {
+        let number = frames;
+        let frames = Frames::new(alloc, number)?;
+        let index = Index::new(alloc, number)?;
+        let locked = Vec::with_capacity(alloc, LOCKED_LIMIT)?;
+        Ok(Cache {
+            frames,
+            index,
+            locked,
+        })
+    }
+
+    /// The block of a key, whose frame comes to the front of its queue. `None` where the key is not held.
+    pub fn get(&mut self, key: Key) -> Option<&Block>
+        ensures* used { sem 𝓛 (ends_as self.entry (used key self.old)) }
+        ensures value { option_copied result ≡ block_of key self.old }
+    {
+        let frame = self.index.find(key)?;
+        let queue = self.frames.queue(frame);
+        move_first(&mut self.frames, &mut self.locked, frame, key, queue);
+        Some(self.frames.bytes(frame))
+    }
+
+    /// Takes a frame for a clean block whose key is not held.
+    pub fn fill(&mut self, key: Key, block: &Block)
+        requires { block_of key self.old ≡ None }
+        ensures { self.new ≡ filled key block.now self.old }
+    {
+        let frame = next_frame(&self.frames);
+        copy_in(&mut self.frames, frame, block);
+        self.index.put(frame, key);
+        move_first(&mut self.frames, &mut self.locked, frame, key, Queue::Lru);
+    }
+
+    /// Holds a block that is dirty until it is settled: in the frame of its key, or else in a frame that is taken for it.
+    pub fn write(&mut self, key: Key, block: &Block)
+        requires { IsLocked key self.old ⊎ (length self.old.locked < 24) }
+        ensures { self.new ≡ written key block.now self.old }
+    {
+        if let Some(frame) = self.index.find(key) {
+            copy_in(&mut self.frames, frame, block);
+            move_first(&mut self.frames, &mut self.locked, frame, key, Queue::Locked);
+            return;
+        }
+        let frame = next_frame(&self.frames);
+        copy_in(&mut self.frames, frame, block);
+        self.index.put(frame, key);
+        move_first(&mut self.frames, &mut self.locked, frame, key, Queue::Locked);
+    }
+
+    /// The LOCKED keys, the newest first, each once.
+    pub fn locked(&self) -> &[Key]
+        ensures { result.now ≡ keys_of self.now.locked }
+    {
+        &self.locked
+    }
+
+    /// How many keys are LOCKED.
+    pub fn locked_count(&self) -> usize
+        ensures count { result ≡ length self.now.locked }
+        ensures limit { result ≤ 24 }
+    {
+        self.locked.len()
+    }
+
+    /// A dirty block is clean from now on.
+    pub fn settle(&mut self, key: Key)
+        requires { IsLocked key self.old }
+        ensures { self.new ≡ settled key self.old }
+    {
+        if let Some(frame) = self.index.find(key) {
+            move_first(&mut self.frames, &mut self.locked, frame, key, Queue::Lru);
+        }
+    }
+
+    /// A key is held no longer. Nothing changes where it was not.
+    pub fn forget(&mut self, key: Key)
+        ensures { self.new ≡ forgotten key self.old }
+    {
+        if let Some(frame) = self.index.find(key) {
+            self.index.clear(frame);
+            move_first(&mut self.frames, &mut self.locked, frame, key, Queue::Age);
+        }
+    }
 }
