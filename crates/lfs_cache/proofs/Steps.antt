@@ -13,7 +13,7 @@ use Rattle.lfs_cache.specs.declared.key.Key.{Key}
 use Rattle.lfs_cache.specs.Keys.{same_key}
 use Rattle.lfs_cache.specs.Index.{key_at}
 use Rattle.lfs_cache.specs.Frames.{name_or, names_without, names_after, next_of, HasRoom}
-use Rattle.lfs_cache.specs.Contents.{Contents, block_in, block_of, removed, locked_first, lru_first, with_frame, used, used_by, filled, written, written_by, settled, settled_by, forgotten, forgotten_by, IsLocked, or_else}
+use Rattle.lfs_cache.specs.Contents.{Contents, block_in, block_of, removed, locked_first, lru_first, with_frame, used, used_by, filled, written, written_by, settled, settled_by, forgotten, forgotten_by, IsLocked, or_else, keys_of}
 use Rattle.lfs_cache.specs.Held.{name_at, entry_at, held_by, AreHeld, IsCache}
 use Rattle.lfs_cache.proofs.Entries.{same_is, same_cases, block_found, block_absent, block_missing}
 use Rattle.lfs_cache.proofs.Cached.{none_not, some_is, once, in_range, key_range, not_free, in_one, alone_locked, alone_lru, but_held, rest_removed, rest_left, to_locked, to_lru, names_length, locked_held, lru_held}
@@ -194,3 +194,13 @@ module _ (l : FrameLists) (keys : List (Option Key)) (names : List Key) (capacit
           (record { are = locked_held lb new f names k are at_f (whole_fronted lb f are.whole range'); limit = let less = fresh_room may in omega arith; room = h.room },
           ap (λ (z : Key). locked_first z (get_or lb.blocks f []) (held_by (taken f lb) new)) (ap name_or at_f) ∙ (ap (λ c. locked_first k c (held_by (taken f lb) new)) (get_or-set_same l.blocks f w [] range)
           ∙ (ap (locked_first k w) (fresh_taken l keys f names k h.are next absent w) ∙ ap (λ o. written_by o k w (held_by l keys)) (sym none_block))))
+
+-- a step, as the contracts of the calls tell it
+pub told : (l l' : FrameLists) (keys keys' : List (Option Key)) (names names' : List Key) (capacity capacity' : ℕ) (s : Contents) → l' ≡ l → keys' ≡ keys → names' ≡ names → capacity' ≡ capacity
+    → IsCache l keys names capacity × (held_by l keys ≡ s) → IsCache l' keys' names' capacity' × (held_by l' keys' ≡ s)
+told l l' keys keys' names names' capacity capacity' s e0 e1 e2 e3 h = rw (e0, e1, e2, e3) h
+
+-- the keys of the locked blocks
+pub keys_are : (keys : List (Option Key)) (blocks : List (List ℕ)) (xs : List ℕ) → map (name_at keys) xs ≡ keys_of (map (entry_at keys blocks) xs)
+keys_are keys blocks [] = refl
+keys_are keys blocks (x ∷ xs) = ap (λ ns. name_at keys x ∷ ns) (keys_are keys blocks xs)
