@@ -1,3 +1,4 @@
+pub mod Apart
 pub mod Cached
 pub mod Entries
 pub mod Fresh

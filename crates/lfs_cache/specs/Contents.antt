@@ -1,5 +1,5 @@
 -- What a cache holds: the dirty blocks and the clean ones by key, newest first, and how many frames hold none.
-use Rattle.std.specs.Prelude.{◌≡◌, ℕ, zero, suc, ◌+◌, Bool, cond, List, [], ◌∷◌, length, map, Option, Some, None, IsSome}
+use Rattle.std.specs.Prelude.{◌≡◌, ℕ, zero, suc, ◌+◌, Bool, false, cond, List, [], ◌∷◌, length, map, Option, Some, None, IsSome}
 use Rattle.lfs_cache.specs.declared.key.Key.{Key}
 use Rattle.lfs_cache.specs.Keys.{same_key}
 
@@ -100,3 +100,13 @@ keys_of es = map (λ e. e.0) es
 -- so many empty frames
 abbrev pub nothing_in : ℕ → Contents
 nothing_in n = record { locked = []; lru = []; age = 0; empty = n }
+
+-- no key of a list is the one given
+abbrev pub Lacks : Key → List Key → Type 0
+Lacks k [] = Unit {0}
+Lacks k (n ∷ ns) = (same_key n k ≡ false) × Lacks k ns
+
+-- no key comes twice
+abbrev pub AreApart : List Key → Type 0
+AreApart [] = Unit {0}
+AreApart (n ∷ ns) = Lacks n ns × AreApart ns

@@ -1,11 +1,11 @@
 //! Blocks by key, in frames.
-ghost use Rattle.std.specs.Prelude.{◌≡◌, ◌⊎◌, ℕ, ◌+◌, ◌<◌, ◌≤◌, [], ◌∷◌, length, Some, None, IsSome, IfOk, option_copied, vec_len, vec_capacity, map};
+ghost use Rattle.std.specs.Prelude.{◌≡◌, ◌⊎◌, ℕ, ◌+◌, ◌<◌, ◌≤◌, [], ◌∷◌, ◌++◌, length, Some, None, IsSome, IfOk, option_copied, vec_len, vec_capacity, map};
 ghost use Rattle.std.specs.Borrow.{sem};
 ghost use Rattle.lfs_recency.specs.FrameLists.{fronted, oldest_of, listed, frame_count, IsWhole};
 ghost use Rattle.lfs_recency.specs.declared.queue.Queue.TheVariants.{Locked, Lru, Age, Empty};
 ghost use Rattle.lfs_recency.specs.Lending.{with_block};
 ghost use Rattle.lfs_cache.specs.Frames.{next_of, names_after, names_without, HasRoom};
-ghost use Rattle.lfs_cache.specs.Contents.{block_of, used, filled, written, settled, forgotten, IsLocked, keys_of, nothing_in};
+ghost use Rattle.lfs_cache.specs.Contents.{block_of, used, filled, written, settled, forgotten, IsLocked, keys_of, nothing_in, AreApart};
 
 use crate::index::Index;
 use crate::key::Key;
@@ -142,7 +142,9 @@ impl Cache {
 
     /// The LOCKED keys, the newest first, each once.
     pub fn locked(&self) -> &[Key]
-        ensures { result.now ≡ keys_of self.now.locked }
+        ensures keys { result.now ≡ keys_of self.now.locked }
+        ensures once { AreApart result.now }
+        ensures one_queue { AreApart (keys_of (self.now.locked ++ self.now.lru)) }
     {
         &self.locked
     }
