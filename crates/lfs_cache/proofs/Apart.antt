@@ -1,5 +1,5 @@
 -- No key is held twice.
-use Rattle.std.proofs.Common.{◌≡◌, ◌≢◌, ℕ, zero, suc, ◌+◌, ◌<◌, ◌≤◌, Bool, true, false, cond, ◌==◌, List, [], ◌∷◌, ◌++◌, length, Option, Some, None, IsSome, refl, sym, ap, subst, ◌∙◌, inl, inr, arith}
+use Rattle.std.proofs.Common.{◌≡◌, ◌≢◌, ℕ, suc, ◌+◌, ◌<◌, ◌≤◌, true, false, cond, ◌==◌, List, [], ◌∷◌, ◌++◌, Option, Some, IsSome, refl, sym, ap, subst, ◌∙◌, inl, inr, arith}
 use Rattle.std.specs.Prelude.{map}
 use Rattle.std.proofs.Math.Nat.{eq-zero-or-pos}
 use Rattle.std.proofs.lemmas.Bool.Decides.{eqb_tells, nat_tests}
@@ -25,26 +25,29 @@ times_append : (g : ℕ) (xs ys : List ℕ) → times g (xs ++ ys) ≡ times g x
 times_append g [] ys = omega arith
 times_append g (x ∷ xs) ys =
     let rest = times_append g xs ys in
-    elim (eqb_tells x g) as (λ _. times g (x ∷ (xs ++ ys)) ≡ times g (x ∷ xs) + times g ys)
-    [ inl t ↦ subst (λ b. cond b (suc (times g (xs ++ ys))) (times g (xs ++ ys)) ≡ cond b (suc (times g xs)) (times g xs) + times g ys) (sym t.0) (omega arith)
-    | inr t ↦ subst (λ b. cond b (suc (times g (xs ++ ys))) (times g (xs ++ ys)) ≡ cond b (suc (times g xs)) (times g xs) + times g ys) (sym t.0) rest ]
+    elim (eqb_tells x g) as (λ _. times g (x ∷ (xs ++ ys)) ≡ times g (x ∷ xs) + times g ys) [
+      | inl t ↦ subst (λ b. cond b (suc (times g (xs ++ ys))) (times g (xs ++ ys)) ≡ cond b (suc (times g xs)) (times g xs) + times g ys) (sym t.0) (omega arith)
+      | inr t ↦ subst (λ b. cond b (suc (times g (xs ++ ys))) (times g (xs ++ ys)) ≡ cond b (suc (times g xs)) (times g xs) + times g ys) (sym t.0) rest
+    ]
 
 module _ (keys : List (Option Key)) (apart : (f g : ℕ) (k : Key) → key_at keys f ≡ Some k → key_at keys g ≡ Some k → f ≡ g) where
   lacks : (x : ℕ) (ys : List ℕ) → IsSome (key_at keys x) → ((y : ℕ) → 0 < times y ys → (y ≢ x) × IsSome (key_at keys y)) → Lacks (name_at keys x) (map (name_at keys) ys)
   lacks x [] own all = tt
   lacks x (y ∷ ys) own all =
       let here = all y (let h = times_head y ys in omega arith) in
-      let a = some_is (key_at keys x) own in let b = some_is (key_at keys y) here.1 in
-      (elim (same_cases (name_at keys y) (name_at keys x)) as (λ _. same_key (name_at keys y) (name_at keys x) ≡ false)
-      [ inl t ↦ absurd (let same : b.0 ≡ a.0 = sym (ap name_or b.1) ∙ (same_is (name_at keys y) (name_at keys x) t ∙ ap name_or a.1) in here.0 (apart y x a.0 (b.1 ∙ ap Some same) a.1)) | inr t ↦ t ],
-      lacks x ys own (λ z some. all z (let more = times_tail z y ys in omega arith)))
+      let a = some_is (key_at keys x) own in let b = some_is (key_at keys y) here.1 in (
+        elim (same_cases (name_at keys y) (name_at keys x)) as (λ _. same_key (name_at keys y) (name_at keys x) ≡ false)
+            [ inl t ↦ absurd (let same : b.0 ≡ a.0 = sym (ap name_or b.1) ∙ (same_is (name_at keys y) (name_at keys x) t ∙ ap name_or a.1) in here.0 (apart y x a.0 (b.1 ∙ ap Some same) a.1)) | inr t ↦ t ],
+        lacks x ys own (λ z some. all z (let more = times_tail z y ys in omega arith)),
+      )
 
   names_apart : (xs : List ℕ) → ((g : ℕ) → times g xs ≤ 1) → ((g : ℕ) → 0 < times g xs → IsSome (key_at keys g)) → AreApart (map (name_at keys) xs)
   names_apart [] one own = tt
-  names_apart (x ∷ xs) one own =
-      (lacks x xs (own x (let h = times_head x xs in omega arith))
-      (λ y some. ((λ e. let h = times_head x xs in let o = one x in let here : 0 < times x xs = subst (λ z. 0 < times z xs) e some in omega arith), own y (let more = times_tail y x xs in omega arith))),
-      names_apart xs (λ g. let more = times_tail g x xs in let o = one g in omega arith) (λ g some. own g (let more = times_tail g x xs in omega arith)))
+  names_apart (x ∷ xs) one own = (
+    lacks x xs (own x (let h = times_head x xs in omega arith))
+        (λ y some. ((λ e. let h = times_head x xs in let o = one x in let here : 0 < times x xs = subst (λ z. 0 < times z xs) e some in omega arith), own y (let more = times_tail y x xs in omega arith))),
+    names_apart xs (λ g. let more = times_tail g x xs in let o = one g in omega arith) (λ g some. own g (let more = times_tail g x xs in omega arith)),
+  )
 
 keys_map : (keys : List (Option Key)) (blocks : List (List ℕ)) (xs ys : List ℕ) → map (name_at keys) (xs ++ ys) ≡ keys_of (map (entry_at keys blocks) xs ++ map (entry_at keys blocks) ys)
 keys_map keys blocks [] [] = refl

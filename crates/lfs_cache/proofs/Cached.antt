@@ -1,23 +1,23 @@
 -- What a cache holds after a key's frame has come to a queue, or a frame was taken for a key.
-use Rattle.std.proofs.Common.{◌≡◌, ◌≢◌, ◌⊎◌, ℕ, zero, suc, ◌+◌, ◌<◌, ◌≤◌, Bool, true, false, cond, ◌==◌, nat_lt, List, [], ◌∷◌, length, Option, Some, None, IsSome, refl, sym, ap, subst, ◌∙◌, inl, inr, arith}
+use Rattle.std.proofs.Common.{◌≡◌, ◌≢◌, ℕ, suc, ◌+◌, ◌<◌, ◌≤◌, false, cond, nat_lt, List, [], ◌∷◌, length, Option, Some, None, IsSome, refl, sym, ap, subst, ◌∙◌, inl, inr, arith}
 use Rattle.std.specs.Prelude.{map}
-use Rattle.std.proofs.Math.ListN.{get_or, set, length-set}
-use Rattle.std.proofs.lemmas.List.{get_or-set_same, get_or-set_other, get_or_past, length-map}
+use Rattle.std.proofs.Math.ListN.{get_or, set}
+use Rattle.std.proofs.lemmas.List.{get_or-set_other, get_or_past, length-map}
 use Rattle.std.proofs.Math.Nat.{eq-zero-or-pos}
 use Rattle.std.proofs.lemmas.Bool.{cases_lt, cases_eq}
 use Rattle.std.proofs.lemmas.Bool.Decides.{nat_tests}
 use Rattle.lfs_recency.specs.declared.queue.Queue.{Queue}
-use Rattle.lfs_recency.specs.declared.queue.Queue.TheVariants.{Locked, Lru, Age, Empty}
-use Rattle.lfs_recency.specs.FrameLists.{FrameLists, frame_count, without, taken, fronted, times, times_in_all, oldest_of, IsWhole}
+use Rattle.lfs_recency.specs.declared.queue.Queue.TheVariants.{Locked, Lru}
+use Rattle.lfs_recency.specs.FrameLists.{FrameLists, frame_count, without, taken, fronted, times, times_in_all, IsWhole}
 use Rattle.lfs_recency.specs.Lending.{with_block}
-use Rattle.lfs_recency.proofs.Lists.{same_test, other_test, less_test, times-without_same, times-without_other, length-without}
+use Rattle.lfs_recency.proofs.Lists.{other_test, less_test, times-without_same, times-without_other}
 use Rattle.lfs_cache.specs.declared.key.Key.{Key}
 use Rattle.lfs_cache.specs.Keys.{same_key}
 use Rattle.lfs_cache.specs.Index.{key_at}
-use Rattle.lfs_cache.specs.Frames.{name_or, names_without, names_after, next_of}
-use Rattle.lfs_cache.specs.Contents.{Contents, block_in, block_of, without_key, drop_last, removed, locked_first, lru_first, with_frame, taken_by}
-use Rattle.lfs_cache.specs.Held.{name_at, entry_at, held_by, AreHeld, IsCache}
-use Rattle.lfs_cache.proofs.Entries.{same_is, same_cases, without_absent, oldest_times, oldest_dropped, drop_last-map, map_same, IsAloneIn, entries_without, names_kept, block_found, block_absent, block_missing}
+use Rattle.lfs_cache.specs.Frames.{name_or, names_without, names_after}
+use Rattle.lfs_cache.specs.Contents.{removed, locked_first, lru_first}
+use Rattle.lfs_cache.specs.Held.{name_at, entry_at, held_by, AreHeld}
+use Rattle.lfs_cache.proofs.Entries.{same_is, same_cases, without_absent, map_same, IsAloneIn, entries_without, names_kept}
 
 pub some_not_none : {X : Type 0} (o : Option X) (x : X) → o ≡ Some x → IsSome o
 some_not_none o x e = subst IsSome (sym e) refl
@@ -141,15 +141,17 @@ module _ (l : FrameLists) (keys : List (Option Key)) (f : ℕ) (names : List Key
 
   still_held : (g : ℕ) → 0 < times g (without f l.locked) + times g (without f l.lru) → IsSome (key_at keys g)
   still_held g some =
-      elim (cases_eq g f) as (λ _. IsSome (key_at keys g))
-      [ inl e ↦ some_not_none (key_at keys g) k (ap (key_at keys) e ∙ is)
-      | inr ne ↦ h.held g ne (let a = times-without_other f g l.locked ne in let b = times-without_other f g l.lru ne in omega arith) ]
+      elim (cases_eq g f) as (λ _. IsSome (key_at keys g)) [
+        | inl e ↦ some_not_none (key_at keys g) k (ap (key_at keys) e ∙ is)
+        | inr ne ↦ h.held g ne (let a = times-without_other f g l.locked ne in let b = times-without_other f g l.lru ne in omega arith)
+      ]
 
   still_free : (g : ℕ) → 0 < times g (without f l.age) + times g (without f l.empty) → key_at keys g ≡ None
   still_free g some =
-      elim (cases_eq g f) as (λ _. key_at keys g ≡ None)
-      [ inl e ↦ absurd (let a = times-without_same f l.age in let b = times-without_same f l.empty in let here : 0 < times f (without f l.age) + times f (without f l.empty) = subst (λ z. 0 < times z (without f l.age) + times z (without f l.empty)) e some in omega arith)
-      | inr ne ↦ h.free g ne (let a = times-without_other f g l.age ne in let b = times-without_other f g l.empty ne in omega arith) ]
+      elim (cases_eq g f) as (λ _. key_at keys g ≡ None) [
+        | inl e ↦ absurd (let a = times-without_same f l.age in let b = times-without_same f l.empty in let here : 0 < times f (without f l.age) + times f (without f l.empty) = subst (λ z. 0 < times z (without f l.age) + times z (without f l.empty)) e some in omega arith)
+        | inr ne ↦ h.free g ne (let a = times-without_other f g l.age ne in let b = times-without_other f g l.empty ne in omega arith)
+      ]
 
   pub locked_held : AreHeld (fronted f Locked l) keys (frame_count l) (names_after Locked k names)
   locked_held = record {

@@ -1,7 +1,7 @@
 -- The entries of a list of frames, after a frame has left it or holds another block.
-use Rattle.std.proofs.Common.{◌≡◌, ◌≢◌, ◌⊎◌, ℕ, zero, suc, ◌+◌, ◌<◌, ◌≤◌, Bool, true, false, cond, ◌==◌, ◌&&◌, List, [], ◌∷◌, length, Option, Some, None, IsSome, refl, sym, ap, subst, ◌∙◌, inl, inr, arith}
+use Rattle.std.proofs.Common.{◌≡◌, ◌≢◌, ◌⊎◌, ℕ, suc, ◌<◌, ◌≤◌, true, false, cond, ◌==◌, List, [], ◌∷◌, Option, Some, None, refl, sym, ap, subst, ◌∙◌, inl, inr, arith}
 use Rattle.std.specs.Prelude.{map}
-use Rattle.std.proofs.Math.ListN.{get_or, set}
+use Rattle.std.proofs.Math.ListN.{get_or}
 use Rattle.std.proofs.lemmas.Bool.Decides.{eqb_tells, nat_tests}
 use Rattle.lfs_recency.specs.FrameLists.{without, times, oldest_of, last_from}
 use Rattle.lfs_cache.specs.declared.key.Key.{Key}
@@ -26,17 +26,19 @@ same_cases a b = elim (same_key a b) as (λ t. (t ≡ true) ⊎ (t ≡ false)) [
 pub without_absent : (f : ℕ) (xs : List ℕ) → times f xs ≡ 0 → without f xs ≡ xs
 without_absent f [] none = refl
 without_absent f (x ∷ xs) none =
-    elim (eqb_tells x f) as (λ _. without f (x ∷ xs) ≡ x ∷ xs)
-    [ inl t ↦ absurd (let bad : suc (times f xs) ≡ 0 = subst (λ b. cond b (suc (times f xs)) (times f xs) ≡ 0) t.0 none in omega arith)
-    | inr t ↦ ap (λ b. cond b (without f xs) (x ∷ without f xs)) t.0 ∙ ap (λ ys. x ∷ ys) (without_absent f xs (subst (λ b. cond b (suc (times f xs)) (times f xs) ≡ 0) t.0 none)) ]
+    elim (eqb_tells x f) as (λ _. without f (x ∷ xs) ≡ x ∷ xs) [
+      | inl t ↦ absurd (let bad : suc (times f xs) ≡ 0 = subst (λ b. cond b (suc (times f xs)) (times f xs) ≡ 0) t.0 none in omega arith)
+      | inr t ↦ ap (λ b. cond b (without f xs) (x ∷ without f xs)) t.0 ∙ ap (λ ys. x ∷ ys) (without_absent f xs (subst (λ b. cond b (suc (times f xs)) (times f xs) ≡ 0) t.0 none))
+    ]
 
 last_times : (x : ℕ) (xs : List ℕ) → 0 < times (last_from x xs) (x ∷ xs)
 last_times x [] = let on : (x == x) ≡ true = grind (arith, nat_tests) in subst (λ b. 0 < cond b 1 0) (sym on) (omega arith)
 last_times x (y ∷ ys) =
     let rest : 0 < times (last_from y ys) (y ∷ ys) = last_times y ys in
-    elim (eqb_tells x (last_from y ys)) as (λ _. 0 < times (last_from y ys) (x ∷ y ∷ ys))
-    [ inl t ↦ subst (λ b. 0 < cond b (suc (times (last_from y ys) (y ∷ ys))) (times (last_from y ys) (y ∷ ys))) (sym t.0) (omega arith)
-    | inr t ↦ subst (λ b. 0 < cond b (suc (times (last_from y ys) (y ∷ ys))) (times (last_from y ys) (y ∷ ys))) (sym t.0) rest ]
+    elim (eqb_tells x (last_from y ys)) as (λ _. 0 < times (last_from y ys) (x ∷ y ∷ ys)) [
+      | inl t ↦ subst (λ b. 0 < cond b (suc (times (last_from y ys) (y ∷ ys))) (times (last_from y ys) (y ∷ ys))) (sym t.0) (omega arith)
+      | inr t ↦ subst (λ b. 0 < cond b (suc (times (last_from y ys) (y ∷ ys))) (times (last_from y ys) (y ∷ ys))) (sym t.0) rest
+    ]
 
 pub oldest_times : (xs : List ℕ) (f : ℕ) → oldest_of xs ≡ Some f → 0 < times f xs
 oldest_times [] f is = let bad : None ≡ Some f = is in absurd (cc)
@@ -51,10 +53,11 @@ last_dropped : (x : ℕ) (xs : List ℕ) → times (last_from x xs) (x ∷ xs) �
 last_dropped x [] once = let on : (x == x) ≡ true = grind (arith, nat_tests) in ap (λ b. cond b [] (x ∷ [])) on
 last_dropped x (y ∷ ys) once =
     let f : ℕ = last_from y ys in
-    elim (eqb_tells x f) as (λ _. without f (x ∷ y ∷ ys) ≡ x ∷ drop_last (y ∷ ys))
-    [ inl t ↦ absurd (let more : suc (times f (y ∷ ys)) ≡ 1 = subst (λ b. cond b (suc (times f (y ∷ ys))) (times f (y ∷ ys)) ≡ 1) t.0 once in let some = last_times y ys in omega arith)
-    | inr t ↦ ap (λ b. cond b (without f (y ∷ ys)) (x ∷ without f (y ∷ ys))) t.0
-    ∙ ap (λ zs. x ∷ zs) (last_dropped y ys (subst (λ b. cond b (suc (times f (y ∷ ys))) (times f (y ∷ ys)) ≡ 1) t.0 once)) ]
+    elim (eqb_tells x f) as (λ _. without f (x ∷ y ∷ ys) ≡ x ∷ drop_last (y ∷ ys)) [
+      | inl t ↦ absurd (let more : suc (times f (y ∷ ys)) ≡ 1 = subst (λ b. cond b (suc (times f (y ∷ ys))) (times f (y ∷ ys)) ≡ 1) t.0 once in let some = last_times y ys in omega arith)
+      | inr t ↦ ap (λ b. cond b (without f (y ∷ ys)) (x ∷ without f (y ∷ ys))) t.0
+          ∙ ap (λ zs. x ∷ zs) (last_dropped y ys (subst (λ b. cond b (suc (times f (y ∷ ys))) (times f (y ∷ ys)) ≡ 1) t.0 once))
+    ]
 
 pub oldest_dropped : (xs : List ℕ) (f : ℕ) → oldest_of xs ≡ Some f → times f xs ≡ 1 → without f xs ≡ drop_last xs
 oldest_dropped [] f is once = refl
@@ -98,36 +101,40 @@ module _ (keys : List (Option Key)) (blocks : List (List ℕ)) (k : Key) (f : �
   entries_without [] alone = refl
   entries_without (x ∷ xs) alone =
       let rest = entries_without xs (tail_alone keys k f x xs alone) in
-      elim (eqb_tells x f) as (λ _. map e (without f (x ∷ xs)) ≡ without_key k (map e (x ∷ xs)))
-      [ inl t ↦ ap (λ b. map e (cond b (without f xs) (x ∷ without f xs))) t.0 ∙ (rest ∙ ap (λ b. cond b (without_key k (map e xs)) (e x ∷ without_key k (map e xs))) (sym (ap (λ z. same_key (name_at keys z) k) t.1 ∙ (ap (λ z. same_key z k) named_f ∙ same_self k))))
-      | inr t ↦ ap (λ b. map e (cond b (without f xs) (x ∷ without f xs))) t.0 ∙ (ap (λ zs. e x ∷ zs) rest ∙ ap (λ b. cond b (without_key k (map e xs)) (e x ∷ without_key k (map e xs))) (sym (head_alone keys k f x xs alone t.1))) ]
+      elim (eqb_tells x f) as (λ _. map e (without f (x ∷ xs)) ≡ without_key k (map e (x ∷ xs))) [
+        | inl t ↦ ap (λ b. map e (cond b (without f xs) (x ∷ without f xs))) t.0 ∙ (rest ∙ ap (λ b. cond b (without_key k (map e xs)) (e x ∷ without_key k (map e xs))) (sym (ap (λ z. same_key (name_at keys z) k) t.1 ∙ (ap (λ z. same_key z k) named_f ∙ same_self k))))
+        | inr t ↦ ap (λ b. map e (cond b (without f xs) (x ∷ without f xs))) t.0 ∙ (ap (λ zs. e x ∷ zs) rest ∙ ap (λ b. cond b (without_key k (map e xs)) (e x ∷ without_key k (map e xs))) (sym (head_alone keys k f x xs alone t.1)))
+      ]
 
   pub names_kept : (xs : List ℕ) → times f xs ≤ 1 → IsAloneIn keys k f xs → names_without k (map (name_at keys) xs) ≡ map (name_at keys) (without f xs)
   names_kept [] once alone = refl
   names_kept (x ∷ xs) once alone =
-      elim (eqb_tells x f) as (λ _. names_without k (map (name_at keys) (x ∷ xs)) ≡ map (name_at keys) (without f (x ∷ xs)))
-      [ inl t ↦ (let more : suc (times f xs) ≤ 1 = subst (λ b. cond b (suc (times f xs)) (times f xs) ≤ 1) t.0 once in
-      ap (λ b. cond b (map (name_at keys) xs) (name_at keys x ∷ names_without k (map (name_at keys) xs))) (ap (λ z. same_key (name_at keys z) k) t.1 ∙ (ap (λ z. same_key z k) named_f ∙ same_self k))
-      ∙ (ap (map (name_at keys)) (sym (without_absent f xs (omega arith))) ∙ ap (λ b. map (name_at keys) (cond b (without f xs) (x ∷ without f xs))) (sym t.0)))
-      | inr t ↦ (let less : times f xs ≤ 1 = subst (λ b. cond b (suc (times f xs)) (times f xs) ≤ 1) t.0 once in
-      ap (λ b. cond b (map (name_at keys) xs) (name_at keys x ∷ names_without k (map (name_at keys) xs))) (head_alone keys k f x xs alone t.1)
-      ∙ (ap (λ zs. name_at keys x ∷ zs) (names_kept xs less (tail_alone keys k f x xs alone)) ∙ ap (λ b. map (name_at keys) (cond b (without f xs) (x ∷ without f xs))) (sym t.0))) ]
+      elim (eqb_tells x f) as (λ _. names_without k (map (name_at keys) (x ∷ xs)) ≡ map (name_at keys) (without f (x ∷ xs))) [
+        | inl t ↦ (let more : suc (times f xs) ≤ 1 = subst (λ b. cond b (suc (times f xs)) (times f xs) ≤ 1) t.0 once in
+            ap (λ b. cond b (map (name_at keys) xs) (name_at keys x ∷ names_without k (map (name_at keys) xs))) (ap (λ z. same_key (name_at keys z) k) t.1 ∙ (ap (λ z. same_key z k) named_f ∙ same_self k))
+            ∙ (ap (map (name_at keys)) (sym (without_absent f xs (omega arith))) ∙ ap (λ b. map (name_at keys) (cond b (without f xs) (x ∷ without f xs))) (sym t.0)))
+        | inr t ↦ (let less : times f xs ≤ 1 = subst (λ b. cond b (suc (times f xs)) (times f xs) ≤ 1) t.0 once in
+            ap (λ b. cond b (map (name_at keys) xs) (name_at keys x ∷ names_without k (map (name_at keys) xs))) (head_alone keys k f x xs alone t.1)
+            ∙ (ap (λ zs. name_at keys x ∷ zs) (names_kept xs less (tail_alone keys k f x xs alone)) ∙ ap (λ b. map (name_at keys) (cond b (without f xs) (x ∷ without f xs))) (sym t.0)))
+      ]
 
   pub block_found : (xs : List ℕ) → 0 < times f xs → IsAloneIn keys k f xs → block_in k (map e xs) ≡ Some (get_or blocks f [])
   block_found [] some alone = absurd (omega arith)
   block_found (x ∷ xs) some alone =
-      elim (eqb_tells x f) as (λ _. block_in k (map e (x ∷ xs)) ≡ Some (get_or blocks f []))
-      [ inl t ↦ ap (λ b. cond b (Some (get_or blocks x [])) (block_in k (map e xs))) (ap (λ z. same_key (name_at keys z) k) t.1 ∙ (ap (λ z. same_key z k) named_f ∙ same_self k)) ∙ ap (λ z. Some (get_or blocks z [])) t.1
-      | inr t ↦ ap (λ b. cond b (Some (get_or blocks x [])) (block_in k (map e xs))) (head_alone keys k f x xs alone t.1)
-      ∙ block_found xs (subst (λ b. 0 < cond b (suc (times f xs)) (times f xs)) t.0 some) (tail_alone keys k f x xs alone) ]
+      elim (eqb_tells x f) as (λ _. block_in k (map e (x ∷ xs)) ≡ Some (get_or blocks f [])) [
+        | inl t ↦ ap (λ b. cond b (Some (get_or blocks x [])) (block_in k (map e xs))) (ap (λ z. same_key (name_at keys z) k) t.1 ∙ (ap (λ z. same_key z k) named_f ∙ same_self k)) ∙ ap (λ z. Some (get_or blocks z [])) t.1
+        | inr t ↦ ap (λ b. cond b (Some (get_or blocks x [])) (block_in k (map e xs))) (head_alone keys k f x xs alone t.1)
+            ∙ block_found xs (subst (λ b. 0 < cond b (suc (times f xs)) (times f xs)) t.0 some) (tail_alone keys k f x xs alone)
+      ]
 
   pub block_absent : (xs : List ℕ) → times f xs ≡ 0 → IsAloneIn keys k f xs → block_in k (map e xs) ≡ None
   block_absent [] none alone = refl
   block_absent (x ∷ xs) none alone =
-      elim (eqb_tells x f) as (λ _. block_in k (map e (x ∷ xs)) ≡ None)
-      [ inl t ↦ absurd (let bad : suc (times f xs) ≡ 0 = subst (λ b. cond b (suc (times f xs)) (times f xs) ≡ 0) t.0 none in omega arith)
-      | inr t ↦ ap (λ b. cond b (Some (get_or blocks x [])) (block_in k (map e xs))) (head_alone keys k f x xs alone t.1)
-      ∙ block_absent xs (subst (λ b. cond b (suc (times f xs)) (times f xs) ≡ 0) t.0 none) (tail_alone keys k f x xs alone) ]
+      elim (eqb_tells x f) as (λ _. block_in k (map e (x ∷ xs)) ≡ None) [
+        | inl t ↦ absurd (let bad : suc (times f xs) ≡ 0 = subst (λ b. cond b (suc (times f xs)) (times f xs) ≡ 0) t.0 none in omega arith)
+        | inr t ↦ ap (λ b. cond b (Some (get_or blocks x [])) (block_in k (map e xs))) (head_alone keys k f x xs alone t.1)
+            ∙ block_absent xs (subst (λ b. cond b (suc (times f xs)) (times f xs) ≡ 0) t.0 none) (tail_alone keys k f x xs alone)
+      ]
 
 -- a key that is at no frame of a list
 pub block_missing : (keys : List (Option Key)) (blocks : List (List ℕ)) (k : Key) (xs : List ℕ) → ((g : ℕ) → 0 < times g xs → same_key (name_at keys g) k ≡ false) → block_in k (map (entry_at keys blocks) xs) ≡ None

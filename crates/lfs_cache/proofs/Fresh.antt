@@ -1,21 +1,20 @@
 -- A frame that is taken for a key, and one whose key is forgotten.
-use Rattle.std.proofs.Common.{◌≡◌, ◌≢◌, ◌⊎◌, ℕ, zero, suc, ◌+◌, ◌<◌, ◌≤◌, Bool, true, false, cond, ◌==◌, nat_lt, List, [], ◌∷◌, length, Option, Some, None, IsSome, refl, sym, ap, subst, ◌∙◌, inl, inr, arith}
+use Rattle.std.proofs.Common.{◌≡◌, ◌≢◌, ℕ, zero, suc, ◌+◌, ◌<◌, ◌≤◌, cond, nat_lt, List, [], ◌∷◌, length, Option, Some, None, IsSome, refl, sym, ap, subst, ◌∙◌, inl, inr, arith}
 use Rattle.std.specs.Prelude.{map}
 use Rattle.std.proofs.Math.ListN.{get_or, set, length-set}
 use Rattle.std.proofs.lemmas.List.{get_or-set_same, get_or-set_other, get_or_past}
 use Rattle.std.proofs.lemmas.Bool.{cases_lt, cases_eq}
 use Rattle.lfs_recency.specs.declared.queue.Queue.{Queue}
-use Rattle.lfs_recency.specs.declared.queue.Queue.TheVariants.{Locked, Lru, Age, Empty}
+use Rattle.lfs_recency.specs.declared.queue.Queue.TheVariants.{Age}
 use Rattle.lfs_recency.specs.FrameLists.{FrameLists, frame_count, without, taken, fronted, times, times_in_all, oldest_of, IsWhole}
 use Rattle.lfs_recency.specs.Lending.{with_block}
 use Rattle.lfs_recency.proofs.Lists.{times-without_same, times-without_other, length-without}
 use Rattle.lfs_cache.specs.declared.key.Key.{Key}
-use Rattle.lfs_cache.specs.Keys.{same_key}
 use Rattle.lfs_cache.specs.Index.{key_at}
-use Rattle.lfs_cache.specs.Frames.{name_or, names_without, names_after, first_of, next_of}
-use Rattle.lfs_cache.specs.Contents.{Contents, block_in, block_of, without_key, drop_last, removed, locked_first, lru_first, with_frame, taken_by}
+use Rattle.lfs_cache.specs.Frames.{name_or, names_after, first_of, next_of}
+use Rattle.lfs_cache.specs.Contents.{Contents, drop_last, removed, with_frame}
 use Rattle.lfs_cache.specs.Held.{name_at, entry_at, held_by, AreHeld, IsCache}
-use Rattle.lfs_cache.proofs.Entries.{same_is, without_absent, oldest_times, oldest_empty, oldest_dropped, drop_last-map, map_same}
+use Rattle.lfs_cache.proofs.Entries.{without_absent, oldest_times, oldest_empty, oldest_dropped, drop_last-map, map_same}
 use Rattle.lfs_cache.proofs.Cached.{none_not, in_range, once, times_other, names_left, rest_left, but_held, not_free}
 
 -- numbers below n that all stand in a list
@@ -139,9 +138,10 @@ module _ (l : FrameLists) (keys : List (Option Key)) (f : ℕ) (names : List Key
     many = h.many;
     held = λ g ne some. subst IsSome (sym (other g ne)) (h.held g (in_time g (omega arith)) some);
     free = λ g ne some. other g ne ∙ h.free g (in_time g (omega arith)) some;
-    apart = λ g g' k' e e'. elim (cases_eq g f) as (λ _. g ≡ g')
-        [ inl a ↦ elim (cases_eq g' f) as (λ _. g ≡ g') [ inl a' ↦ a ∙ sym a' | inr b' ↦ (let same : Some k ≡ Some k' = sym new_is ∙ (ap (key_at new) (sym a) ∙ e) in absurd (absent g' (sym (other g' b') ∙ (e' ∙ sym same)))) ]
-        | inr b ↦ elim (cases_eq g' f) as (λ _. g ≡ g') [ inl a' ↦ (let same : Some k ≡ Some k' = sym new_is ∙ (ap (key_at new) (sym a') ∙ e') in absurd (absent g (sym (other g b) ∙ (e ∙ sym same)))) | inr b' ↦ h.apart g g' k' (sym (other g b) ∙ e) (sym (other g' b') ∙ e') ] ];
+    apart = λ g g' k' e e'. elim (cases_eq g f) as (λ _. g ≡ g') [
+      | inl a ↦ elim (cases_eq g' f) as (λ _. g ≡ g') [ inl a' ↦ a ∙ sym a' | inr b' ↦ (let same : Some k ≡ Some k' = sym new_is ∙ (ap (key_at new) (sym a) ∙ e) in absurd (absent g' (sym (other g' b') ∙ (e' ∙ sym same)))) ]
+      | inr b ↦ elim (cases_eq g' f) as (λ _. g ≡ g') [ inl a' ↦ (let same : Some k ≡ Some k' = sym new_is ∙ (ap (key_at new) (sym a') ∙ e') in absurd (absent g (sym (other g b) ∙ (e ∙ sym same)))) | inr b' ↦ h.apart g g' k' (sym (other g b) ∙ e) (sym (other g' b') ∙ e') ]
+    ];
     named = h.named ∙ (ap (map (name_at keys)) (sym (without_absent f l.locked not_locked)) ∙ (sym (names_same keys l.blocks f (Some k) [] l.locked) ∙ ap (map (name_at new)) (without_absent f l.locked not_locked)));
   }
 
@@ -182,9 +182,10 @@ module _ (l : FrameLists) (keys : List (Option Key)) (f : ℕ) (names : List Key
     sized = length-set keys f None ∙ h.sized;
     many = h.many;
     held = λ g _ some. let ne = left g some in subst IsSome (sym (kept g ne)) (inner.held g ne (let a = times-without_other f g l.locked ne in let b = times-without_other f g l.lru ne in omega arith));
-    free = λ g _ some. elim (cases_eq g f) as (λ _. key_at gone g ≡ None)
-        [ inl e ↦ ap (key_at gone) e ∙ emptied
-        | inr ne ↦ kept g ne ∙ inner.free g ne (let a = times-without_other f g l.age ne in let b = times-without_other f g l.empty ne in let t = times_other f g (without f l.age) ne in omega arith) ];
+    free = λ g _ some. elim (cases_eq g f) as (λ _. key_at gone g ≡ None) [
+      | inl e ↦ ap (key_at gone) e ∙ emptied
+      | inr ne ↦ kept g ne ∙ inner.free g ne (let a = times-without_other f g l.age ne in let b = times-without_other f g l.empty ne in let t = times_other f g (without f l.age) ne in omega arith)
+    ];
     apart = λ g g' k' e e'. h.apart g g' k' (sym (kept g (ne_some g k' e)) ∙ e) (sym (kept g' (ne_some g' k' e')) ∙ e');
     named = names_left l keys f names k inner is whole' ∙ sym (names_same keys l.blocks f None [] l.locked);
   }

@@ -1,10 +1,10 @@
 -- A list of keys without one of them.
-use Rattle.std.proofs.Common.{◌≡◌, ℕ, zero, suc, ◌+◌, ◌<◌, ◌≤◌, Bool, true, false, cond, List, [], ◌∷◌, ◌++◌, length, take, drop, get_or, refl, sym, ap, subst, ◌∙◌, arith}
+use Rattle.std.proofs.Common.{◌≡◌, ℕ, zero, suc, ◌<◌, true, false, cond, List, [], ◌∷◌, length, get_or, refl, sym, ap, ◌∙◌, arith}
 use Rattle.std.specs.List.{remove}
 use Rattle.std.proofs.slice.Lists.{any-default}
 use Rattle.lfs_cache.specs.declared.key.Key.{Key}
 use Rattle.lfs_cache.specs.Keys.{same_key}
-use Rattle.lfs_cache.specs.Frames.{names_without, key_in, name_or}
+use Rattle.lfs_cache.specs.Frames.{names_without, key_in}
 
 pub names_dropped : (ns : List Key) (i : ℕ) (k : Key) → i < length ns → ((p : ℕ) → p < i → same_key (key_in ns p) k ≡ false) → same_key (key_in ns i) k ≡ true → remove ns i ≡ names_without k ns
 names_dropped [] i k inside others here = absurd (omega arith)

@@ -1,5 +1,6 @@
 pub mod Apart
 pub mod Cached
+pub mod CallerLemmas
 pub mod Entries
 pub mod Fresh
 pub mod KeyLists

@@ -1,12 +1,12 @@
 -- The index after one more frame is named, and after a key is put or taken away.
-use Rattle.std.proofs.Common.{◌≡◌, ◌≢◌, ◌⊎◌, ℕ, zero, suc, ◌+◌, ◌-◌, ◌*◌, ◌<◌, ◌≤◌, List, [], ◌∷◌, length, Option, Some, None, IsSome, refl, sym, ap, subst, ◌∙◌, inl, inr, arith}
-use Rattle.std.proofs.Math.ListN.{get_or, set, length-set}
+use Rattle.std.proofs.Common.{◌≡◌, ◌≢◌, ℕ, ◌+◌, ◌-◌, ◌*◌, ◌<◌, ◌≤◌, List, length, Option, Some, None, refl, sym, ap, subst, ◌∙◌, inl, inr, arith}
+use Rattle.std.proofs.Math.ListN.{set, length-set}
 use Rattle.std.proofs.lemmas.List.{get_or-set_same, get_or-set_other, get_or_past}
 use Rattle.std.proofs.lemmas.Bool.{cases_lt, cases_eq}
 use Rattle.lfs_cache.specs.declared.key.Key.{Key}
 use Rattle.lfs_cache.specs.Keys.{start_of}
-use Rattle.lfs_cache.specs.Index.{key_at, frame_at, IsFree, IsReached, count_taken, IsIndex, IsNamed}
-use Rattle.lfs_cache.proofs.Places.{count_none, entered_inside, entered_new, entered_old, entered_count, entered_bound}
+use Rattle.lfs_cache.specs.Index.{key_at, frame_at, IsFree, IsReached, IsIndex, IsNamed}
+use Rattle.lfs_cache.proofs.Places.{count_none, entered_new, entered_old, entered_count, entered_bound}
 
 no_key : {X : Type 0} (o : Option X) (k : X) → o ≡ None → o ≡ Some k → ⊥
 no_key o k e h = let bad : None ≡ Some k = sym e ∙ h in absurd (cc)
@@ -42,11 +42,12 @@ pub named_more : (keys : List (Option Key)) (ps : List (Option ℕ)) (taken i s 
 named_more keys ps taken i s at k below is starts from free h = record {
   sized = length-set ps at (Some i) ∙ h.sized;
   inside = entered_bound ps i s at from free (length keys) below h.inside;
-  found = λ f k' low is'. elim (cases_eq f i) as (λ _. IsReached (set ps at (Some i)) (start_of k' (4 * length keys)) f)
-      [ inl same ↦ (let key_same : k ≡ k' = some_same (key_at keys i) k k' is (subst (λ g. key_at keys g ≡ Some k') same is') in
-      subst (λ g. IsReached (set ps at (Some i)) (start_of k' (4 * length keys)) g) (sym same)
-      (subst (λ z. IsReached (set ps at (Some i)) z i) (starts ∙ ap (λ z. start_of z (4 * length keys)) key_same) (entered_new ps i s at from free)))
-      | inr other ↦ entered_old ps i s at from free f (start_of k' (4 * length keys)) (h.found f k' (omega arith) is') ];
+  found = λ f k' low is'. elim (cases_eq f i) as (λ _. IsReached (set ps at (Some i)) (start_of k' (4 * length keys)) f) [
+    | inl same ↦ (let key_same : k ≡ k' = some_same (key_at keys i) k k' is (subst (λ g. key_at keys g ≡ Some k') same is') in
+        subst (λ g. IsReached (set ps at (Some i)) (start_of k' (4 * length keys)) g) (sym same)
+        (subst (λ z. IsReached (set ps at (Some i)) z i) (starts ∙ ap (λ z. start_of z (4 * length keys)) key_same) (entered_new ps i s at from free)))
+    | inr other ↦ entered_old ps i s at from free f (start_of k' (4 * length keys)) (h.found f k' (omega arith) is')
+  ];
   counted = let e = entered_count ps i s at from free in let r = h.counted in omega arith;
   room = let r = h.room in omega arith;
 }
@@ -72,11 +73,12 @@ index_put keys ps taken f s at k below room starts from free h =
       bounded = let r = h.bounded in omega arith;
       sized = length-set ps at (Some f) ∙ (h.sized ∙ ap (λ z. 6 * z) (sym n));
       inside = λ p g is. subst (λ z. g < z) (sym n) (entered_bound ps f s at from free (length keys) below h.inside p g is);
-      found = λ g k' is. subst (λ z. IsReached (set ps at (Some f)) (start_of k' (4 * z)) g) (sym n) (elim (cases_eq g f) as (λ _. IsReached (set ps at (Some f)) (start_of k' (4 * length keys)) g)
-          [ inl same ↦ (let key_same : k ≡ k' = some_same (key_at (set keys f (Some k)) f) k k' (get_or-set_same keys f (Some k) None below) (subst (λ z. key_at (set keys f (Some k)) z ≡ Some k') same is) in
-          subst (λ z. IsReached (set ps at (Some f)) (start_of k' (4 * length keys)) z) (sym same)
-          (subst (λ z. IsReached (set ps at (Some f)) z f) (starts ∙ ap (λ z. start_of z (4 * length keys)) key_same) (entered_new ps f s at from free)))
-          | inr other ↦ entered_old ps f s at from free g (start_of k' (4 * length keys)) (h.found g k' (sym (get_or-set_other keys f g (Some k) None other) ∙ is)) ]);
+      found = λ g k' is. subst (λ z. IsReached (set ps at (Some f)) (start_of k' (4 * z)) g) (sym n) (elim (cases_eq g f) as (λ _. IsReached (set ps at (Some f)) (start_of k' (4 * length keys)) g) [
+        | inl same ↦ (let key_same : k ≡ k' = some_same (key_at (set keys f (Some k)) f) k k' (get_or-set_same keys f (Some k) None below) (subst (λ z. key_at (set keys f (Some k)) z ≡ Some k') same is) in
+            subst (λ z. IsReached (set ps at (Some f)) (start_of k' (4 * length keys)) z) (sym same)
+            (subst (λ z. IsReached (set ps at (Some f)) z f) (starts ∙ ap (λ z. start_of z (4 * length keys)) key_same) (entered_new ps f s at from free)))
+        | inr other ↦ entered_old ps f s at from free g (start_of k' (4 * length keys)) (h.found g k' (sym (get_or-set_other keys f g (Some k) None other) ∙ is))
+      ]);
       counted = let e = entered_count ps f s at from free in let r = h.counted in omega arith;
       room = let r = h.room in omega arith;
     }

@@ -1,5 +1,5 @@
 -- The places of an index: a free one comes before all are passed, and a place that is taken leads where it led.
-use Rattle.std.proofs.Common.{◌≡◌, ◌≢◌, ◌⊎◌, ℕ, zero, suc, ◌+◌, ◌-◌, ◌*◌, ◌<◌, ◌≤◌, Bool, true, false, List, [], ◌∷◌, length, Option, Some, None, IsSome, refl, sym, ap, subst, ◌∙◌, inl, inr, arith}
+use Rattle.std.proofs.Common.{◌≡◌, ℕ, zero, suc, ◌+◌, ◌-◌, ◌<◌, ◌≤◌, List, [], ◌∷◌, length, Option, Some, None, IsSome, refl, sym, ap, subst, ◌∙◌, inl, inr, arith}
 use Rattle.std.proofs.Math.ListN.{get_or, set, length-set}
 use Rattle.std.proofs.lemmas.List.{get_or-set_same, get_or-set_other}
 use Rattle.std.proofs.slice.Lists.{any-default}
@@ -39,21 +39,26 @@ reached-set ps q f g start free h =
 
 -- the new frame is reached
 pub reached-new : (ps : List (Option ℕ)) (start d f : ℕ) → IsFree ps start d → IsReached (set ps (start + d) (Some f)) start f
-reached-new ps start d f h =
-    (d, subst (λ k. start + d < k) (sym (length-set ps (start + d) (Some f))) h.0, get_or-set_same ps (start + d) (Some f) None h.0,
-    λ e low. subst IsSome (sym (get_or-set_other ps (start + d) (start + e) (Some f) None (λ same. omega arith))) (h.2 e low))
+reached-new ps start d f h = (
+  d,
+  subst (λ k. start + d < k) (sym (length-set ps (start + d) (Some f))) h.0,
+  get_or-set_same ps (start + d) (Some f) None h.0,
+  λ e low. subst IsSome (sym (get_or-set_other ps (start + d) (start + e) (Some f) None (λ same. omega arith))) (h.2 e low),
+)
 
 -- a key that a search up to a free place, or to the end, did not meet is at no frame
 pub not_found : (ps : List (Option ℕ)) (start at f : ℕ) (P : ℕ → Type 0) → start ≤ at → ((p g : ℕ) → start ≤ p → p < at → frame_at ps p ≡ Some g → ¬ P g) → (at < length ps → frame_at ps at ≡ None) → IsReached ps start f → ¬ P f
 not_found ps start at f P from missed stops h holds =
     let d = h.0 in
-    elim (cases_lt (start + d) at) as (λ _. ⊥)
-    [ inl low ↦ missed (start + d) f (omega arith) low h.2 holds
-    | inr high ↦ elim (cases_eq (start + d) at) as (λ _. ⊥)
-    [ inl same ↦ (let free : frame_at ps (start + d) ≡ None = ap (frame_at ps) same ∙ stops (subst (λ k. k < length ps) same h.1) in
-    let bad : Some f ≡ None = sym h.2 ∙ free in absurd (cc))
-    | inr other ↦ (let inner : at < length ps = let end = h.1 in omega arith in let same : start + (at - start) ≡ at = omega arith in
-    none_some (frame_at ps at) (stops inner) (subst (λ k. IsSome (frame_at ps k)) same (h.3 (at - start) (omega arith)))) ] ]
+    elim (cases_lt (start + d) at) as (λ _. ⊥) [
+      | inl low ↦ missed (start + d) f (omega arith) low h.2 holds
+      | inr high ↦ elim (cases_eq (start + d) at) as (λ _. ⊥) [
+        | inl same ↦ (let free : frame_at ps (start + d) ≡ None = ap (frame_at ps) same ∙ stops (subst (λ k. k < length ps) same h.1) in
+            let bad : Some f ≡ None = sym h.2 ∙ free in absurd (cc))
+        | inr other ↦ (let inner : at < length ps = let end = h.1 in omega arith in let same : start + (at - start) ≡ at = omega arith in
+            none_some (frame_at ps at) (stops inner) (subst (λ k. IsSome (frame_at ps k)) same (h.3 (at - start) (omega arith))))
+      ]
+    ]
 
 -- what an index shows
 pub shown_at : {X : Type 0} (xs : List (Option X)) (i : ℕ) (x : Option X) → i < length xs → x ≡ get_or xs i x → x ≡ get_or xs i None
@@ -89,6 +94,7 @@ module _ (ps : List (Option ℕ)) (f s at : ℕ) (from : s ≤ at) (h : IsFree p
 
   pub entered_bound : (n : ℕ) → f < n → ((p g : ℕ) → frame_at ps p ≡ Some g → g < n) → (p g : ℕ) → frame_at qs p ≡ Some g → g < n
   entered_bound n below all p g is =
-      elim (cases_eq p at) as (λ _. g < n)
-      [ inl same ↦ (let e : Some f ≡ Some g = sym (ap (frame_at qs) same ∙ get_or-set_same ps at (Some f) None entered_inside) ∙ is in let same_frame : f ≡ g = cc in subst (λ k. k < n) same_frame below)
-      | inr other ↦ all p g (sym (get_or-set_other ps at p (Some f) None other) ∙ is) ]
+      elim (cases_eq p at) as (λ _. g < n) [
+        | inl same ↦ (let e : Some f ≡ Some g = sym (ap (frame_at qs) same ∙ get_or-set_same ps at (Some f) None entered_inside) ∙ is in let same_frame : f ≡ g = cc in subst (λ k. k < n) same_frame below)
+        | inr other ↦ all p g (sym (get_or-set_other ps at p (Some f) None other) ∙ is)
+      ]

@@ -1,22 +1,22 @@
 -- What each call of a cache leaves, as one fact about its frames and keys.
-use Rattle.std.proofs.Common.{◌≡◌, ◌≢◌, ◌⊎◌, ℕ, zero, suc, ◌+◌, ◌<◌, ◌≤◌, Bool, true, false, cond, ◌==◌, nat_lt, List, [], ◌∷◌, length, Option, Some, None, IsSome, refl, sym, ap, subst, ◌∙◌, inl, inr, arith}
+use Rattle.std.proofs.Common.{◌≡◌, ◌≢◌, ◌⊎◌, ℕ, ◌+◌, ◌<◌, ◌≤◌, false, cond, nat_lt, List, [], ◌∷◌, length, Option, Some, None, refl, sym, ap, subst, ◌∙◌, inl, inr, arith}
 use Rattle.std.specs.Prelude.{map}
 use Rattle.std.proofs.Math.Nat.{eq-zero-or-pos}
 use Rattle.std.proofs.Math.ListN.{get_or, set, length-set}
 use Rattle.std.proofs.lemmas.List.{get_or-set_same, length-map}
 use Rattle.lfs_recency.specs.declared.queue.Queue.{Queue}
 use Rattle.lfs_recency.specs.declared.queue.Queue.TheVariants.{Locked, Lru, Age, Empty}
-use Rattle.lfs_recency.specs.FrameLists.{FrameLists, frame_count, listed, without, taken, fronted, times, times_in_all, IsWhole}
+use Rattle.lfs_recency.specs.FrameLists.{FrameLists, frame_count, listed, without, taken, fronted, times, IsWhole}
 use Rattle.lfs_recency.specs.Lending.{with_block}
 use Rattle.lfs_recency.proofs.Lists.{length-without, times-taken_same, times-taken_other, whole-pushed, blocks-pushed}
 use Rattle.lfs_cache.specs.declared.key.Key.{Key}
 use Rattle.lfs_cache.specs.Keys.{same_key}
 use Rattle.lfs_cache.specs.Index.{key_at}
 use Rattle.lfs_cache.specs.Frames.{name_or, names_without, names_after, next_of, HasRoom}
-use Rattle.lfs_cache.specs.Contents.{Contents, block_in, block_of, removed, locked_first, lru_first, with_frame, used, used_by, filled, written, written_by, settled, settled_by, forgotten, forgotten_by, IsLocked, or_else, keys_of}
+use Rattle.lfs_cache.specs.Contents.{Contents, block_in, block_of, removed, locked_first, lru_first, used, used_by, filled, written, written_by, settled, settled_by, forgotten, forgotten_by, IsLocked, or_else, keys_of}
 use Rattle.lfs_cache.specs.Held.{name_at, entry_at, held_by, AreHeld, IsCache}
 use Rattle.lfs_cache.proofs.Entries.{same_is, same_cases, block_found, block_absent, block_missing}
-use Rattle.lfs_cache.proofs.Cached.{none_not, some_is, once, in_range, key_range, not_free, in_one, alone_locked, alone_lru, but_held, rest_removed, rest_left, to_locked, to_lru, names_length, locked_held, lru_held}
+use Rattle.lfs_cache.proofs.Cached.{none_not, some_is, in_range, key_range, not_free, in_one, alone_locked, alone_lru, but_held, rest_removed, rest_left, to_locked, to_lru, names_length, locked_held, lru_held}
 use Rattle.lfs_cache.proofs.Fresh.{next_range, block_held, new_is, fresh_held, fresh_taken, fresh_length, forgotten_held, forgotten_view}
 
 pub whole_fronted : (l : FrameLists) (f : ℕ) → IsWhole l → f < frame_count l → (q : Queue) → IsWhole (fronted f q l)
@@ -58,17 +58,19 @@ module _ (l : FrameLists) (keys : List (Option Key)) (names : List Key) (capacit
   fewer = let limit = h.limit in omega (arith, length-without f l.locked)
 
   pub lru_step : IsCache (fronted f Lru l) keys (names_after Lru k names) capacity × (held_by (fronted f Lru l) keys ≡ lru_first k b (removed k s))
-  lru_step =
-      (record { are = lru_held l keys f names k inner is (whole_fronted l f h.are.whole low); limit = fewer; room = h.room },
-      to_lru l keys f names k h.are is l.blocks ∙ ap (lru_first k b) (rest_left l keys f names k h.are is))
+  lru_step = (
+    record { are = lru_held l keys f names k inner is (whole_fronted l f h.are.whole low); limit = fewer; room = h.room },
+    to_lru l keys f names k h.are is l.blocks ∙ ap (lru_first k b) (rest_left l keys f names k h.are is),
+  )
 
   pub locked_room : length (without f l.locked) < 24 → HasRoom Locked (length (names_without k names)) capacity
   locked_room less = let same = names_length l keys f names k inner is (whole_fronted l f h.are.whole low) in let room = h.room in omega arith
 
   pub locked_step : length (without f l.locked) < 24 → IsCache (fronted f Locked l) keys (names_after Locked k names) capacity × (held_by (fronted f Locked l) keys ≡ locked_first k b (removed k s))
-  locked_step less =
-      (record { are = locked_held l keys f names k inner is (whole_fronted l f h.are.whole low); limit = omega arith; room = h.room },
-      to_locked l keys f names k h.are is l.blocks ∙ ap (locked_first k b) (rest_left l keys f names k h.are is))
+  locked_step less = (
+    record { are = locked_held l keys f names k inner is (whole_fronted l f h.are.whole low); limit = omega arith; room = h.room },
+    to_locked l keys f names k h.are is l.blocks ∙ ap (locked_first k b) (rest_left l keys f names k h.are is),
+  )
 
   less_locked : 0 < times f l.locked → length (without f l.locked) < 24
   less_locked some = let limit = h.limit in omega (arith, length-without f l.locked)
@@ -106,19 +108,21 @@ module _ (l : FrameLists) (keys : List (Option Key)) (names : List Key) (capacit
   write_step w may =
       let lb : FrameLists = with_block l f w in
       let are = block_held l keys f f names w inner in
-      let low' : f < frame_count lb = subst (λ n. f < n) (sym (length-set l.blocks f w)) low in
-      (record {
-        are = subst (λ n. AreHeld (fronted f Locked lb) keys n (names_after Locked k names)) refl (locked_held lb keys f names k are is (whole_fronted lb f are.whole low'));
-        limit = let less = write_less may in omega arith;
-        room = h.room;
-      },
-      to_locked l keys f names k h.are is lb.blocks ∙ (ap (λ c. locked_first k c (held_by (taken f lb) keys)) (get_or-set_same l.blocks f w [] low) ∙ (ap (locked_first k w) (rest_removed l keys f names k h.are is w)
-      ∙ ap (λ o. written_by o k w s) (sym block_held_is))))
+      let low' : f < frame_count lb = subst (λ n. f < n) (sym (length-set l.blocks f w)) low in (
+        record {
+          are = subst (λ n. AreHeld (fronted f Locked lb) keys n (names_after Locked k names)) refl (locked_held lb keys f names k are is (whole_fronted lb f are.whole low'));
+          limit = let less = write_less may in omega arith;
+          room = h.room;
+        },
+        to_locked l keys f names k h.are is lb.blocks ∙ (ap (λ c. locked_first k c (held_by (taken f lb) keys)) (get_or-set_same l.blocks f w [] low) ∙ (ap (locked_first k w) (rest_removed l keys f names k h.are is w)
+            ∙ ap (λ o. written_by o k w s) (sym block_held_is))),
+      )
 
   pub forget_step : IsCache (fronted f Age l) (set keys f None) (names_after Age k names) capacity × (held_by (fronted f Age l) (set keys f None) ≡ forgotten k s)
-  forget_step =
-      (record { are = forgotten_held l keys f names k h.are is (whole_fronted l f h.are.whole low); limit = fewer; room = h.room },
-      forgotten_view l keys f names k h.are is (whole_fronted l f h.are.whole low) ∙ ap (λ o. forgotten_by o k s) (sym block_held_is))
+  forget_step = (
+    record { are = forgotten_held l keys f names k h.are is (whole_fronted l f h.are.whole low); limit = fewer; room = h.room },
+    forgotten_view l keys f names k h.are is (whole_fronted l f h.are.whole low) ∙ ap (λ o. forgotten_by o k s) (sym block_held_is),
+  )
 
 -- a key that is at no frame
 module _ (l : FrameLists) (keys : List (Option Key)) (names : List Key) (capacity : ℕ) (k : Key) (h : IsCache l keys names capacity) where
@@ -175,10 +179,11 @@ module _ (l : FrameLists) (keys : List (Option Key)) (names : List Key) (capacit
       same_length = fresh_length l keys f names k h.are next absent
 
       pub fill_step : IsCache (fronted f Lru lb) new (names_after Lru k names) capacity × (held_by (fronted f Lru lb) new ≡ filled k w (held_by l keys))
-      fill_step =
-          (record { are = lru_held lb new f names k are at_f (whole_fronted lb f are.whole range'); limit = let limit = h.limit in omega (arith, same_length); room = h.room },
-          ap (λ (z : Key). lru_first z (get_or lb.blocks f []) (held_by (taken f lb) new)) (ap name_or at_f) ∙ (ap (λ c. lru_first k c (held_by (taken f lb) new)) (get_or-set_same l.blocks f w [] range)
-          ∙ ap (lru_first k w) (fresh_taken l keys f names k h.are next absent w)))
+      fill_step = (
+        record { are = lru_held lb new f names k are at_f (whole_fronted lb f are.whole range'); limit = let limit = h.limit in omega (arith, same_length); room = h.room },
+        ap (λ (z : Key). lru_first z (get_or lb.blocks f []) (held_by (taken f lb) new)) (ap name_or at_f) ∙ (ap (λ c. lru_first k c (held_by (taken f lb) new)) (get_or-set_same l.blocks f w [] range)
+            ∙ ap (lru_first k w) (fresh_taken l keys f names k h.are next absent w)),
+      )
 
       pub fresh_room : IsLocked k (held_by l keys) ⊎ (length (held_by l keys).locked < 24) → length (without f l.locked) < 24
       fresh_room may =
@@ -190,10 +195,11 @@ module _ (l : FrameLists) (keys : List (Option Key)) (names : List Key) (capacit
 
       pub write_fresh_step : IsLocked k (held_by l keys) ⊎ (length (held_by l keys).locked < 24)
           → IsCache (fronted f Locked lb) new (names_after Locked k names) capacity × (held_by (fronted f Locked lb) new ≡ written k w (held_by l keys))
-      write_fresh_step may =
-          (record { are = locked_held lb new f names k are at_f (whole_fronted lb f are.whole range'); limit = let less = fresh_room may in omega arith; room = h.room },
-          ap (λ (z : Key). locked_first z (get_or lb.blocks f []) (held_by (taken f lb) new)) (ap name_or at_f) ∙ (ap (λ c. locked_first k c (held_by (taken f lb) new)) (get_or-set_same l.blocks f w [] range)
-          ∙ (ap (locked_first k w) (fresh_taken l keys f names k h.are next absent w) ∙ ap (λ o. written_by o k w (held_by l keys)) (sym none_block))))
+      write_fresh_step may = (
+        record { are = locked_held lb new f names k are at_f (whole_fronted lb f are.whole range'); limit = let less = fresh_room may in omega arith; room = h.room },
+        ap (λ (z : Key). locked_first z (get_or lb.blocks f []) (held_by (taken f lb) new)) (ap name_or at_f) ∙ (ap (λ c. locked_first k c (held_by (taken f lb) new)) (get_or-set_same l.blocks f w [] range)
+            ∙ (ap (locked_first k w) (fresh_taken l keys f names k h.are next absent w) ∙ ap (λ o. written_by o k w (held_by l keys)) (sym none_block))),
+      )
 
 -- a step, as the contracts of the calls tell it
 pub told : (l l' : FrameLists) (keys keys' : List (Option Key)) (names names' : List Key) (capacity capacity' : ℕ) (s : Contents) → l' ≡ l → keys' ≡ keys → names' ≡ names → capacity' ≡ capacity

@@ -118,10 +118,10 @@ impl Cache {
         requires { block_of key self.old ≡ None }
         ensures { self.new ≡ filled key block.now self.old }
     {
-        let frame = next_frame(&self.frames);
-        copy_in(&mut self.frames, frame, block);
-        self.index.put(frame, key);
-        move_first(&mut self.frames, &mut self.locked, frame, key, Queue::Lru);
+        let taken = next_frame(&self.frames);
+        copy_in(&mut self.frames, taken, block);
+        self.index.put(taken, key);
+        move_first(&mut self.frames, &mut self.locked, taken, key, Queue::Lru);
     }
 
     /// Holds a block that is dirty until it is settled: in the frame of its key, or else in a frame that is taken for it.
@@ -131,13 +131,25 @@ impl Cache {
     {
         if let Some(frame) = self.index.find(key) {
             copy_in(&mut self.frames, frame, block);
-            move_first(&mut self.frames, &mut self.locked, frame, key, Queue::Locked);
+            move_first(
+                &mut self.frames,
+                &mut self.locked,
+                frame,
+                key,
+                Queue::Locked,
+            );
             return;
         }
         let frame = next_frame(&self.frames);
         copy_in(&mut self.frames, frame, block);
         self.index.put(frame, key);
-        move_first(&mut self.frames, &mut self.locked, frame, key, Queue::Locked);
+        move_first(
+            &mut self.frames,
+            &mut self.locked,
+            frame,
+            key,
+            Queue::Locked,
+        );
     }
 
     /// The LOCKED keys, the newest first, each once.

@@ -1,5 +1,5 @@
-use Rattle.std.proofs.Common.{ℕ, ◌+◌, ◌-◌, ◌≤◌, length, IsSome, arith}
-use Rattle.lfs_cache.specs.Index.{frame_at, count_taken}
+use Rattle.std.proofs.Common.{◌+◌, ◌-◌, ◌≤◌, length, arith}
+use Rattle.lfs_cache.specs.Index.{count_taken}
 use Rattle.lfs_cache.proofs.Places.{taken_run}
 use Rattle.lfs_cache.proofs.index.free_place.Goals as goal
 

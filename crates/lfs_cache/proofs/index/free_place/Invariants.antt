@@ -1,4 +1,4 @@
-use Rattle.std.proofs.Common.{◌≡◌, ℕ, ◌+◌, ◌<◌, ◌≤◌, IsSome}
+use Rattle.std.proofs.Common.{ℕ, ◌<◌, ◌≤◌, IsSome}
 use Rattle.lfs_cache.specs.Index.{frame_at}
 use Rattle.lfs_cache.proofs.index.free_place.Given as goal
 

@@ -1,5 +1,4 @@
-use Rattle.std.proofs.Common.{◌≡◌, ℕ, ◌<◌, true, false, length, sym, ap, subst, ◌∙◌, arith}
-use Rattle.std.specs.List.{remove}
+use Rattle.std.proofs.Common.{◌≡◌, ◌<◌, true, length, sym, ap, ◌∙◌, arith}
 use Rattle.lfs_cache.specs.Keys.{same_key}
 use Rattle.lfs_cache.specs.Frames.{names_without, key_in}
 use Rattle.lfs_cache.proofs.KeyLists.{names_dropped, names_absent, name_is}

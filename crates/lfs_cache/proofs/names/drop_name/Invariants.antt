@@ -1,6 +1,6 @@
-use Rattle.std.proofs.Common.{◌≡◌, ℕ, ◌<◌, false, length}
+use Rattle.std.proofs.Common.{◌≡◌, ℕ, ◌<◌, false}
 use Rattle.lfs_cache.specs.Keys.{same_key}
-use Rattle.lfs_cache.specs.Frames.{names_without, key_in}
+use Rattle.lfs_cache.specs.Frames.{key_in}
 use Rattle.lfs_cache.proofs.names.drop_name.Given as goal
 
 abbrev pub invariant-loop-place : goal.invariant-loop-place

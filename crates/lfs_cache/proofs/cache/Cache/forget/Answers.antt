@@ -1,11 +1,11 @@
-use Rattle.std.proofs.Common.{◌≡◌, ℕ, None, refl, sym, ap, subst, ◌∙◌}
+use Rattle.std.proofs.Common.{None, sym, ap, ◌∙◌}
 use Rattle.std.proofs.Math.ListN.{set}
 use Rattle.std.specs.Prelude.{vec_capacity}
 use Rattle.lfs_recency.specs.declared.queue.Queue.TheVariants.{Age}
 use Rattle.lfs_recency.specs.FrameLists.{fronted}
 use Rattle.lfs_cache.specs.Frames.{names_after}
-use Rattle.lfs_cache.specs.Contents.{Contents, forgotten}
-use Rattle.lfs_cache.specs.Held.{held_by, IsCache}
+use Rattle.lfs_cache.specs.Contents.{forgotten}
+use Rattle.lfs_cache.specs.Held.{held_by}
 use Rattle.lfs_cache.proofs.Steps.{forget_step, none_forgotten, told}
 use Rattle.lfs_cache.proofs.cache.Cache.forget.Goals as goal
 

@@ -1,4 +1,4 @@
-use Rattle.std.proofs.Common.{◌≡◌, ◌++◌, sym, ap, subst, ◌∙◌}
+use Rattle.std.proofs.Common.{◌++◌, sym, ap, subst, ◌∙◌}
 use Rattle.lfs_cache.specs.Contents.{Contents, keys_of, AreApart}
 use Rattle.lfs_cache.proofs.Apart.{locked_apart, all_apart}
 use Rattle.lfs_cache.proofs.Steps.{keys_are}

@@ -1,10 +1,10 @@
-use Rattle.std.proofs.Common.{◌≡◌, ℕ, refl, sym, ap, subst, ◌∙◌}
+use Rattle.std.proofs.Common.{refl, sym, ap, subst, ◌∙◌}
 use Rattle.std.specs.Prelude.{vec_capacity}
 use Rattle.lfs_recency.specs.declared.queue.Queue.TheVariants.{Lru}
 use Rattle.lfs_recency.specs.FrameLists.{fronted}
 use Rattle.lfs_cache.specs.Frames.{names_after}
-use Rattle.lfs_cache.specs.Contents.{Contents, settled, IsLocked}
-use Rattle.lfs_cache.specs.Held.{held_by, IsCache}
+use Rattle.lfs_cache.specs.Contents.{settled, IsLocked}
+use Rattle.lfs_cache.specs.Held.{held_by}
 use Rattle.lfs_cache.proofs.Steps.{settle_step, not_locked, told}
 use Rattle.lfs_cache.proofs.cache.Cache.settle.Goals as goal
 

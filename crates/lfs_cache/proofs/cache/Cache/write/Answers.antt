@@ -1,13 +1,12 @@
-use Rattle.std.proofs.Common.{◌≡◌, ◌≢◌, ◌⊎◌, ℕ, ◌<◌, length, Option, Some, None, refl, sym, ap, subst, ◌∙◌}
+use Rattle.std.proofs.Common.{◌⊎◌, ◌<◌, length, Some, refl, sym, ap, subst, ◌∙◌}
 use Rattle.std.proofs.Math.ListN.{set, length-set}
 use Rattle.std.specs.Prelude.{vec_capacity}
 use Rattle.lfs_recency.specs.declared.queue.Queue.TheVariants.{Locked}
 use Rattle.lfs_recency.specs.FrameLists.{FrameLists, frame_count, fronted}
 use Rattle.lfs_recency.specs.Lending.{with_block}
-use Rattle.lfs_cache.specs.Index.{key_at}
 use Rattle.lfs_cache.specs.Frames.{names_after}
 use Rattle.lfs_cache.specs.Contents.{Contents, written, IsLocked}
-use Rattle.lfs_cache.specs.Held.{held_by, IsCache}
+use Rattle.lfs_cache.specs.Held.{held_by}
 use Rattle.lfs_cache.proofs.Fresh.{has_next, next_range}
 use Rattle.lfs_cache.proofs.Steps.{locked_room, write_less, write_step, fresh_has_room, write_fresh_step, told}
 use Rattle.lfs_cache.proofs.cache.Cache.write.Goals as goal

@@ -1,4 +1,4 @@
-use Rattle.std.proofs.Common.{◌≡◌, ℕ, ◌+◌, ◌*◌, ◌<◌, ◌≤◌, length, Option, Some, None, refl, sym, ap, subst, ◌∙◌, arith}
+use Rattle.std.proofs.Common.{◌≡◌, ◌*◌, length, Some, None, sym, ap, subst, ◌∙◌, arith}
 use Rattle.lfs_cache.specs.Keys.{start_of}
 use Rattle.lfs_cache.specs.Index.{key_at, frame_at, IsReached}
 use Rattle.lfs_cache.proofs.Places.{not_found, shown_at}

@@ -1,4 +1,4 @@
-use Rattle.std.proofs.Common.{◌≡◌, ◌≢◌, ℕ, ◌+◌, ◌<◌, ◌≤◌, Some, IsSome}
+use Rattle.std.proofs.Common.{◌≡◌, ◌≢◌, ℕ, ◌<◌, ◌≤◌, Some}
 use Rattle.lfs_cache.specs.Index.{key_at, frame_at}
 use Rattle.lfs_cache.proofs.index.Index.find.Given as goal
 

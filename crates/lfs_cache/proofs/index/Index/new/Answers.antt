@@ -1,7 +1,5 @@
-use Rattle.std.proofs.Common.{◌≡◌, ℕ, ◌*◌, ◌≤◌, length, Option, Some, None, sym, ap, ◌∙◌, arith}
+use Rattle.std.proofs.Common.{◌≡◌, ◌*◌, arith}
 use Rattle.std.proofs.lemmas.Grind.{common_steps}
-use Rattle.lfs_cache.specs.declared.key.Key.{Key}
-use Rattle.lfs_cache.specs.Index.{key_at, frame_at}
 use Rattle.lfs_cache.proofs.Named.{index_none}
 use Rattle.lfs_cache.proofs.index.Index.new.Goals as goal
 

@@ -1,7 +1,6 @@
-use Rattle.std.proofs.Common.{◌≡◌, ◌≢◌, ℕ, ◌+◌, ◌-◌, ◌*◌, ◌<◌, length, Option, Some, sym, ap, subst, ◌∙◌, arith}
-use Rattle.std.proofs.Math.ListN.{set, length-set}
+use Rattle.std.proofs.Common.{◌-◌, ◌*◌, ◌<◌, length, sym, ap, subst, ◌∙◌, arith}
 use Rattle.lfs_cache.specs.Keys.{start_of}
-use Rattle.lfs_cache.specs.Index.{IsFree, IsIndex}
+use Rattle.lfs_cache.specs.Index.{IsFree}
 use Rattle.lfs_cache.proofs.Named.{index_put}
 use Rattle.lfs_cache.proofs.index.Index.put.Goals as goal
 
