@@ -16,5 +16,5 @@ pub struct Key {
 pub(crate) fn same(a: Key, b: Key) -> bool
     ensures { result ≡ same_key a b }
 {
-    a.ino == b.ino && a.version == b.version && a.lbn == b.lbn
+    a == b
 }

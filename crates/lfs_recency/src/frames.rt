@@ -6,8 +6,7 @@ ghost use Rattle.std.specs.Vec.{vec_ptr};
 ghost use Rattle.lfs_recency.specs.FrameLists.{frame_count, listed, fronted, times, oldest_of, descending, IsWhole};
 
 use crate::frame::{Frame, blank_frames};
-use crate::links::{link_alone, link_front, unlink};
-use crate::place::item_at;
+use crate::links::{frame_before, link_alone, link_front, unlink};
 use crate::queue::Queue;
 use std::alloc::{AllocError, Global};
 use std::marker::Model;
@@ -99,7 +98,7 @@ impl Frames {
         ensures { result ≡ oldest_of (listed queue self.now) }
     {
         let head = head_of(self.count, queue);
-        let last = item_at(&self.frames, self.frames[head].prev).number;
+        let last = frame_before(&self.frames, head).number;
         if last < self.count { Some(last) } else { None }
     }
 

@@ -1,11 +1,11 @@
 //! The links between frames. Each queue is a ring of frames through its head, so that no link is missing.
 ghost use Rattle.std.specs.Prelude.{◌≡◌, ◌<◌, vec_len};
 ghost use Rattle.std.specs.Vec.{vec_ptr};
-ghost use Rattle.lfs_recency.specs.Places.{IsItemPlace};
-ghost use Rattle.lfs_recency.specs.Links.{frame_size, next_at, prev_at, unlinked, linked_after, AreBlank, AreAlone};
+ghost use Rattle.lfs_recency.specs.Places.{IsItemPlace, item_number};
+ghost use Rattle.lfs_recency.specs.Links.{frame_size, frame_at, next_at, prev_at, unlinked, linked_after, AreBlank, AreAlone};
 
 use crate::frame::Frame;
-use crate::place::{item_at_mut, place_of};
+use crate::place::{item_at, item_at_mut, place_of};
 use crate::queue::Queue;
 
 /// Makes each of the frames, and each head after them, a ring of its own.
@@ -54,4 +54,13 @@ pub(crate) fn link_front(frames: &mut Vec<Frame>, head: usize, number: usize, qu
     frame.queue = queue;
     item_at_mut(frames, after).prev = this;
     item_at_mut(frames, before).next = this;
+}
+
+/// The frame before the one of this number in its ring.
+pub(crate) fn frame_before(frames: &Vec<Frame>, number: usize) -> &Frame
+    requires in_range { number < vec_len frames.now }
+    requires prev { IsItemPlace frame_size (vec_ptr frames.now) (vec_len frames.now) (prev_at frames.now.items number) }
+    ensures { result.now ≡ frame_at frames.now.items (item_number frame_size (vec_ptr frames.now) (prev_at frames.now.items number)) }
+{
+    item_at(frames, frames[number].prev)
 }
