@@ -1,11 +1,13 @@
 //! Blocks by key, in frames.
-ghost use Rattle.std.specs.Prelude.{◌≡◌, ◌⊎◌, ℕ, ◌+◌, ◌<◌, ◌≤◌, [], ◌∷◌, ◌++◌, length, Some, None, IsSome, IfOk, option_copied, vec_len, vec_capacity, map};
+ghost use Rattle.std.specs.Prelude.{◌≡◌, ◌⊎◌, ℕ, ◌+◌, ◌<◌, ◌≤◌, [], ◌∷◌, ◌++◌, length, Some, None, IsSome, false, IfOk, option_copied, vec_len, vec_capacity, map};
 ghost use Rattle.std.specs.Borrow.{sem};
 ghost use Rattle.lfs_recency.specs.FrameLists.{fronted, oldest_of, listed, frame_count, IsWhole};
 ghost use Rattle.lfs_recency.specs.declared.queue.Queue.TheVariants.{Locked, Lru, Age, Empty};
 ghost use Rattle.lfs_recency.specs.Lending.{with_block};
+ghost use Rattle.lfs_cache.specs.Keys.{same_key};
+ghost use Rattle.lfs_cache.specs.declared.key.Key.{Key};
 ghost use Rattle.lfs_cache.specs.Frames.{next_of, names_after, names_without, HasRoom};
-ghost use Rattle.lfs_cache.specs.Contents.{block_of, used, filled, written, settled, forgotten, IsLocked, keys_of, nothing_in, AreApart};
+ghost use Rattle.lfs_cache.specs.Contents.{block_in, block_of, used, filled, written, settled, forgotten, IsLocked, keys_of, nothing_in, AreApart};
 
 use crate::index::Index;
 use crate::key::Key;
@@ -116,7 +118,8 @@ impl Cache {
     /// Takes a frame for a clean block whose key is not held.
     pub fn fill(&mut self, key: Key, block: &Block)
         requires { block_of key self.old ≡ None }
-        ensures { self.new ≡ filled key block.now self.old }
+        ensures contents { self.new ≡ filled key block.now self.old }
+        ensures none_unlocked { self.new.locked ≡ self.old.locked }
     {
         let taken = next_frame(&self.frames);
         copy_in(&mut self.frames, taken, block);
@@ -127,7 +130,9 @@ impl Cache {
     /// Holds a block that is dirty until it is settled: in the frame of its key, or else in a frame that is taken for it.
     pub fn write(&mut self, key: Key, block: &Block)
         requires { IsLocked key self.old ⊎ (length self.old.locked < 24) }
-        ensures { self.new ≡ written key block.now self.old }
+        ensures contents { self.new ≡ written key block.now self.old }
+        ensures dirty { block_in key self.new.locked ≡ Some block.now }
+        ensures none_unlocked { (other : Key) → same_key key other ≡ false → block_in other self.new.locked ≡ block_in other self.old.locked }
     {
         if let Some(frame) = self.index.find(key) {
             copy_in(&mut self.frames, frame, block);
@@ -172,7 +177,8 @@ impl Cache {
     /// A dirty block is clean from now on.
     pub fn settle(&mut self, key: Key)
         requires { IsLocked key self.old }
-        ensures { self.new ≡ settled key self.old }
+        ensures contents { self.new ≡ settled key self.old }
+        ensures kept { block_of key self.new ≡ block_of key self.old }
     {
         if let Some(frame) = self.index.find(key) {
             move_first(&mut self.frames, &mut self.locked, frame, key, Queue::Lru);
@@ -181,7 +187,8 @@ impl Cache {
 
     /// A key is held no longer. Nothing changes where it was not.
     pub fn forget(&mut self, key: Key)
-        ensures { self.new ≡ forgotten key self.old }
+        ensures contents { self.new ≡ forgotten key self.old }
+        ensures gone { block_of key self.new ≡ None }
     {
         if let Some(frame) = self.index.find(key) {
             self.index.clear(frame);

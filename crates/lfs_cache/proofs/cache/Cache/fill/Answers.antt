@@ -5,8 +5,9 @@ use Rattle.lfs_recency.specs.declared.queue.Queue.TheVariants.{Lru}
 use Rattle.lfs_recency.specs.FrameLists.{FrameLists, frame_count, fronted}
 use Rattle.lfs_recency.specs.Lending.{with_block}
 use Rattle.lfs_cache.specs.Frames.{names_after}
-use Rattle.lfs_cache.specs.Contents.{filled, block_of}
+use Rattle.lfs_cache.specs.Contents.{Contents, filled, block_of}
 use Rattle.lfs_cache.specs.Held.{held_by}
+use Rattle.lfs_cache.proofs.CallerLemmas.{filled_locked}
 use Rattle.lfs_cache.proofs.Fresh.{has_next, next_range}
 use Rattle.lfs_cache.proofs.Steps.{fill_step, absent_is, told}
 use Rattle.lfs_cache.proofs.cache.Cache.fill.Goals as goal
@@ -33,10 +34,14 @@ invariant_of-self c =
     (c.move_first.ensures.frames ∙ ap (fronted f Lru) c.copy_in.ensures) c.put.ensures c.move_first.ensures.names c.move_first.ensures.room
     (fill_step l keys v.items (vec_capacity v) k c.self.invariant absent f w c.next_frame-taken.ensures)).0
 
-pub returns : goal.returns
-returns c =
+pub returns-clause-contents : goal.returns-clause-contents
+returns-clause-contents c =
     let l = c.self.inside.frames in let keys = c.self.inside.index in let v = c.self.inside.locked in let k = c.args.key in let f = c.next_frame-taken.result in let w = c.args.block.now in let m = c.move_first.new in
     let absent = absent_is l keys v.items (vec_capacity v) k c.self.invariant (ap (block_of k) c.self.view_is ∙ c.requires) in
     (told (fronted f Lru (with_block l f w)) m.frames (set keys f (Some k)) c.put.new.self (names_after Lru k v.items) m.locked.items (vec_capacity v) (vec_capacity m.locked) (filled k w (held_by l keys))
     (c.move_first.ensures.frames ∙ ap (fronted f Lru) c.copy_in.ensures) c.put.ensures c.move_first.ensures.names c.move_first.ensures.room
     (fill_step l keys v.items (vec_capacity v) k c.self.invariant absent f w c.next_frame-taken.ensures)).1 ∙ ap (filled k w) c.self.view_is
+
+pub returns-clause-none_unlocked : goal.returns-clause-none_unlocked
+returns-clause-none_unlocked c =
+    ap (λ (s : Contents). s.locked) (returns-clause-contents c) ∙ filled_locked c.args.key c.args.block.now c.args.self.now

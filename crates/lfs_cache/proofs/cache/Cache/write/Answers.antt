@@ -5,8 +5,9 @@ use Rattle.lfs_recency.specs.declared.queue.Queue.TheVariants.{Locked}
 use Rattle.lfs_recency.specs.FrameLists.{FrameLists, frame_count, fronted}
 use Rattle.lfs_recency.specs.Lending.{with_block}
 use Rattle.lfs_cache.specs.Frames.{names_after}
-use Rattle.lfs_cache.specs.Contents.{Contents, written, IsLocked}
+use Rattle.lfs_cache.specs.Contents.{Contents, block_in, written, IsLocked}
 use Rattle.lfs_cache.specs.Held.{held_by}
+use Rattle.lfs_cache.proofs.CallerLemmas.{written_dirty, written_locked}
 use Rattle.lfs_cache.proofs.Fresh.{has_next, next_range}
 use Rattle.lfs_cache.proofs.Steps.{locked_room, write_less, write_step, fresh_has_room, write_fresh_step, told}
 use Rattle.lfs_cache.proofs.cache.Cache.write.Goals as goal
@@ -25,8 +26,8 @@ invariant_of-self c =
     (c.move_first.ensures.frames ∙ ap (fronted f Locked) c.copy_in.ensures) refl c.move_first.ensures.names c.move_first.ensures.room
     (write_step l keys v.items (vec_capacity v) f k c.self.invariant c.in-Some.ensures.1 w may)).0
 
-pub returns-in-Some : goal.returns-in-Some
-returns-in-Some c =
+pub returns-in-Some-clause-contents : goal.returns-in-Some-clause-contents
+returns-in-Some-clause-contents c =
     let l = c.self.inside.frames in let keys = c.self.inside.index in let v = c.self.inside.locked in let k = c.args.key in let f = c.in-Some.frame in let w = c.args.block.now in let m = c.move_first.new in
     let may = subst (λ (s : Contents). IsLocked k s ⊎ (length s.locked < 24)) (sym c.self.view_is) c.requires in
     (told (fronted f Locked (with_block l f w)) m.frames keys keys (names_after Locked k v.items) m.locked.items (vec_capacity v) (vec_capacity m.locked) (written k w (held_by l keys))
@@ -61,10 +62,26 @@ invariant_of-self-2 c =
     (c.move_first-2.ensures.frames ∙ ap (fronted f Locked) c.copy_in-2.ensures) c.put.ensures c.move_first-2.ensures.names c.move_first-2.ensures.room
     (write_fresh_step l keys v.items (vec_capacity v) k c.self.invariant c.in_default.ensures f w c.next_frame-frame.ensures may)).0
 
-pub returns : goal.returns
-returns c =
+pub returns-clause-contents : goal.returns-clause-contents
+returns-clause-contents c =
     let l = c.self.inside.frames in let keys = c.self.inside.index in let v = c.self.inside.locked in let k = c.args.key in let f = c.next_frame-frame.result in let w = c.args.block.now in let m = c.move_first-2.new in
     let may = subst (λ (s : Contents). IsLocked k s ⊎ (length s.locked < 24)) (sym c.self.view_is) c.requires in
     (told (fronted f Locked (with_block l f w)) m.frames (set keys f (Some k)) c.put.new.self (names_after Locked k v.items) m.locked.items (vec_capacity v) (vec_capacity m.locked) (written k w (held_by l keys))
     (c.move_first-2.ensures.frames ∙ ap (fronted f Locked) c.copy_in-2.ensures) c.put.ensures c.move_first-2.ensures.names c.move_first-2.ensures.room
     (write_fresh_step l keys v.items (vec_capacity v) k c.self.invariant c.in_default.ensures f w c.next_frame-frame.ensures may)).1 ∙ ap (written k w) c.self.view_is
+
+pub returns-in-Some-clause-dirty : goal.returns-in-Some-clause-dirty
+returns-in-Some-clause-dirty c =
+    ap (λ (s : Contents). block_in c.args.key s.locked) (returns-in-Some-clause-contents c) ∙ written_dirty c.args.key c.args.block.now c.args.self.now
+
+pub returns-in-Some-clause-none_unlocked : goal.returns-in-Some-clause-none_unlocked
+returns-in-Some-clause-none_unlocked c other ne =
+    ap (λ (s : Contents). block_in other s.locked) (returns-in-Some-clause-contents c) ∙ written_locked c.args.key other c.args.block.now c.args.self.now ne
+
+pub returns-clause-dirty : goal.returns-clause-dirty
+returns-clause-dirty c =
+    ap (λ (s : Contents). block_in c.args.key s.locked) (returns-clause-contents c) ∙ written_dirty c.args.key c.args.block.now c.args.self.now
+
+pub returns-clause-none_unlocked : goal.returns-clause-none_unlocked
+returns-clause-none_unlocked c other ne =
+    ap (λ (s : Contents). block_in other s.locked) (returns-clause-contents c) ∙ written_locked c.args.key other c.args.block.now c.args.self.now ne
