@@ -1,6 +1,7 @@
 //! Blocks by key, in frames.
 ghost use Rattle.std.specs.Prelude.{◌≡◌, ◌⊎◌, ℕ, ◌+◌, ◌<◌, ◌≤◌, [], ◌∷◌, ◌++◌, length, Some, None, IsSome, false, IfOk, option_copied, vec_len, vec_capacity, map};
 ghost use Rattle.std.specs.Borrow.{sem};
+ghost use Rattle.std.specs.Option.{is_some};
 ghost use Rattle.lfs_recency.specs.FrameLists.{fronted, oldest_of, listed, frame_count, IsWhole};
 ghost use Rattle.lfs_recency.specs.declared.queue.Queue.TheVariants.{Locked, Lru, Age, Empty};
 ghost use Rattle.lfs_recency.specs.Lending.{with_block};
@@ -108,6 +109,7 @@ impl Cache {
     pub fn get(&mut self, key: Key) -> Option<&Block>
         ensures* used { sem 𝓛 (ends_as self.entry (used key self.old)) }
         ensures value { option_copied result ≡ block_of key self.old }
+        ensures missing { is_some result ≡ false → block_of key (used key self.old) ≡ None }
     {
         let frame = self.index.find(key)?;
         let queue = self.frames.queue(frame);
