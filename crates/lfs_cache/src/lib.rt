@@ -1,0 +1,12 @@
+//! The block cache: blocks by key, in frames of which the dirty ones are locked.
+#![tactic(auto)]
+
+mod cache;
+mod index;
+mod key;
+mod names;
+#[cfg(test)]
+mod tests;
+
+pub use cache::{Cache, LOCKED_LIMIT};
+pub use key::Key;

@@ -1,0 +1,6 @@
+pub mod Fields
+pub mod Filled
+pub mod Kept
+pub mod Linked
+pub mod Lists
+pub mod Rings

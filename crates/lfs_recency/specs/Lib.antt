@@ -1,0 +1,5 @@
+pub mod FrameLends
+pub mod FrameLists
+pub mod Lending
+pub mod Links
+pub mod Places

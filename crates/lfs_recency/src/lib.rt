@@ -1,0 +1,13 @@
+//! The frames of a block cache, in four queues that are linked by raw pointers.
+#![tactic(auto)]
+
+mod frame;
+mod frames;
+mod links;
+mod place;
+mod queue;
+#[cfg(test)]
+mod tests;
+
+pub use frames::Frames;
+pub use queue::Queue;
