@@ -6,6 +6,8 @@ pub mod flat_files;
 pub mod journal;
 mod making;
 mod reading;
+#[cfg(test)]
+mod tests;
 pub mod volume;
 mod walking;
 mod writing;
