@@ -1,5 +1,5 @@
 -- Journals: the opening one, and one with an entry more.
-use Rattle.std.proofs.Common.{◌≡◌, ℕ, ◌<◌, ◌≤◌, Bool, List, [], ◌∷◌, ◌++◌, length, Option, ◌⊎◌, ◌↔◌, None, Some, inr, true, false, refl, sym, ap, subst, ◌∙◌, ⊎_elim, arith, length-append}
+use Rattle.std.proofs.Common.{◌≡◌, ℕ, ◌<◌, ◌≤◌, Bool, List, [], ◌∷◌, ◌++◌, length, Option, ◌↔◌, None, Some, inr, true, false, refl, sym, ap, subst, ◌∙◌, ⊎_elim, arith, length-append}
 use Rattle.std.specs.Prelude.{option_map, IsSomeAnd, Contains}
 use Rattle.std.proofs.lemmas.List.Elements.{Contains-push_cases}
 use Rattle.std.specs.FinMap as map
@@ -23,7 +23,7 @@ use Rattle.lfs_volume.specs.World.{Rows, ancestor, IsTree, IsChild}
 use Rattle.lfs_volume.specs.Content.{visible, Shows, IsListing, entries_below}
 use Rattle.lfs_volume.specs.Effects.{effect, with_file}
 use Rattle.lfs_volume.specs.Copies.{HasBytes, is_lack_of_memory}
-use Rattle.lfs_volume.specs.Outcomes.{IsOutcome, IsCopying}
+use Rattle.lfs_volume.specs.Outcomes.{IsOutcome, MayLackMemory}
 use Rattle.lfs_volume.specs.Runs.{IsUnserved, AreAnswers, kept, kept_entry}
 use Rattle.lfs_volume.specs.Steps.{IsEvent, IsLegal, IsAnswer, IsJournal, IsNoSpace, after_answer, after_event, world_after, world_of}
 use Rattle.lfs_volume.proofs.Children.{child-answer, same_or_not}
@@ -232,7 +232,7 @@ kept-append (c ∷ calls) (a ∷ answers) call answer h =
 pub AreAnswers-append : (limit : ℕ) (can_lack : Bool) (journal : List Entry) (calls : List Call) (answers : List Answer) (call : Call) (answer : Answer)
     → AreAnswers limit can_lack journal calls answers
     → ((answer ≡ Refused JournalFull) ↔ (length (journal ++ kept calls answers) ≡ limit))
-    → (answer ≡ Refused NoMemory → (can_lack ≡ true) ⊎ IsCopying call.request)
+    → (answer ≡ Refused NoMemory → MayLackMemory can_lack call.request)
     → AreAnswers limit can_lack journal (calls ++ call ∷ []) (answers ++ answer ∷ [])
 AreAnswers-append limit can_lack journal [] [] call answer are full lack = (subst (λ j. (answer ≡ Refused JournalFull) ↔ (length j ≡ limit)) (append-nil journal) full, lack, tt)
 AreAnswers-append limit can_lack journal [] (a ∷ answers) call answer are full lack = absurd are
@@ -248,7 +248,7 @@ AreAnswers-append limit can_lack journal (c ∷ calls) (a ∷ answers) call answ
 pub lack_cause : (limit clean numbers : ℕ) (can_lack : Bool) (c : Content) (journal : List Entry) (w : World) (caller : Caller) (request : Request) (answer : Answer)
     → ((answer ≡ Refused JournalFull) ↔ (length journal ≡ limit)) → length journal ≤ limit
     → (length journal < limit → IsOutcome numbers clean can_lack c w caller request answer)
-    → answer ≡ Refused NoMemory → (can_lack ≡ true) ⊎ IsCopying request
+    → answer ≡ Refused NoMemory → MayLackMemory can_lack request
 lack_cause limit clean numbers can_lack c journal w caller request answer full within outcome e = ⊎_elim
     (λ at. let is : answer ≡ Refused JournalFull = full.1 at in absurd (cc))
     (λ other. let o = subst (IsOutcome numbers clean can_lack c w caller request) e (outcome (omega (arith, within, other))) in o.3)

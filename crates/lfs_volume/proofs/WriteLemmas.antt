@@ -220,7 +220,7 @@ pub refused_outcome : (numbers clean : ℕ) (can_lack : Bool) (c : Content) (w :
     → MayRefuse clean can_lack refusal → decide w caller request ≡ None → (LacksInodes numbers w request → ⊥) → IsChanging request → (FillsDirectory c w request → ⊥)
     → IsOutcome numbers clean can_lack c w caller request (Refused (resource_of refusal))
 refused_outcome numbers clean can_lack c w caller request NoSpace may allowed numbered changing roomy = ((allowed, (numbered, changing)), roomy, may)
-refused_outcome numbers clean can_lack c w caller request NoMemory may allowed numbered changing roomy = (allowed, numbered, roomy, inl may)
+refused_outcome numbers clean can_lack c w caller request NoMemory may allowed numbered changing roomy = (allowed, numbered, roomy, inl (may, changing))
 
 pub write_tree_some : (c : Content) (w : World) → Shows c w → IsTree w.rows → (caller : Caller) (path : List (List ℕ)) (place : Place) (bytes : List ℕ) (target : Target)
     → IsTarget c w caller path place bytes target → (before after : Content) → before ≡ c → 0 < length bytes → WritesFile before after target.number caller target.start bytes → IsTree (after_write w caller path place bytes).rows

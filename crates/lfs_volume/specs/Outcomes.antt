@@ -10,7 +10,7 @@ use Rattle.lfs_types.specs.declared.request.Request.{Request}
 use Rattle.lfs_types.specs.declared.request.Request.TheVariants.{Stat, Read, Write, Create}
 use Rattle.lfs_volume.specs.Rules.{decide, front, last, reached}
 use Rattle.lfs_volume.specs.Content.{FitsNowhere}
-use Rattle.lfs_volume.specs.Steps.{IsAnswer, LacksInodes}
+use Rattle.lfs_volume.specs.Steps.{IsAnswer, IsChanging, LacksInodes}
 
 -- the call wants a new name that fits in no block of its directory, which has all the blocks that it may have
 abbrev pub FillsDirectory : Content → World → Request → Type 0
@@ -26,15 +26,19 @@ IsCopying (Read path off len) = Unit {0}
 IsCopying (Write path place bytes) = ⊥
 IsCopying (Create path mode) = ⊥
 
+-- the call may lack memory: where it changes files over a store that can lack it, or copies what it serves
+abbrev pub MayLackMemory : Bool → Request → Type 0
+MayLackMemory can_lack request = ((can_lack ≡ true) × IsChanging request) ⊎ IsCopying request
+
 -- Over a store of this content, with so many inode numbers and so many clean segments, which can lack memory or
 -- can't, a call may be answered so: by a step of the volume, NoSpace only with at most two clean segments,
--- DirectoryFull exactly where the directory is full, NoMemory only where the call would be served and takes memory.
+-- DirectoryFull exactly where the directory is full, NoMemory only where the call would be served and may lack memory.
 abbrev pub IsOutcome : ℕ → ℕ → Bool → Content → World → Caller → Request → Answer → Type 0
 IsOutcome numbers clean can_lack c w caller request (Served shown) =
     IsAnswer numbers w caller request (Served shown) × (FillsDirectory c w request → ⊥)
 IsOutcome numbers clean can_lack c w caller request (Denied denial) = IsAnswer numbers w caller request (Denied denial)
 IsOutcome numbers clean can_lack c w caller request (Refused NoMemory) =
-    (decide w caller request ≡ None) × (LacksInodes numbers w request → ⊥) × (FillsDirectory c w request → ⊥) × ((can_lack ≡ true) ⊎ IsCopying request)
+    (decide w caller request ≡ None) × (LacksInodes numbers w request → ⊥) × (FillsDirectory c w request → ⊥) × MayLackMemory can_lack request
 IsOutcome numbers clean can_lack c w caller request (Refused NoSpace) =
     IsAnswer numbers w caller request (Refused NoSpace) × (FillsDirectory c w request → ⊥) × (clean ≤ 2)
 IsOutcome numbers clean can_lack c w caller request (Refused NoInodes) = IsAnswer numbers w caller request (Refused NoInodes)

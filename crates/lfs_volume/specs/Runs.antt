@@ -1,5 +1,5 @@
 -- What calls and runs of calls leave of the journal.
-use Rattle.std.specs.Prelude.{◌≡◌, ◌⊎◌, ◌↔◌, ℕ, Bool, true, List, [], ◌∷◌, ◌++◌, length}
+use Rattle.std.specs.Prelude.{◌≡◌, ◌↔◌, ℕ, Bool, List, [], ◌∷◌, ◌++◌, length}
 use Rattle.lfs_types.specs.Caller.{Caller}
 use Rattle.lfs_types.specs.declared.answer.Answer.{Answer}
 use Rattle.lfs_types.specs.declared.answer.Answer.TheVariants.{Served, Denied, Refused}
@@ -8,7 +8,7 @@ use Rattle.lfs_types.specs.declared.request.Request.{Request}
 use Rattle.lfs_volume.specs.declared.journal.Call.{Call}
 use Rattle.lfs_volume.specs.declared.journal.Entry.{Entry}
 use Rattle.lfs_volume.specs.declared.journal.Event.TheVariants.{User}
-use Rattle.lfs_volume.specs.Outcomes.{IsCopying}
+use Rattle.lfs_volume.specs.Outcomes.{MayLackMemory}
 
 -- the entry of a call that was answered so: none where memory or the journal's room was wanting
 abbrev pub kept_entry : ℕ → Caller → Request → Answer → List Entry
@@ -33,12 +33,12 @@ IsUnserved (Denied denial) = Unit {0}
 IsUnserved (Refused resource) = Unit {0}
 
 -- Answers to calls made one after another on a journal: JournalFull exactly where it has its limit by then, and
--- NoMemory only at a call that takes memory.
+-- NoMemory only at a call that may lack memory.
 abbrev pub AreAnswers : ℕ → Bool → List Entry → List Call → List Answer → Type 0
 AreAnswers limit can_lack journal [] [] = Unit {0}
 AreAnswers limit can_lack journal [] (answer ∷ answers) = ⊥
 AreAnswers limit can_lack journal (call ∷ calls) [] = ⊥
 AreAnswers limit can_lack journal (call ∷ calls) (answer ∷ answers) =
     ((answer ≡ Refused JournalFull) ↔ (length journal ≡ limit))
-    × (answer ≡ Refused NoMemory → (can_lack ≡ true) ⊎ IsCopying call.request)
+    × (answer ≡ Refused NoMemory → MayLackMemory can_lack call.request)
     × AreAnswers limit can_lack (journal ++ kept_entry call.session call.cred call.request answer) calls answers

@@ -123,6 +123,22 @@ fn journal_limit(rt: HostRuntime) -> Result<(), Fail> {
     Ok(())
 }
 
+#[test]
+fn name_that_is_not_there(rt: HostRuntime) -> Result<(), Fail> {
+    let alloc = rt.alloc();
+    let mut volume = volume(alloc, 16, 8)?;
+    let cred = Cred::new(5, &[5], false)?;
+    let answer = volume.call(0, &cred, stat(alloc, "/x")?);
+    assert_eq!(rt; answer, denied(Rule::NameThere, 1));
+    let answer = volume.call(0, &cred, read(alloc, "/x/y", 0, 1)?);
+    assert_eq!(rt; answer, denied(Rule::NameThere, 1));
+    let answer = volume.call(0, &cred, create(alloc, "/x/y", 0o600)?);
+    assert_eq!(rt; answer, denied(Rule::NameThere, 1));
+    let answer = volume.call(0, &cred, create(alloc, "/", 0o600)?);
+    assert_eq!(rt; answer, denied(Rule::NameFree, 0));
+    Ok(())
+}
+
 /// The path of a name of 255 bytes in the root, the last three its number.
 fn long_path(alloc: Global, number: u32) -> Result<String, Fail> {
     let mut path = String::with_capacity(alloc, 256)?;
