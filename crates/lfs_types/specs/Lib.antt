@@ -8,6 +8,7 @@ pub mod Naming
 pub mod Padded
 pub mod Paths
 pub mod RuleCodes
+pub mod Shown
 pub mod Splicing
 pub mod Stored
 pub mod Tree

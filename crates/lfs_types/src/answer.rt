@@ -1,9 +1,10 @@
 //! What a user is answered.
 
-ghost use Rattle.std.specs.Prelude.{◌≡◌, IfOk};
+ghost use Rattle.std.specs.Prelude.{◌≡◌, IfOk, IsErr};
+ghost use Rattle.lfs_types.specs.Shown.{IsList, ServesList};
 
 use crate::attrs::Attrs;
-use crate::payload::Bytes;
+use crate::payload::{Bytes, Names};
 use crate::rule::Denial;
 use std::alloc::{AllocError, Global};
 
@@ -14,6 +15,8 @@ pub enum Served {
     Stat(u32, Attrs),
     /// A Read's bytes.
     Bytes(Bytes),
+    /// A List's names, in byte order.
+    Names(Names),
     /// The call is done.
     Done,
 }
@@ -45,22 +48,25 @@ pub enum Answer {
 }
 
 impl Served {
-    /// A value equal to this one.
+    /// A value equal to this one. Only bytes and names take memory.
     pub fn try_clone(&self, alloc: Global) -> Result<Served, AllocError>
-        ensures { IfOk result (λ copy. copy ≡ self.now) }
+        ensures copy { IfOk result (λ copy. copy ≡ self.now) }
+        ensures memory { IsErr result → IsList self.now }
     {
         Ok(match self {
             Served::Stat(number, attrs) => Served::Stat(*number, *attrs),
             Served::Bytes(bytes) => Served::Bytes(bytes.try_clone(alloc)?),
+            Served::Names(names) => Served::Names(names.try_clone(alloc)?),
             Served::Done => Served::Done,
         })
     }
 }
 
 impl Answer {
-    /// An answer equal to this one.
+    /// An answer equal to this one. Only bytes and names take memory.
     pub fn try_clone(&self, alloc: Global) -> Result<Answer, AllocError>
-        ensures { IfOk result (λ copy. copy ≡ self.now) }
+        ensures copy { IfOk result (λ copy. copy ≡ self.now) }
+        ensures memory { IsErr result → ServesList self.now }
     {
         Ok(match self {
             Answer::Served(served) => Answer::Served(served.try_clone(alloc)?),

@@ -2,6 +2,8 @@
 
 ghost use Rattle.std.specs.Prelude.{◌≡◌, IfOk};
 
+use crate::file_flags::FileFlags;
+use crate::level::Level;
 use crate::mode::Mode;
 use crate::path::Path;
 use crate::payload::Payload;
@@ -42,12 +44,76 @@ pub enum Request {
         /// The bytes.
         bytes: Payload,
     },
+    /// Lists the names in a directory, in byte order.
+    List {
+        /// The directory.
+        path: Path,
+    },
+    /// Cuts a file, or adds zeros to it.
+    SetLength {
+        /// The file.
+        path: Path,
+        /// How many bytes it gets.
+        len: u64,
+    },
     /// Makes an empty file.
     Create {
         /// The file's path, of which all but the last name is there.
         path: Path,
         /// The file's mode.
         mode: Mode,
+    },
+    /// Makes an empty directory.
+    Mkdir {
+        /// The directory's path, of which all but the last name is there.
+        path: Path,
+        /// The directory's mode.
+        mode: Mode,
+    },
+    /// Removes a file.
+    Unlink {
+        /// The file.
+        path: Path,
+    },
+    /// Removes an empty directory.
+    Rmdir {
+        /// The directory.
+        path: Path,
+    },
+    /// Gives a file or a directory another name, in the same directory or in another.
+    Rename {
+        /// Its path.
+        from: Path,
+        /// Its new path, of which all but the last name is there.
+        to: Path,
+    },
+    /// Sets the mode of a file or a directory.
+    Chmod {
+        /// The file.
+        path: Path,
+        /// Its new mode.
+        mode: Mode,
+    },
+    /// Sets the owner and the group of a file or a directory.
+    Chown {
+        /// The file.
+        path: Path,
+        /// Its new owner.
+        uid: u32,
+        /// Its new group.
+        gid: u32,
+    },
+    /// Sets the flags of a file or a directory.
+    Chflags {
+        /// The file.
+        path: Path,
+        /// All its new flags.
+        flags: FileFlags,
+    },
+    /// Sets the securelevel.
+    SetLevel {
+        /// The new level.
+        level: Level,
     },
 }
 
@@ -70,10 +136,45 @@ impl Request {
                 place: *place,
                 bytes: bytes.try_clone(alloc)?,
             },
+            Request::List { path } => Request::List {
+                path: path.try_clone(alloc)?,
+            },
+            Request::SetLength { path, len } => Request::SetLength {
+                path: path.try_clone(alloc)?,
+                len: *len,
+            },
             Request::Create { path, mode } => Request::Create {
                 path: path.try_clone(alloc)?,
                 mode: *mode,
             },
+            Request::Mkdir { path, mode } => Request::Mkdir {
+                path: path.try_clone(alloc)?,
+                mode: *mode,
+            },
+            Request::Unlink { path } => Request::Unlink {
+                path: path.try_clone(alloc)?,
+            },
+            Request::Rmdir { path } => Request::Rmdir {
+                path: path.try_clone(alloc)?,
+            },
+            Request::Rename { from, to } => Request::Rename {
+                from: from.try_clone(alloc)?,
+                to: to.try_clone(alloc)?,
+            },
+            Request::Chmod { path, mode } => Request::Chmod {
+                path: path.try_clone(alloc)?,
+                mode: *mode,
+            },
+            Request::Chown { path, uid, gid } => Request::Chown {
+                path: path.try_clone(alloc)?,
+                uid: *uid,
+                gid: *gid,
+            },
+            Request::Chflags { path, flags } => Request::Chflags {
+                path: path.try_clone(alloc)?,
+                flags: *flags,
+            },
+            Request::SetLevel { level } => Request::SetLevel { level: *level },
         })
     }
 }

@@ -19,6 +19,11 @@ pub enum Change<'a> {
         /// The attributes.
         attrs: Attrs,
     },
+    /// A number becomes free, and its file is gone.
+    Remove {
+        /// The number.
+        ino: u32,
+    },
     /// A file gets these attributes; its bytes and its size stay.
     SetAttrs {
         /// The number.
@@ -34,6 +39,13 @@ pub enum Change<'a> {
         off: u64,
         /// The bytes.
         bytes: &'a [u8],
+    },
+    /// A file is cut, or zeros are added to it.
+    SetLength {
+        /// The number.
+        ino: u32,
+        /// How many bytes it gets.
+        len: u64,
     },
 }
 

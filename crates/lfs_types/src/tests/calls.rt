@@ -3,9 +3,11 @@
 use crate::answer::{Answer, Resource, Served};
 use crate::attrs::{Attrs, Kind};
 use crate::file_flags::FileFlags;
+use crate::level::Level;
 use crate::mode::Mode;
+use crate::name::clone_names;
 use crate::path::Path;
-use crate::payload::{Bytes, Payload};
+use crate::payload::{Bytes, Names, Payload};
 use crate::request::{Place, Request};
 use crate::rule::{Denial, Rule};
 use std::alloc::Global;
@@ -22,7 +24,7 @@ fn payload(alloc: Global, bytes: &[u8]) -> Result<Payload, Fail> {
     }
 }
 
-/// Creates `/a`, writes to it, reads it, writes to it again; then the other forms of a request.
+/// Creates `/a`, writes to it and reads it.
 fn requests(alloc: Global) -> Result<Vec<Request>, Fail> {
     let requests = vec![in alloc;
         Request::Create {
@@ -39,6 +41,13 @@ fn requests(alloc: Global) -> Result<Vec<Request>, Fail> {
             off: 0,
             len: 10
         },
+    ]?;
+    Ok(requests)
+}
+
+/// Writes to `/a` again, at its end too, and shows it.
+fn later_requests(alloc: Global) -> Result<Vec<Request>, Fail> {
+    let requests = vec![in alloc;
         Request::Write {
             path: path(alloc)?,
             place: Place::At(0),
@@ -80,11 +89,75 @@ fn answers(alloc: Global) -> Result<Vec<Answer>, Fail> {
     Ok(answers)
 }
 
+/// The calls that change what is there already, at two paths.
+fn changes(alloc: Global) -> Result<Vec<Request>, Fail> {
+    let flags = FileFlags::new(4).ok_or("flags")?;
+    let changes = vec![in alloc;
+        Request::SetLength {
+            path: path(alloc)?,
+            len: 3
+        },
+        Request::Chown {
+            path: path(alloc)?,
+            uid: 7,
+            gid: 8
+        },
+        Request::Chflags {
+            path: path(alloc)?,
+            flags
+        },
+        Request::SetLevel {
+            level: Level::Secure
+        },
+    ]?;
+    Ok(changes)
+}
+
+/// The calls that make and take away names.
+fn moves(alloc: Global) -> Result<Vec<Request>, Fail> {
+    let moves = vec![in alloc;
+        Request::List { path: path(alloc)? },
+        Request::Unlink { path: path(alloc)? },
+        Request::Rmdir { path: path(alloc)? },
+        Request::Rename {
+            from: path(alloc)?,
+            to: Path::parse(alloc, "/b")?
+        },
+    ]?;
+    Ok(moves)
+}
+
+/// The calls that give a mode.
+fn modes(alloc: Global) -> Result<Vec<Request>, Fail> {
+    let mode = Mode::new(0o755).ok_or("a mode")?;
+    let modes = vec![in alloc;
+        Request::Mkdir {
+            path: path(alloc)?,
+            mode
+        },
+        Request::Chmod {
+            path: path(alloc)?,
+            mode
+        },
+        Request::Rename {
+            from: Path::parse(alloc, "/b")?,
+            to: path(alloc)?
+        },
+    ]?;
+    Ok(modes)
+}
+
 #[test]
 fn copied_requests_are_equal_to_their_own_alone(rt: HostRuntime) -> Result<(), Fail> {
-    let requests = requests(rt.alloc())?;
+    let alloc = rt.alloc();
+    let mut requests = requests(alloc)?;
+    requests.append(&mut later_requests(alloc)?)?;
+    requests.append(&mut changes(alloc)?)?;
+    requests.append(&mut moves(alloc)?)?;
+    requests.append(&mut modes(alloc)?)?;
+    assert_eq!(rt; requests.len(), 17);
     for (i, request) in requests.iter().enumerate() {
-        let copy = request.try_clone(rt.alloc())?;
+        let copy = request.try_clone(alloc)?;
         for (j, other) in requests.iter().enumerate() {
             assert_eq!(rt; copy == *other, i == j, "{i}, {j}");
         }
@@ -101,6 +174,19 @@ fn copied_answers_are_equal_to_their_own_alone(rt: HostRuntime) -> Result<(), Fa
             assert_eq!(rt; copy == *other, i == j, "{i}, {j}");
         }
     }
+    Ok(())
+}
+
+#[test]
+fn copied_names_are_served_again(rt: HostRuntime) -> Result<(), Fail> {
+    let alloc = rt.alloc();
+    let names = |text: &str| -> Result<Names, Fail> {
+        Ok(Names::from(clone_names(alloc, Path::parse(alloc, text)?.names())?))
+    };
+    let served = Served::Names(names("/a/b")?);
+    let copy = served.try_clone(alloc)?;
+    assert_eq!(rt; copy, served);
+    assert_ne!(rt; copy, Served::Names(names("/b/a")?));
     Ok(())
 }
 
