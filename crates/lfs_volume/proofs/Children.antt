@@ -1,19 +1,12 @@
 -- The row that hangs under a parent and a name, as a look-up and as a fact.
-use Rattle.std.proofs.Common.{◌≡◌, ◌≢◌, ℕ, Bool, true, false, List, Option, None, Some, inl, inr, refl, sym, ap, ◌∙◌, subst, ⊎_elim}
-use Rattle.std.specs.Prelude.{◌⊎◌, ◌==◌, ◌&&◌, not, bytes_eq}
-use Rattle.std.proofs.lemmas.Bool.{eqb-true, eqb-false, eq-eqb, ne_eqb, cases_Bool}
+use Rattle.std.proofs.Common.{◌≡◌, ◌≢◌, ℕ, true, false, List, Option, None, Some, refl, sym, ap, ◌∙◌, subst, ⊎_elim}
+use Rattle.std.specs.Prelude.{◌==◌, ◌&&◌, not, bytes_eq}
+use Rattle.std.proofs.lemmas.Bool.{and_parts, and_from, eqb-true, eq-eqb, ne_eqb, cases_eq}
 use Rattle.std.proofs.lemmas.Slice.Eq.{bytes_eq-Decides}
 use Rattle.std.specs.FinMap as map
 use Rattle.lfs_types.specs.Tree.{Row, root}
 use Rattle.lfs_volume.specs.World.{Rows, hangs_as, child, IsChild}
 use Rattle.lfs_volume.proofs.Maps.{find-passes, find-none, is_key, get-insert_same, get-insert_other}
-
-and_parts : (a b : Bool) → (a && b) ≡ true → (a ≡ true) × (b ≡ true)
-and_parts true b h = (refl, h)
-and_parts false b h = absurd (cc)
-
-and_both : {a b : Bool} → a ≡ true → b ≡ true → (a && b) ≡ true
-and_both {a} {b} h k = ap (λ x. x && b) h ∙ k
 
 -- a row hangs in a directory under a name
 pub record Hangs (parent : ℕ) (name : List ℕ) (n : ℕ) (r : Row) : Type 0 where
@@ -31,7 +24,7 @@ passes : (parent : ℕ) (name : List ℕ) (n : ℕ) (r : Row) → Hangs parent n
 passes parent name n r h =
     let apart : (n == root) ≡ false = ne_eqb n root h.below in
     let parents : (r.parent == parent) ≡ true = subst (λ x. (r.parent == x) ≡ true) h.hangs (eq-eqb r.parent r.parent refl) in
-    and_both (and_both (ap not apart) parents) ((bytes_eq-Decides r.name name).1 h.named)
+    and_from _ _ (and_from _ _ (ap not apart) parents) ((bytes_eq-Decides r.name name).1 h.named)
 
 hanging : (rows : Rows) (parent : ℕ) (name : List ℕ) (n : ℕ) (o : Option Row) → map.get rows n ≡ o → hangs_as parent name n o ≡ true → IsChild rows parent name n
 hanging rows parent name n None is h = absurd (cc)
@@ -58,6 +51,7 @@ abbrev pub IsChildAnswer : Rows → ℕ → List ℕ → Option ℕ → Type 0
 IsChildAnswer rows parent name None = (n : ℕ) → IsChild rows parent name n → ⊥
 IsChildAnswer rows parent name (Some n) = IsChild rows parent name n
 
+-- no two rows hang under one parent and name
 abbrev pub IsUnique : Rows → Type 0
 IsUnique rows = (parent : ℕ) (name : List ℕ) (m n : ℕ) → IsChild rows parent name m → IsChild rows parent name n → m ≡ n
 
@@ -75,9 +69,6 @@ child-answer rows unique parent name answer h = answered rows unique parent name
 pub is_child_answer : (rows : Rows) (parent : ℕ) (name : List ℕ) (found : Option ℕ) → child rows parent name ≡ found → IsChildAnswer rows parent name found
 is_child_answer rows parent name None e = child-none rows parent name e
 is_child_answer rows parent name (Some n) e = child-is rows parent name n e
-
-pub same_or_not : (m n : ℕ) → (m ≡ n) ⊎ (m ≢ n)
-same_or_not m n = ⊎_elim (λ h. inl (eqb-true m n h)) (λ h. inr (eqb-false m n h)) (cases_Bool (m == n))
 
 -- ---- a new row
 
@@ -107,18 +98,20 @@ module _ (rows : Rows) (n : ℕ) (row : Row) where
     one_new parent name m at c =
         child-none rows row.parent row.name free m (record { row = c.row; there = c.there; below = c.below; hangs = c.hangs ∙ sym at.0; named = c.named ∙ sym at.1 })
 
+    -- with the new row too, no two rows hang under one parent and name
     pub unique-new : IsUnique (map.insert rows n row)
     unique-new parent name m k c d = ⊎_elim
         (λ e. ⊎_elim
         (λ f. e ∙ sym f)
         (λ f. absurd (one_new parent name k (where_new parent name (subst (IsChild (map.insert rows n row) parent name) e c)) (kept_old parent name k f d)))
-        (same_or_not k n))
+        (cases_eq k n))
         (λ e. ⊎_elim
         (λ f. absurd (one_new parent name m (where_new parent name (subst (IsChild (map.insert rows n row) parent name) f d)) (kept_old parent name m e c)))
         (λ f. unique parent name m k (kept_old parent name m e c) (kept_old parent name k f d))
-        (same_or_not k n))
-        (same_or_not m n)
+        (cases_eq k n))
+        (cases_eq m n)
 
+    -- the look-up finds the new row
     pub child-new : child (map.insert rows n row) row.parent row.name ≡ Some n
     child-new = child-answer _ unique-new row.parent row.name (Some n) (the_new below)
 
@@ -126,9 +119,10 @@ module _ (rows : Rows) (n : ℕ) (row : Row) where
     same_answer parent name apart None e = λ m c. ⊎_elim
         (λ same. let at = where_new parent name (subst (IsChild (map.insert rows n row) parent name) same c) in apart at.0 at.1)
         (λ other. child-none rows parent name e m (kept_old parent name m other c))
-        (same_or_not m n)
+        (cases_eq m n)
     same_answer parent name apart (Some m) e = let c = child-is rows parent name m e in kept_new parent name m (old_not_new parent name m c) c
 
+    -- elsewhere it finds what it found
     pub child-new_other : (parent : ℕ) (name : List ℕ) → (row.parent ≡ parent → row.name ≡ name → ⊥) → child (map.insert rows n row) parent name ≡ child rows parent name
     child-new_other parent name apart = child-answer _ unique-new parent name (child rows parent name) (same_answer parent name apart _ refl)
 
@@ -141,7 +135,7 @@ module _ (rows : Rows) (n : ℕ) (old new : Row) (there : map.get rows n ≡ Som
       let same : c.row ≡ new = cc (c.there, get-insert_same rows n new, ap (map.get (map.insert rows n new)) e) in
       record { row = old; there = ap (map.get rows) e ∙ there; below = c.below; hangs = sym parents ∙ ap (λ r. r.parent) (sym same) ∙ c.hangs; named = sym names ∙ ap (λ r. r.name) (sym same) ∙ c.named })
       (λ other. kept_old rows n new parent name m other c)
-      (same_or_not m n)
+      (cases_eq m n)
 
   stays_new : (parent : ℕ) (name : List ℕ) (m : ℕ) → IsChild rows parent name m → IsChild (map.insert rows n new) parent name m
   stays_new parent name m c = ⊎_elim
@@ -149,8 +143,9 @@ module _ (rows : Rows) (n : ℕ) (old new : Row) (there : map.get rows n ≡ Som
       let same : c.row ≡ old = cc (c.there, there, ap (map.get rows) e) in
       record { row = new; there = ap (map.get (map.insert rows n new)) e ∙ get-insert_same rows n new; below = c.below; hangs = parents ∙ ap (λ r. r.parent) (sym same) ∙ c.hangs; named = names ∙ ap (λ r. r.name) (sym same) ∙ c.named })
       (λ other. kept_new rows n new parent name m other c)
-      (same_or_not m n)
+      (cases_eq m n)
 
+  -- no two rows hang under one parent and name
   pub unique-stays : IsUnique (map.insert rows n new)
   unique-stays parent name m k c d = unique parent name m k (stays_old parent name m c) (stays_old parent name k d)
 
@@ -158,5 +153,6 @@ module _ (rows : Rows) (n : ℕ) (old new : Row) (there : map.get rows n ≡ Som
   stays_answer parent name None e = λ m c. child-none rows parent name e m (stays_old parent name m c)
   stays_answer parent name (Some m) e = stays_new parent name m (child-is rows parent name m e)
 
+  -- the look-up finds what it found
   pub child-stays : (parent : ℕ) (name : List ℕ) → child (map.insert rows n new) parent name ≡ child rows parent name
   child-stays parent name = child-answer _ unique-stays parent name (child rows parent name) (stays_answer parent name _ refl)

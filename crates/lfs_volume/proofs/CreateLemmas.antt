@@ -5,10 +5,11 @@ use Rattle.std.specs.FinMap as map
 use Rattle.lfs_types.specs.Caller.{Caller}
 use Rattle.lfs_types.specs.Changes.{IsLength}
 use Rattle.lfs_types.specs.Splicing.{splice}
-use Rattle.lfs_types.specs.Stored.{bytes_of, bytes_of_file, IsLeastFree}
+use Rattle.lfs_types.specs.Stored.{bytes_of, IsLeastFree}
 use Rattle.lfs_types.specs.Tree.{File, Row, World, Content, root}
 use Rattle.lfs_types.specs.declared.attrs.Attrs.{Attrs}
-use Rattle.lfs_types.specs.declared.attrs.Kind.TheVariants.{File as Regular, Directory}
+use Rattle.lfs_types.specs.declared.attrs.Kind.{Kind}
+use Rattle.lfs_types.specs.declared.attrs.Kind.TheVariants.{Directory}
 use Rattle.lfs_dirs.specs.Changes.{AreEntries-middle}
 use Rattle.lfs_dirs.specs.Directory.{AreEntries, IsEntry, number_in, used_of}
 use Rattle.lfs_dirs.specs.Laws.{used_of-block, used_of-append}
@@ -18,51 +19,41 @@ use Rattle.lfs_volume.specs.declared.walking.Reached.{Reached}
 use Rattle.lfs_volume.specs.World.{children, IsTree, file_at}
 use Rattle.lfs_volume.specs.Rules.{front, last, reached}
 use Rattle.lfs_volume.specs.Effects.{new_file, with_new, least_unused}
-use Rattle.lfs_volume.specs.Content.{Shows, IsListing, AreBlocks, FitsNowhere, block_at, listed}
+use Rattle.lfs_volume.specs.Content.{Shows, IsListing, FitsNowhere, block_at, listed}
 use Rattle.lfs_volume.specs.Makes.{IsParent, IsRoom, MakesFile}
 use Rattle.lfs_volume.specs.Steps.{AllUsed}
 use Rattle.lfs_volume.proofs.Children.{child-new, child-new_other}
 use Rattle.lfs_volume.proofs.Crowded.{crowded}
+use Rattle.lfs_volume.proofs.Directories.{dir_file, file_kind, file_length, file_bytes, bytes_listing}
 use Rattle.lfs_volume.proofs.Grown.{IsTree-grown}
 use Rattle.lfs_volume.proofs.GrownStore.{Shows-grown}
 use Rattle.lfs_volume.proofs.Listings.{IsListing-added}
 use Rattle.lfs_volume.proofs.MakeLemmas.{grown_length, least_unused-is}
 use Rattle.lfs_volume.proofs.Pieces.{put_over, splice-put_over}
 use Rattle.lfs_volume.proofs.Somewhere.{present, is_some_and, there_of}
-use Rattle.lfs_volume.proofs.StepLemmas.{ShownFile, shown_file, directory_kind, child_listed}
+use Rattle.lfs_volume.proofs.StepLemmas.{ShownFile, attrs_reads, child_listed}
 use Rattle.lfs_volume.proofs.Visible.{Stored, shown_of, unused_of}
 
--- a directory as its parent's record shows it
-module _ (c : Content) (w : World) (shows : Shows c w) (tree : IsTree w.rows) (caller : Caller) (path : List (List ℕ)) (dir : Reached) (is : IsParent c w.rows caller path dir) where
+-- a directory in which a new name may be put
+module _ {c : Content} {w : World} (shows : Shows c w) {caller : Caller} {index : ℕ} {path : List (List ℕ)} {dir : Reached} (is : IsParent c w.rows caller index path dir) where
   abbrev f : ShownFile c dir.number dir.attrs
-  f = shown_file c dir.number dir.attrs is.shown
+  f = dir_file shows dir.number dir.attrs is.shown is.directory
 
-  pub dir_kind : f.file.kind ≡ Directory
-  dir_kind = ap (λ (x : Attrs). x.kind) (sym f.same) ∙ directory_kind dir.attrs.kind is.directory
+  dir_kind : f.file.kind ≡ Directory
+  dir_kind = file_kind shows dir.number dir.attrs is.shown is.directory
 
   dir_length : IsLength Directory (length f.file.bytes)
-  dir_length = subst (λ k. IsLength k (length f.file.bytes)) dir_kind (shows.sizes dir.number f.file f.stored)
+  dir_length = file_length shows dir.number dir.attrs is.shown is.directory
 
-  pub dir_whole : dir.attrs.size % 512 ≡ 0
-  dir_whole = ap (λ (x : Attrs). x.size % 512) f.same ∙ dir_length.1
+  dir_bytes : bytes_of c dir.number ≡ f.file.bytes
+  dir_bytes = file_bytes shows dir.number dir.attrs is.shown is.directory
 
-  pub dir_bounded : dir.attrs.size ≤ 71680
-  dir_bounded = subst (λ (x : Attrs). x.size ≤ 71680) (sym f.same) dir_length.0
-
-  pub dir_bytes : bytes_of c dir.number ≡ f.file.bytes
-  dir_bytes = ap bytes_of_file f.stored
-
-  pub dir_blocks : AreBlocks (bytes_of c dir.number)
-  dir_blocks = subst AreBlocks (sym dir_bytes) (shows.listings dir.number f.file f.stored dir_kind).blocks
-
+  -- the directory doesn't list the name
   pub dir_free : number_in (last path) (listed (bytes_of c dir.number)) ≡ None
   dir_free = child_listed c w shows dir.number dir.attrs is.shown is.directory (last path) ∙ is.free
 
-  pub dir_listing : IsListing w.rows dir.number (bytes_of c dir.number)
-  dir_listing = subst (IsListing w.rows dir.number) (sym dir_bytes) (shows.listings dir.number f.file f.stored dir_kind)
-
   -- a new row of an unused number
-  module _ (numbers number : ℕ) (least : IsLeastFree numbers c (Some number)) (mode : ℕ) where
+  module _ (tree : IsTree w.rows) (numbers number : ℕ) (least : IsLeastFree numbers c (Some number)) (kind : Kind) (mode : ℕ) where
     absent : map.get w.rows number ≡ None
     absent = unused_of c w shows number least.2
 
@@ -73,7 +64,7 @@ module _ (c : Content) (w : World) (shows : Shows c w) (tree : IsTree w.rows) (c
     d = shown_of c w shows dir.number f.file f.stored
 
     abbrev new_row : Row
-    new_row = record { parent = dir.number; name = last path; file = new_file caller Regular dir.attrs.gid mode }
+    new_row = record { parent = dir.number; name = last path; file = new_file caller kind dir.attrs.gid mode }
 
     unlike : dir.number ≢ number
     unlike e = let there = f.stored in let none : map.get c dir.number ≡ None = subst (λ q. map.get c q ≡ None) (sym e) least.2 in absurd (cc)
@@ -83,34 +74,38 @@ module _ (c : Content) (w : World) (shows : Shows c w) (tree : IsTree w.rows) (c
         (λ k low high. let g = there_of (map.get c k) (least.3 k low high) in present (shown_of c w shows k g.value g.is).there)
 
     gid_is : (file_at (map.get w.rows (reached w.rows root (front path)))).gid ≡ dir.attrs.gid
-    gid_is = ap (λ m. (file_at (map.get w.rows m)).gid) is.object ∙ ap (λ o. (file_at o).gid) d.there ∙ ap (λ (x : File). x.gid) (sym d.same) ∙ ap (λ (x : Attrs). x.gid) (sym f.same)
+    gid_is = ap (λ m. (file_at (map.get w.rows m)).gid) is.object ∙ ap (λ (x : Attrs). x.gid) (attrs_reads c w shows dir.number dir.attrs is.shown)
 
     -- the world with the new row
-    world_is : with_new numbers w caller path Regular mode ≡ record w { rows = map.insert w.rows number new_row }
+    world_is : with_new numbers w caller path kind mode ≡ record w { rows = map.insert w.rows number new_row }
     world_is =
-        ap (λ n. record w { rows = map.insert w.rows n (record { parent = reached w.rows root (front path); name = last path; file = new_file caller Regular (file_at (map.get w.rows (reached w.rows root (front path)))).gid mode }) }) number_is
-        ∙ ap (λ g. record w { rows = map.insert w.rows number (record { parent = reached w.rows root (front path); name = last path; file = new_file caller Regular g mode }) }) gid_is
-        ∙ ap (λ p. record w { rows = map.insert w.rows number (record { parent = p; name = last path; file = new_file caller Regular dir.attrs.gid mode }) }) is.object
+        ap (λ n. record w { rows = map.insert w.rows n (record { parent = reached w.rows root (front path); name = last path; file = new_file caller kind (file_at (map.get w.rows (reached w.rows root (front path)))).gid mode }) }) number_is
+        ∙ ap (λ g. record w { rows = map.insert w.rows number (record { parent = reached w.rows root (front path); name = last path; file = new_file caller kind g mode }) }) gid_is
+        ∙ ap (λ p. record w { rows = map.insert w.rows number (record { parent = p; name = last path; file = new_file caller kind dir.attrs.gid mode }) }) is.object
 
     row_kind : d.row.file.kind ≡ Directory
     row_kind = ap (λ (x : File). x.kind) (sym d.same) ∙ dir_kind
 
-    pub tree_after : IsTree (with_new numbers w caller path Regular mode).rows
+    -- the rows with the new one are a tree
+    pub tree_after : IsTree (with_new numbers w caller path kind mode).rows
     tree_after = subst (λ (x : World). IsTree x.rows) (sym world_is) (IsTree-grown w.rows tree number new_row d.row absent below is.free d.there row_kind refl)
 
-    module _ (room : Room) (k : ℕ) (fits : IsRoom (bytes_of c dir.number) number (last path) room k) where
+    module _ {room : Room} {k : ℕ} (fits : IsRoom (bytes_of c dir.number) number (last path) room k) where
       room_size : length room.block ≡ 512
       room_size = fits.block.size
 
       at_file : IsRoom f.file.bytes number (last path) room k
       at_file = subst (λ bs. IsRoom bs number (last path) room k) dir_bytes fits
 
+      -- the room starts within the directory or at its end
       pub room_within : room.off ≤ length f.file.bytes
       room_within = omega (arith, at_file.off, at_file.within, dir_length.1)
 
+      -- where a block starts
       pub room_aligned : room.off % 512 ≡ 0
       room_aligned = omega (arith, fits.off)
 
+      -- and where one may
       pub room_fits : room.off < 71680
       room_fits = omega (arith, fits.off, fits.fits)
 
@@ -127,8 +122,9 @@ module _ (c : Content) (w : World) (shows : Shows c w) (tree : IsTree w.rows) (c
           (child-new w.rows number new_row absent below is.free tree.unique)
           (λ q other. child-new_other w.rows number new_row absent below is.free tree.unique dir.number q (λ _ same. other (sym same))))
 
-      pub shows_after : (before after : Content) → before ≡ c → (file : File) → file ≡ new_file caller Regular dir.attrs.gid mode → MakesFile before after number file dir.number room.off room.block
-          → Shows after (with_new numbers w caller path Regular mode)
+      -- the store with the new file shows the world with the new row
+      pub shows_after : (before after : Content) → before ≡ c → (file : File) → file ≡ new_file caller kind dir.attrs.gid mode → MakesFile before after number file dir.number room.off room.block
+          → Shows after (with_new numbers w caller path kind mode)
       shows_after before after same file new makes =
           let m = subst (λ x. MakesFile x after number file dir.number room.off room.block) same makes in
           subst (Shows after) (sym world_is)
@@ -137,13 +133,12 @@ module _ (c : Content) (w : World) (shows : Shows c w) (tree : IsTree w.rows) (c
           (grown_length Directory f.file.bytes room.off room.block refl dir_length.1 room_within room_aligned room_fits room_size dir_length.0)
           listing_after)
 
--- ---- what the outcomes say
+  -- ---- what the outcomes say
 
-module _ (c : Content) (w : World) (shows : Shows c w) (tree : IsTree w.rows) (caller : Caller) (path : List (List ℕ)) (dir : Reached) (is : IsParent c w.rows caller path dir) where
   -- a directory where the name fits nowhere has at least 140 names
-  pub crowded_in : FitsNowhere (bytes_of c dir.number) (last path) → length (last path) ≤ 255 → 140 ≤ length (children w.rows (reached w.rows root (front path)))
+  pub crowded_in : FitsNowhere (bytes_of c dir.number) None (last path) → length (last path) ≤ 255 → 140 ≤ length (children w.rows (reached w.rows root (front path)))
   crowded_in full short = subst (λ p. 140 ≤ length (children w.rows p)) (sym is.object)
-      (crowded w.rows dir.number (bytes_of c dir.number) (last path) (dir_listing c w shows tree caller path dir is) full short)
+      (crowded w.rows dir.number (bytes_of c dir.number) None (last path) (bytes_listing shows dir.number dir.attrs is.shown is.directory) full short)
 
   -- where the store has a free number, the tree has one
   pub not_all_used : (numbers number : ℕ) → IsLeastFree numbers c (Some number) → AllUsed numbers w.rows → ⊥
@@ -153,22 +148,19 @@ module _ (c : Content) (w : World) (shows : Shows c w) (tree : IsTree w.rows) (c
       let there = some.is in
       absurd (cc)
 
-  -- where there is room, the directory isn't full
-  pub roomy : (number : ℕ) (room : Room) (k : ℕ) → IsRoom (bytes_of c dir.number) number (last path) room k → FitsNowhere (bytes_of c (reached w.rows root (front path))) (last path) → ⊥
-  roomy number room k fits nowhere =
-      let full = subst (λ p. FitsNowhere (bytes_of c p) (last path)) is.object nowhere in
-      let over = full.full k fits.fits in
-      let used = used_of-block room.block (entries_of room.block) fits.block in
-      let sum : used_of (entries_of room.block) ≡ used_of (entries_of (block_at (bytes_of c dir.number) k)) + used_of ((number, last path) ∷ []) =
-      ap used_of fits.adds ∙ used_of-append (entries_of (block_at (bytes_of c dir.number) k)) ((number, last path) ∷ []) in
-      absurd (omega arith)
+  module _ {number : ℕ} {room : Room} {k : ℕ} (fits : IsRoom (bytes_of c dir.number) number (last path) room k) where
+    -- where there is room, the directory isn't full
+    pub roomy : FitsNowhere (bytes_of c (reached w.rows root (front path))) None (last path) → ⊥
+    roomy nowhere =
+        let full = subst (λ p. FitsNowhere (bytes_of c p) None (last path)) is.object nowhere in
+        let over = full.full k fits.fits in
+        let used = used_of-block room.block (entries_of room.block) fits.block in
+        let sum : used_of (entries_of room.block) ≡ used_of (entries_of (block_at (bytes_of c dir.number) k)) + used_of ((number, last path) ∷ []) =
+        ap used_of fits.adds ∙ used_of-append (entries_of (block_at (bytes_of c dir.number) k)) ((number, last path) ∷ []) in
+        absurd (omega arith)
 
-  -- the directory is ready for a block to be written
-  pub room_ready : (number : ℕ) (room : Room) (k : ℕ) → IsRoom (bytes_of c dir.number) number (last path) room k
-      → IsSomeAnd (map.get c dir.number) (λ f. (f.kind ≡ Directory) × (length f.bytes % 512 ≡ 0) × (length f.bytes ≤ 71680) × (room.off ≤ length f.bytes))
-  room_ready number room k fits =
-      let f = shown_file c dir.number dir.attrs is.shown in
-      let kind = dir_kind c w shows tree caller path dir is in
-      let size = subst (λ k. IsLength k (length f.file.bytes)) kind (shows.sizes dir.number f.file f.stored) in
-      let at_file = subst (λ bs. IsRoom bs number (last path) room k) (dir_bytes c w shows tree caller path dir is) fits in
-      is_some_and _ f.stored (kind, size.1, size.0, omega (arith, at_file.off, at_file.within, size.1))
+    -- the directory is ready for a block to be written
+    pub room_ready : IsSomeAnd (map.get c dir.number) (λ f. (f.kind ≡ Directory) × (length f.bytes % 512 ≡ 0) × (length f.bytes ≤ 71680) × (room.off ≤ length f.bytes))
+    room_ready =
+        let at_file = subst (λ bs. IsRoom bs number (last path) room k) dir_bytes fits in
+        is_some_and _ f.stored (dir_kind, dir_length.1, dir_length.0, omega (arith, at_file.off, at_file.within, dir_length.1))

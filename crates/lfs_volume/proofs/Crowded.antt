@@ -1,35 +1,29 @@
 -- Where a new name fits in no block of a full directory, at least as many rows hang there as it has blocks.
-use Rattle.std.proofs.Common.{◌≡◌, ◌≢◌, ℕ, zero, suc, ◌/◌, ◌<◌, ◌≤◌, true, List, length, get_or, Option, None, Some, sym, ap, ◌∙◌, subst, arith, length-append}
-use Rattle.std.specs.Prelude.{◌==◌, ◌&&◌, not, bytes_eq, All, AllPairs, Decides}
-use Rattle.std.specs.Ordering.{nat_cmp, eq_by_cmp}
+use Rattle.std.proofs.Common.{◌≡◌, ◌≢◌, ℕ, zero, suc, ◌/◌, ◌<◌, ◌≤◌, List, length, get_or, Option, None, Some, sym, ap, ◌∙◌, subst, arith, length-append}
+use Rattle.std.specs.Prelude.{All, AllPairs, Contains}
 use Rattle.std.specs.Cmp.{nat_cmp_total, eq_by_cmp_equiv}
 use Rattle.std.specs.Map.{keys_of}
-use Rattle.std.specs.Set.{is_member}
 use Rattle.std.specs.FinMap as map
-use Rattle.std.proofs.lemmas.Bool.{and_parts}
 use Rattle.std.proofs.lemmas.List.{get_or-map}
 use Rattle.std.proofs.lemmas.List.Elements.{All-contains, All-map, Contains-get_or}
 use Rattle.std.proofs.lemmas.Map.Entries.{length-keys_of}
-use Rattle.std.proofs.lemmas.Map.Made.{is_member-Decides, is_member-filter, IsDistinct-from_AllPairs, length-le_from_is_member}
-use Rattle.lfs_types.specs.Tree.{Row, root}
-use Rattle.lfs_dirs.specs.Changes.{AreEntries-distinct, number_in-Contains, entries-where_full}
-use Rattle.lfs_dirs.specs.Directory.{Entry}
+use Rattle.std.proofs.lemmas.Map.Made.{is_member-Decides, IsDistinct-from_AllPairs, length-le_from_is_member}
+use Rattle.lfs_types.specs.Tree.{Row}
+use Rattle.lfs_dirs.specs.Changes.{AreEntries-distinct, number_in-Contains, used_of-without_le, entries-where_full}
+use Rattle.lfs_dirs.specs.Directory.{Entry, used_of}
 use Rattle.lfs_dirs.specs.Reading.{entries_of}
-use Rattle.lfs_volume.specs.World.{Rows, hangs_in, hangs_as, child, children, IsChild}
-use Rattle.lfs_volume.specs.Content.{block_at, entries_below, listed, IsListing, FitsNowhere}
+use Rattle.lfs_volume.specs.World.{Rows, child, children, IsChild}
+use Rattle.lfs_volume.specs.Content.{block_at, entries_below, listed, IsListing, left_of, FitsNowhere}
 use Rattle.lfs_volume.proofs.Children.{child-is}
-use Rattle.lfs_volume.proofs.Maps.{find-passes, is_key, number_eq-true, number_eq-same}
+use Rattle.lfs_volume.proofs.Members.{number_eq-Decides, children-has}
 
 -- ---- counting
 
-number_eq-Decides : (a b : ℕ) → Decides (eq_by_cmp nat_cmp a b) (a ≡ b)
-number_eq-Decides a b = (number_eq-true a b, number_eq-same a b)
-
 -- numbers that differ, each of them in another list, are no more than that list has
-length-le_from_apart : (xs ys : List ℕ) → AllPairs (λ x y. x ≢ y) xs → All (λ x. is_member (eq_by_cmp nat_cmp) ys x ≡ true) xs → length xs ≤ length ys
+length-le_from_apart : (xs ys : List ℕ) → AllPairs (λ x y. x ≢ y) xs → All (Contains ys) xs → length xs ≤ length ys
 length-le_from_apart xs ys apart each =
     length-le_from_is_member (eq_by_cmp_equiv nat_cmp_total) xs ys (IsDistinct-from_AllPairs number_eq-Decides xs apart)
-    (λ q has. All-contains (λ x. is_member (eq_by_cmp nat_cmp) ys x ≡ true) xs q each ((is_member-Decides number_eq-Decides xs q).0 has))
+    (λ q has. (is_member-Decides number_eq-Decides ys q).1 (All-contains (Contains ys) xs q each ((is_member-Decides number_eq-Decides xs q).0 has)))
 
 -- where each of the first blocks has an entry, they have at least as many entries as there are blocks
 entries_below-many : (bytes : List ℕ) (m : ℕ) → ((k : ℕ) → k < m → 0 < length (entries_of (block_at bytes k))) → m ≤ length (entries_below bytes m)
@@ -41,20 +35,6 @@ entries_below-many bytes (suc m) h =
     simp length-append (omega (arith, before, here))
 
 -- ---- the rows that hang in a directory
-
-named_hangs : (parent : ℕ) (name : List ℕ) (n : ℕ) (o : Option Row) → hangs_as parent name n o ≡ true → hangs_in parent n o ≡ true
-named_hangs parent name n None h = absurd (cc)
-named_hangs parent name n (Some r) h = (and_parts (not (n == root) && (r.parent == parent)) (bytes_eq r.name name) h).0
-
--- what hangs in a directory under a name is one of its rows
-children-has : (rows : Rows) (parent : ℕ) (name : List ℕ) (n : ℕ) → child rows parent name ≡ Some n → is_member (eq_by_cmp nat_cmp) (children rows parent) n ≡ true
-unfolding child children
-children-has rows parent name n e =
-    let c = child-is rows parent name n e in
-    let test = λ (m : ℕ). hangs_in parent m (map.get rows m) in
-    let passes : test n ≡ true = named_hangs parent name n (map.get rows n) (find-passes (λ m. hangs_as parent name m (map.get rows m)) (map.keys rows) n e) in
-    let key = is_key rows n c.row c.there in
-    is_member-filter (eq_by_cmp_equiv nat_cmp_total) test n (λ x same. ap test (number_eq-true n x same)) (map.keys rows) ∙ ap (λ b. b && test n) key ∙ passes
 
 -- one row has one name
 named_once : (rows : Rows) (parent : ℕ) (p q : List ℕ) (m n : ℕ) → IsChild rows parent p m → IsChild rows parent q n → m ≡ n → p ≡ q
@@ -87,16 +67,22 @@ module _ (rows : Rows) (parent : ℕ) (bytes : List ℕ) (is : IsListing rows pa
   -- a directory lists no more entries than rows hang there
   pub listed-le-children : length (listed bytes) ≤ length (children rows parent)
   listed-le-children =
-      let each = All-map (λ (n : ℕ). is_member (eq_by_cmp nat_cmp) (children rows parent) n ≡ true) (λ (e : Entry). e.0) (listed bytes)
-      (λ k d within. let e = get_or (listed bytes) k d in children-has rows parent e.1 e.0 (listed-child k d within)) in
+      let each = All-map (Contains (children rows parent)) (λ (e : Entry). e.0) (listed bytes)
+      (λ k d within. let e = get_or (listed bytes) k d in children-has rows parent e.1 e.0 (child-is rows parent e.1 e.0 (listed-child k d within))) in
       let fewer = length-le_from_apart (keys_of (listed bytes)) (children rows parent) listed-apart each in
       omega (arith, length-keys_of (listed bytes), fewer)
 
+-- a block has no more bytes of entries once a name was taken away
+used_of-left_le : (taken : Option (List ℕ)) (es : List Entry) → used_of (left_of taken es) ≤ used_of es
+used_of-left_le None es = omega arith
+used_of-left_le (Some name) es = used_of-without_le name es
+
 -- where a new name fits nowhere, each of the 140 blocks has an entry, and each entry its row
-pub crowded : (rows : Rows) (parent : ℕ) (bytes name : List ℕ) → IsListing rows parent bytes → FitsNowhere bytes name → length name ≤ 255 → 140 ≤ length (children rows parent)
-crowded rows parent bytes name is nowhere short =
+pub crowded : (rows : Rows) (parent : ℕ) (bytes : List ℕ) (taken : Option (List ℕ)) (name : List ℕ) → IsListing rows parent bytes → FitsNowhere bytes taken name → length name ≤ 255 → 140 ≤ length (children rows parent)
+crowded rows parent bytes taken name is nowhere short =
     let count : length bytes / 512 ≡ 140 = omega (arith, nowhere.whole) in
-    let many = entries_below-many bytes 140 (λ k below. entries-where_full (entries_of (block_at bytes k)) (length name) short (nowhere.full k below)) in
+    let many = entries_below-many bytes 140 (λ k below.
+    entries-where_full (entries_of (block_at bytes k)) (length name) short (omega (arith, nowhere.full k below, used_of-left_le taken (entries_of (block_at bytes k))))) in
     let fewer = listed-le-children rows parent bytes is in
     let all : 140 ≤ length (listed bytes) = subst (λ m. 140 ≤ length (entries_below bytes m)) (sym count) many in
     omega (arith, all, fewer)

@@ -1,4 +1,4 @@
--- What a walk's end says of the first failing test of a call.
+-- The first failing test of a call: that of a walk, or of the tests behind it.
 use Rattle.std.proofs.Common.{◌≡◌, ℕ, ◌+◌, Bool, true, false, cond, List, [], ◌∷◌, ◌++◌, Option, None, Some, Result, Ok, Err, refl, sym, ap, subst, ◌∙◌}
 use Rattle.std.specs.Prelude.{is_some, unwrap_or, IsSome}
 use Rattle.std.specs.FinMap as map
@@ -6,6 +6,7 @@ use Rattle.lfs_types.specs.Caller.{Caller}
 use Rattle.lfs_types.specs.Tree.{World, Content, root}
 use Rattle.lfs_types.specs.declared.attrs.Bit.TheVariants as bits
 use Rattle.lfs_types.specs.declared.rule.Denial.{Denial}
+use Rattle.lfs_types.specs.declared.rule.Rule.{Rule}
 use Rattle.lfs_volume.specs.World.{Rows, child}
 use Rattle.lfs_volume.specs.Rules.{Check, first_failing, is_directory_row, row_grants, next, reached, walk}
 use Rattle.lfs_volume.specs.Content.{Shows}
@@ -28,6 +29,7 @@ module _ (path k : ℕ) (kind search name : Denial) (rest tail : Option Denial) 
 found-none : (path k : ℕ) (o : Option ℕ) → o ≡ None → found path k o ≡ found path k None
 found-none path k o e = ap (found path k) e
 
+-- the first failing test of a walk and others is its denial, or that of the others
 pub failing_walk : (rows : Rows) (caller : Caller) (path k at : ℕ) (names : List (List ℕ)) (rest : List Check)
     → first_failing (walk rows caller path k at names ++ rest) ≡ after_walk (walked rows caller path k at names) (first_failing rest)
 unfolding walked
@@ -49,20 +51,22 @@ pub walk_passed : (rows : Rows) (caller : Caller) (path : ℕ) (names : List (Li
 walk_passed rows caller path names rest n h = failing_walk rows caller path 0 root names rest ∙ ap (λ r. after_walk r (first_failing rest)) h
 
 -- a step that was taken
-pub record Taken (o : Option ℕ) (on : ℕ → Result ℕ Denial) (n : ℕ) : Type 0 where
+pub record Taken (d : Bool) (o : Option ℕ) (on : ℕ → Result ℕ Denial) (n : ℕ) : Type 0 where
   pub to : ℕ
+  pub directory : d ≡ true
   pub child : o ≡ Some to
   pub rest : on to ≡ Ok n
 
 taken : (path k : ℕ) (search kind : Denial) (on : ℕ → Result ℕ Denial) (n : ℕ) (d s : Bool) (o : Option ℕ)
-    → and_then (cond d (cond s (found path k o) (Err search)) (Err kind)) on ≡ Ok n → Taken o on n
+    → and_then (cond d (cond s (found path k o) (Err search)) (Err kind)) on ≡ Ok n → Taken d o on n
 taken path k search kind on n true true None h = absurd (cc)
-taken path k search kind on n true true (Some m) h = record { to = m; child = refl; rest = h }
+taken path k search kind on n true true (Some m) h = record { to = m; directory = refl; child = refl; rest = h }
 taken path k search kind on n true false o h = absurd (cc)
 taken path k search kind on n false s o h = absurd (cc)
 
-walked_taken : (rows : Rows) (caller : Caller) (path k at : ℕ) (name : List ℕ) (names : List (List ℕ)) (n : ℕ) → walked rows caller path k at (name ∷ names) ≡ Ok n
-    → Taken (child rows at name) (λ m. walked rows caller path (k + 1) m names) n
+-- a walk along some names takes a step, and goes on
+pub walked_taken : (rows : Rows) (caller : Caller) (path k at : ℕ) (name : List ℕ) (names : List (List ℕ)) (n : ℕ) → walked rows caller path k at (name ∷ names) ≡ Ok n
+    → Taken (is_directory_row (map.get rows at)) (child rows at name) (λ m. walked rows caller path (k + 1) m names) n
 unfolding walked
 walked_taken rows caller path k at name names n h =
     taken path (k + 1) _ _ (λ m. walked rows caller path (k + 1) m names) n (is_directory_row (map.get rows at)) (row_grants caller bits.Search (map.get rows at)) (child rows at name) h
@@ -82,3 +86,45 @@ walked-stored c w shows caller path k at [] n here h = let same : at ≡ n = cc 
 walked-stored c w shows caller path k at (name ∷ names) n here h =
     let t = walked_taken w.rows caller path k at name names n h in
     walked-stored c w shows caller path (k + 1) t.to names n (child-stored c w shows at name t.to t.child) t.rest
+
+-- the denial by a rule at a component of the only path
+abbrev pub denied_at : ℕ → Rule → Denial
+denied_at at rule = record { rule = rule; path = 0; at = at }
+
+-- a denial that the code makes is the one that the tests give
+pub same_denial : {o : Option Denial} {rule : Rule} {path at said : ℕ} {result : Denial} → o ≡ Some (record { rule = rule; path = path; at = said }) → at ≡ said → result ≡ record { rule = rule; path = path; at = at } → o ≡ Some result
+same_denial {rule = rule} {path = path} h e is = h ∙ ap (λ n. Some (record { rule = rule; path = path; at = n })) (sym e) ∙ ap Some (sym is)
+
+-- ---- tests and others behind them
+
+same_denied : (b : Bool) (first : Denial) (xs ys : Option Denial) (denial : Denial) → (xs ≡ Some denial → ys ≡ Some denial) → cond b xs (Some first) ≡ Some denial → cond b ys (Some first) ≡ Some denial
+same_denied true first xs ys denial on h = on h
+same_denied false first xs ys denial on h = h
+
+same_met : (b : Bool) (first : Denial) (xs ys rest : Option Denial) → (xs ≡ None → ys ≡ rest) → cond b xs (Some first) ≡ None → cond b ys (Some first) ≡ rest
+same_met true first xs ys rest on h = on h
+same_met false first xs ys rest on h = absurd (cc)
+
+-- where one of the first tests fails, it is the first of all that fails
+pub failing-front : (xs ys : List Check) (denial : Denial) → first_failing xs ≡ Some denial → first_failing (xs ++ ys) ≡ Some denial
+failing-front [] ys denial h = absurd (cc)
+failing-front (x ∷ xs) ys denial h = same_denied x.met x.denial (first_failing xs) (first_failing (xs ++ ys)) denial (λ e. failing-front xs ys denial e) h
+
+-- where they are met, the others decide
+pub failing-behind : (xs ys : List Check) → first_failing xs ≡ None → first_failing (xs ++ ys) ≡ first_failing ys
+failing-behind [] ys h = refl
+failing-behind (x ∷ xs) ys h = same_met x.met x.denial (first_failing xs) (first_failing (xs ++ ys)) (first_failing ys) (λ e. failing-behind xs ys e) h
+
+-- where no test of a list fails, the first is met, and no other fails
+pub met_first : (met : Bool) (denial : Denial) (rest : Option Denial) → cond met rest (Some denial) ≡ None → (met ≡ true) × (rest ≡ None)
+met_first true denial rest h = (refl, h)
+met_first false denial rest h = absurd (cc)
+
+append_met : (met : Bool) (denial : Denial) (all front back : Option Denial) → (all ≡ None → (front ≡ None) × (back ≡ None)) → cond met all (Some denial) ≡ None → (cond met front (Some denial) ≡ None) × (back ≡ None)
+append_met true denial all front back on h = on h
+append_met false denial all front back on h = absurd (cc)
+
+-- where no test of two lists fails, none of either does
+pub passes-append : (xs ys : List Check) → first_failing (xs ++ ys) ≡ None → (first_failing xs ≡ None) × (first_failing ys ≡ None)
+passes-append [] ys h = (refl, h)
+passes-append (x ∷ xs) ys h = append_met x.met x.denial (first_failing (xs ++ ys)) (first_failing xs) (first_failing ys) (passes-append xs ys) h

@@ -28,6 +28,7 @@ drop_filled [] end n h = drop-replicate end n 0 ∙ none_left _ (omega arith) �
 drop_filled (x ∷ xs) zero n h = rw (none_left n (omega arith)) (append-nil (x ∷ xs))
 drop_filled (x ∷ xs) (suc end) n h = drop_filled xs end n (omega arith)
 
+-- bytes put into a file that was filled up to their end with zeros are spliced into it
 pub splice_filled : (old : List ℕ) (off : ℕ) (bytes : List ℕ) → 0 < length bytes → take off (old ++ replicate (off + length bytes - length old) 0) ++ bytes ++ drop (off + length bytes) (old ++ replicate (off + length bytes - length old) 0) ≡ splice old off bytes
 splice_filled old off [] h = absurd (omega arith)
 splice_filled old off (b ∷ bs) h =

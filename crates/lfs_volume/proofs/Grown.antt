@@ -1,11 +1,12 @@
 -- The tree and the store after a row was made.
 use Rattle.std.proofs.Common.{◌≡◌, ◌≢◌, ℕ, zero, suc, [], None, Some, sym, ap, subst, ◌∙◌, ⊎_elim}
+use Rattle.std.proofs.lemmas.Bool.{cases_eq}
 use Rattle.std.specs.Prelude.{IsSomeAnd}
 use Rattle.std.specs.FinMap as map
 use Rattle.lfs_types.specs.Tree.{Row, root}
 use Rattle.lfs_types.specs.declared.attrs.Kind.TheVariants.{Directory}
 use Rattle.lfs_volume.specs.World.{Rows, child, parent_of, ancestor, IsTree}
-use Rattle.lfs_volume.proofs.Children.{unique-new, same_or_not}
+use Rattle.lfs_volume.proofs.Children.{unique-new}
 use Rattle.lfs_volume.proofs.Maps.{get-insert_same, get-insert_other}
 use Rattle.lfs_volume.proofs.Somewhere.{some_and, is_some_and}
 
@@ -44,6 +45,7 @@ module _ (rows : Rows) (tree : IsTree rows) (n : ℕ) (row dir : Row)
       subst (λ o. ancestor grown k (parent_of o) ≡ root) (sym e)
       (subst (λ (x : Row). ancestor grown k x.parent ≡ root) (sym is) (climb k row.parent dir there way))
 
+  -- the rows with the new one are a tree
   pub IsTree-grown : IsTree grown
   IsTree-grown = record {
     rooted = subst (λ o. IsSomeAnd o (λ r. (r.parent ≡ root) × (r.name ≡ []) × (r.file.kind ≡ Directory)))
@@ -55,14 +57,14 @@ module _ (rows : Rows) (tree : IsTree rows) (n : ℕ) (row dir : Row)
         (is_some_and _ (get-insert_other rows n row row.parent (other_row row.parent dir there) ∙ there) directory))
         (λ other. let up = some_and (map.get rows r.parent) _ (tree.parents m r (was_row m r e other)) in
         is_some_and _ (get-insert_other rows n row r.parent (other_row r.parent up.value up.is) ∙ up.is) up.holds)
-        (same_or_not m n);
+        (cases_eq m n);
     reached = λ m r e. ⊎_elim
         (λ same. let way = tree.reached row.parent dir there in
         (suc way.0, climb_new m r e same way.0 way.1))
         (λ other. let was = was_row m r e other in let way = tree.reached m r was in (way.0, climb way.0 m r was way.1))
-        (same_or_not m n);
+        (cases_eq m n);
     empty = λ m r e k. ⊎_elim
         (λ same. ap (λ (x : Row). x.file.bytes) (is_row m r e same) ∙ empty)
         (λ other. tree.empty m r (was_row m r e other) k)
-        (same_or_not m n);
+        (cases_eq m n);
   }

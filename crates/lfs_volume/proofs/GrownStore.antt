@@ -1,5 +1,6 @@
 -- The store after a row was made shows the tree with that row.
 use Rattle.std.proofs.Common.{◌≡◌, ◌≢◌, ℕ, List, [], length, None, Some, sym, ap, subst, ◌∙◌, ⊎_elim, arith}
+use Rattle.std.proofs.lemmas.Bool.{cases_eq}
 use Rattle.std.specs.Prelude.{option_map}
 use Rattle.std.specs.FinMap as map
 use Rattle.lfs_types.specs.Changes.{IsLength}
@@ -9,7 +10,7 @@ use Rattle.lfs_types.specs.declared.attrs.Kind.TheVariants.{File as Regular, Dir
 use Rattle.lfs_dirs.specs.Changes.{number_in-nil}
 use Rattle.lfs_volume.specs.World.{Rows, child, IsTree}
 use Rattle.lfs_volume.specs.Content.{visible, Shows, IsListing, entries_below}
-use Rattle.lfs_volume.proofs.Children.{child-answer, child-new_other, same_or_not}
+use Rattle.lfs_volume.proofs.Children.{child-answer, child-new_other}
 use Rattle.lfs_volume.proofs.Maps.{get-insert_same, get-insert_other}
 use Rattle.lfs_volume.proofs.Somewhere.{some_and}
 use Rattle.lfs_volume.proofs.Visible.{visible-none, visible-directory}
@@ -37,8 +38,8 @@ module _ (c after : Content) (w : World) (shows : Shows c w) (tree : IsTree w.ro
   at_each : (P : ℕ → Type 0) → P n → P row.parent → ((q : ℕ) → q ≢ n → q ≢ row.parent → P q) → (q : ℕ) → P q
   at_each P new dir other q = ⊎_elim
       (λ e. subst P (sym e) new)
-      (λ apart. ⊎_elim (λ e. subst P (sym e) dir) (λ away. other q apart away) (same_or_not q row.parent))
-      (same_or_not q n)
+      (λ apart. ⊎_elim (λ e. subst P (sym e) dir) (λ away. other q apart away) (cases_eq q row.parent))
+      (cases_eq q n)
 
   files_after : (q : ℕ) → option_map visible (map.get after q) ≡ option_map (λ (r : Row). r.file) (map.get grown q)
   files_after = at_each (λ q. option_map visible (map.get after q) ≡ option_map (λ (r : Row). r.file) (map.get grown q))
@@ -83,5 +84,6 @@ module _ (c after : Content) (w : World) (shows : Shows c w) (tree : IsTree w.ro
         names = λ name. was.names name ∙ sym (child-new_other w.rows n row absent below free tree.unique q name (λ h _. away (sym h)));
       })
 
+  -- the store shows the world with the new row
   pub Shows-grown : Shows after (record w { rows = grown })
   Shows-grown = record { files = files_after; sizes = sizes_after; listings = listings_after }

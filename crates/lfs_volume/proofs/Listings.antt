@@ -1,6 +1,6 @@
 -- What the bytes of a directory list, after a block of them was written.
 use Rattle.std.proofs.Common.{◌≡◌, ◌≢◌, ℕ, zero, suc, ◌+◌, ◌-◌, ◌*◌, ◌/◌, ◌%◌, ◌<◌, ◌≤◌, List, [], ◌∷◌, ◌++◌, length, take, drop, None, Some, refl, sym, ap, subst, ◌∙◌, ⊎_elim, arith, append_assoc, append-nil, add-zero, add-suc, add-one, nat_lt, length-take, length-drop}
-use Rattle.std.proofs.lemmas.Bool.{cases_Bool, ltb-true, ltb-false, both_ways}
+use Rattle.std.proofs.lemmas.Bool.{cases_Bool, ltb-true, ltb-false, both_ways, cases_eq}
 use Rattle.std.specs.Prelude.{bytes_eq}
 use Rattle.std.proofs.lemmas.Option.{none-some}
 use Rattle.std.proofs.lemmas.Slice.Eq.{bytes_eq-Decides}
@@ -9,8 +9,7 @@ use Rattle.lfs_dirs.specs.Directory.{Entry, AreEntries, IsEntry, IsDirectoryBloc
 use Rattle.lfs_dirs.specs.Laws.{entries_of-short}
 use Rattle.lfs_dirs.specs.Reading.{entries_of}
 use Rattle.lfs_volume.specs.World.{Rows, child}
-use Rattle.lfs_volume.specs.Content.{block_at, entries_below, listed, IsListing}
-use Rattle.lfs_volume.proofs.Children.{same_or_not}
+use Rattle.lfs_volume.specs.Content.{block_at, entries_below, listed, AreBlocks, IsListing}
 use Rattle.lfs_volume.proofs.Pieces.{put_over, piece-before, piece-here, piece-behind, length-put_over}
 
 -- ---- an entry put between others
@@ -22,14 +21,17 @@ after_front name e xs ys same = ⊎_elim
     (λ t. number_in-later name e xs t ∙ same ∙ sym (number_in-later name e ys t))
     (cases_Bool (has_name name e))
 
+-- another name has the number that it had
 pub inserted_other : (name : List ℕ) (e : Entry) (xs ys : List Entry) → e.1 ≢ name → number_in name (xs ++ e ∷ ys) ≡ number_in name (xs ++ ys)
 inserted_other name e [] ys h = number_in-later name e ys (has_name-other name e h)
 inserted_other name e (x ∷ xs) ys h = after_front name x (xs ++ e ∷ ys) (xs ++ ys) (inserted_other name e xs ys h)
 
+-- an entry's name has its number
 pub inserted_here : (e : Entry) (xs ys : List Entry) → number_in e.1 (xs ++ ys) ≡ None → number_in e.1 (xs ++ e ∷ ys) ≡ Some e.0
 inserted_here e xs ys h =
     number_in-append e.1 xs (e ∷ ys) (number_in-both e.1 xs ys h).0 ∙ number_in-here e.1 e ys (has_name-same e.1 e refl)
 
+-- entries with one more under a new name are entries
 pub AreEntries-inserted : (e : Entry) (xs ys : List Entry) → AreEntries (xs ++ ys) → IsEntry e → number_in e.1 (xs ++ ys) ≡ None → AreEntries (xs ++ e ∷ ys)
 AreEntries-inserted e [] ys a is none = (is, none, a)
 AreEntries-inserted e (x ∷ xs) ys a is none =
@@ -39,7 +41,8 @@ AreEntries-inserted e (x ∷ xs) ys a is none =
 
 -- ---- the entries of the blocks from one on
 
-entries_from : List ℕ → ℕ → ℕ → List Entry
+-- the entries of some blocks, from one on
+pub entries_from : List ℕ → ℕ → ℕ → List Entry
 entries_from bytes j zero = []
 entries_from bytes j (suc d) = entries_from bytes j d ++ entries_of (block_at bytes (j + d))
 
@@ -53,13 +56,15 @@ unfolding entries_below
 below_next bytes k = rw add-one refl
 
 module _ (bytes : List ℕ) (k : ℕ) (new : List ℕ) (size : length new ≡ 512) (within : 512 * k ≤ length bytes) where
-  block_other : (j : ℕ) → j ≢ k → block_at (put_over bytes (512 * k) new) j ≡ block_at bytes j
+  -- the other blocks stay
+  pub block_other : (j : ℕ) → j ≢ k → block_at (put_over bytes (512 * k) new) j ≡ block_at bytes j
   block_other j apart = ⊎_elim
       (λ h. let before : j < k = ltb-true j k h in piece-before bytes (512 * k) new within 512 (512 * j) (omega arith))
       (λ h. let behind : k ≤ j = ltb-false j k h in piece-behind bytes (512 * k) new within 512 (512 * j) (omega arith))
       (cases_Bool (nat_lt j k))
 
-  block_new : block_at (put_over bytes (512 * k) new) k ≡ new
+  -- the block is the new one
+  pub block_new : block_at (put_over bytes (512 * k) new) k ≡ new
   block_new = subst (λ n. take n (drop (512 * k) (put_over bytes (512 * k) new)) ≡ new) size (piece-here bytes (512 * k) new within)
 
   below_same : (m : ℕ) → m ≤ k → entries_below (put_over bytes (512 * k) new) m ≡ entries_below bytes m
@@ -84,7 +89,8 @@ module _ (bytes : List ℕ) (k : ℕ) (new : List ℕ) (size : length new ≡ 51
   inside : 512 * k ≤ length bytes
   inside = omega arith
 
-  abbrev behind : ℕ
+  -- the count of the blocks behind it
+  abbrev pub behind : ℕ
   behind = length bytes / 512 - (k + 1)
 
   nothing_at_end : k ≡ length bytes / 512 → entries_of (block_at bytes k) ≡ []
@@ -105,10 +111,12 @@ module _ (bytes : List ℕ) (k : ℕ) (new : List ℕ) (size : length new ≡ 51
       rw (count, ← at_end, empty, append-nil))
       (cases_Bool (nat_lt k (length bytes / 512)))
 
-  old_listed : listed bytes ≡ (entries_below bytes k ++ entries_of (block_at bytes k)) ++ entries_from bytes (k + 1) behind
+  -- the entries by those before the block, in it and behind it
+  pub old_listed : listed bytes ≡ (entries_below bytes k ++ entries_of (block_at bytes k)) ++ entries_from bytes (k + 1) behind
   old_listed = old_count ∙ old_whole
 
-  new_listed : listed (put_over bytes (512 * k) new) ≡ (entries_below bytes k ++ entries_of new) ++ entries_from bytes (k + 1) behind
+  -- and so with the new block
+  pub new_listed : listed (put_over bytes (512 * k) new) ≡ (entries_below bytes k ++ entries_of new) ++ entries_from bytes (k + 1) behind
   unfolding entries_below
   new_listed =
       let put = put_over bytes (512 * k) new in
@@ -124,6 +132,15 @@ module _ (bytes : List ℕ) (k : ℕ) (new : List ℕ) (size : length new ≡ 51
   count_new =
       let long : length (put_over bytes (512 * k) new) ≡ 512 * k + length new + (length bytes - (512 * k + length new)) = length-put_over bytes (512 * k) new inside in
       omega arith
+
+  -- each block is still a directory block
+  pub blocks_after : AreBlocks bytes → IsDirectoryBlock new (entries_of new) → AreBlocks (put_over bytes (512 * k) new)
+  blocks_after old block j h = ⊎_elim
+      (λ e. subst (λ i. IsDirectoryBlock (block_at (put_over bytes (512 * k) new) i) (entries_of (block_at (put_over bytes (512 * k) new) i))) (sym e)
+      (subst (λ b. IsDirectoryBlock b (entries_of b)) (sym (block_new bytes k new size inside)) block))
+      (λ other. subst (λ b. IsDirectoryBlock b (entries_of b)) (sym (block_other bytes k new size inside j other))
+      (old j (omega (arith, count_new))))
+      (cases_eq j k)
 
   -- the directory lists what it listed, and one row more
   module _ (rows changed : Rows) (parent number : ℕ) (name : List ℕ)
@@ -161,23 +178,17 @@ module _ (bytes : List ℕ) (k : ℕ) (new : List ℕ) (size : length new ≡ 51
         inserted_other q (number, name) before after (λ e. other (sym e)) ∙ sym (ap (number_in q) was_listed) ∙ old.names q ∙ sym (others q other))
         (cases_Bool (bytes_eq q name))
 
-    blocks_after : (j : ℕ) → j < length (put_over bytes (512 * k) new) / 512 → IsDirectoryBlock (block_at (put_over bytes (512 * k) new) j) (entries_of (block_at (put_over bytes (512 * k) new) j))
-    blocks_after j h = ⊎_elim
-        (λ e. subst (λ i. IsDirectoryBlock (block_at (put_over bytes (512 * k) new) i) (entries_of (block_at (put_over bytes (512 * k) new) i))) (sym e)
-        (subst (λ b. IsDirectoryBlock b (entries_of b)) (sym (block_new bytes k new size inside)) block))
-        (λ other. subst (λ b. IsDirectoryBlock b (entries_of b)) (sym (block_other bytes k new size inside j other))
-        (old.blocks j (omega (arith, count_new))))
-        (same_or_not j k)
-
+    -- the bytes with the block list the rows with the new one
     pub IsListing-added : IsListing changed parent (put_over bytes (512 * k) new)
     IsListing-added = record {
-      blocks = blocks_after;
+      blocks = blocks_after old.blocks block;
       distinct = subst AreEntries (sym is_listed) (AreEntries-inserted (number, name) before after (subst AreEntries was_listed old.distinct) entry absent);
       names = names_after;
     }
 
 -- ---- a look-up, block by block
 
+-- no blocks have no name
 pub absent_at_first : (name : List ℕ) (bytes : List ℕ) → number_in name (entries_below bytes 0) ≡ None
 unfolding entries_below
 absent_at_first name bytes = number_in-nil name
@@ -214,3 +225,27 @@ absent_in_block name bytes k h none =
 -- behind the last block of a directory's bytes there is no entry
 pub none_at_end : (bytes : List ℕ) → length bytes % 512 ≡ 0 → entries_of (block_at bytes (length bytes / 512)) ≡ []
 none_at_end bytes h = entries_of-short (block_at bytes (length bytes / 512)) (simp (length-take, length-drop) (omega arith))
+
+-- ---- a directory that lists nothing
+
+append_nothing : {A : Type 0} (xs ys : List A) → xs ++ ys ≡ [] → (xs ≡ []) × (ys ≡ [])
+append_nothing [] ys h = (refl, h)
+append_nothing (x ∷ xs) ys h = absurd (cc)
+
+-- no blocks have no entries
+pub nothing_at_first : (bytes : List ℕ) → entries_below bytes 0 ≡ []
+unfolding entries_below
+nothing_at_first bytes = refl
+
+-- where the first blocks have no entry and the next has none, the blocks up to it have none
+pub nothing_further : (bytes : List ℕ) (k : ℕ) → entries_below bytes k ≡ [] → entries_of (block_at bytes k) ≡ [] → entries_below bytes (k + 1) ≡ []
+nothing_further bytes k before here = below_next bytes k ∙ rw (before, here) refl
+
+-- where nothing is listed, no block has an entry
+pub nothing_in_block : (bytes : List ℕ) (k : ℕ) → k < length bytes / 512 → listed bytes ≡ [] → entries_of (block_at bytes k) ≡ []
+nothing_in_block bytes k h none =
+    let behind = length bytes / 512 - (k + 1) in
+    let count : length bytes / 512 ≡ k + 1 + behind = omega arith in
+    let all = sym (ap (entries_below bytes) count ∙ below_from bytes (k + 1) behind) ∙ none in
+    let front = (append_nothing (entries_below bytes (k + 1)) (entries_from bytes (k + 1) behind) all).0 in
+    (append_nothing (entries_below bytes k) (entries_of (block_at bytes k)) (sym (below_next bytes k) ∙ front)).1

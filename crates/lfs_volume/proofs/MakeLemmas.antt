@@ -1,8 +1,8 @@
 -- What a call that makes a row may be answered, and what it leaves.
-use Rattle.std.proofs.Common.{◌≡◌, ◌≢◌, ℕ, zero, suc, ◌+◌, ◌-◌, ◌%◌, ◌<◌, ◌≤◌, ◌==◌, true, false, List, [], ◌∷◌, ◌++◌, length, Option, None, Some, Ok, Err, refl, sym, ap, subst, ◌∙◌, ⊎_elim, arith}
+use Rattle.std.proofs.Common.{◌≡◌, ◌≢◌, ℕ, zero, suc, ◌+◌, ◌-◌, ◌%◌, ◌<◌, ◌≤◌, ◌==◌, true, false, List, [], ◌∷◌, ◌++◌, length, drop, Option, None, Some, Ok, Err, refl, sym, ap, subst, ◌∙◌, ⊎_elim, arith}
 use Rattle.std.specs.Prelude.{not, is_some, is_none, IsSome}
 use Rattle.std.specs.Borrow.{Bor}
-use Rattle.std.proofs.lemmas.Bool.{cond-true, cond-false, ne_eqb, cases_Bool}
+use Rattle.std.proofs.lemmas.Bool.{cond-true, cond-false, ne_eqb, cases_Bool, cases_eq}
 use Rattle.std.specs.FinMap as map
 use Rattle.lfs_types.specs.Caller.{Caller}
 use Rattle.lfs_types.specs.Changes.{IsLength, CanApply, changed_at}
@@ -11,114 +11,159 @@ use Rattle.lfs_types.specs.Splicing.{splice}
 use Rattle.lfs_types.specs.Stored.{shown_attrs, bytes_of, IsUsedBelow}
 use Rattle.lfs_types.specs.Tree.{File, World, Content, root, file_of}
 use Rattle.lfs_types.specs.declared.attrs.Attrs.{Attrs}
+use Rattle.lfs_types.specs.declared.attrs.Bit.{Bit}
 use Rattle.lfs_types.specs.declared.attrs.Bit.TheVariants as bits
 use Rattle.lfs_types.specs.declared.attrs.Kind.{Kind}
 use Rattle.lfs_types.specs.declared.attrs.Kind.TheVariants.{Directory}
 use Rattle.lfs_types.specs.declared.rule.Denial.{Denial}
-use Rattle.lfs_types.specs.declared.rule.Rule.TheVariants.{IsDirectory, GrantsSearch, NameFree, GrantsWrite}
+use Rattle.lfs_types.specs.declared.rule.Rule.{Rule}
+use Rattle.lfs_types.specs.declared.rule.Rule.TheVariants.{IsDirectory, GrantsSearch, NameFree, IsMutable, GrantsWrite}
 use Rattle.lfs_types.specs.declared.store.Change.TheVariants.{Make, Put}
 use Rattle.lfs_dirs.specs.Directory.{number_in}
 use Rattle.lfs_rules.specs.Grants.{grants_of}
+use Rattle.lfs_rules.specs.Locks.{is_immutable}
 use Rattle.lfs_volume.specs.World.{Rows, child}
-use Rattle.lfs_volume.specs.Rules.{Check, asks, first_failing, is_directory_row, row_grants, reached, walk, making, front, last}
+use Rattle.lfs_volume.specs.Rules.{Check, asks, first_failing, is_directory_row, row_grants, attrs_at, reached, walk, making, front, last}
 use Rattle.lfs_volume.specs.Effects.{least_unused}
 use Rattle.lfs_volume.specs.Content.{Shows, listed}
 use Rattle.lfs_volume.specs.Makes.{MakesFile}
 use Rattle.lfs_volume.specs.Steps.{AllUsed}
 use Rattle.lfs_volume.specs.Walks.{walked}
-use Rattle.lfs_volume.proofs.Deciding.{walk_denied}
-use Rattle.lfs_volume.proofs.Children.{same_or_not}
+use Rattle.lfs_volume.proofs.Deciding.{walk_denied, walk_passed, walked-reached}
 use Rattle.lfs_volume.proofs.Maps.{get-insert_same, get-insert_other}
 use Rattle.lfs_volume.proofs.Pieces.{splice-put_over, length-put_over}
-use Rattle.lfs_volume.proofs.ReadLemmas.{object, passed, directory_is, grants_is}
 use Rattle.lfs_volume.proofs.Somewhere.{present, is_some_and, there_of}
-use Rattle.lfs_volume.proofs.StepLemmas.{child_listed}
+use Rattle.lfs_volume.proofs.StepLemmas.{directory_reads, attrs_reads, grants_reads, child_listed}
 use Rattle.lfs_volume.proofs.Visible.{shown_of}
 
 -- ---- the last name of a path
 
+-- the names before the last
 pub front-last : (xs : List (List ℕ)) (x : List ℕ) → front (xs ++ x ∷ []) ≡ xs
 front-last [] x = refl
 front-last (y ∷ []) x = refl
 front-last (y ∷ z ∷ zs) x = ap (λ ys. y ∷ ys) (front-last (z ∷ zs) x)
 
+-- the last name
 pub last-last : (xs : List (List ℕ)) (x : List ℕ) → last (xs ++ x ∷ []) ≡ x
 last-last [] x = refl
 last-last (y ∷ []) x = refl
 last-last (y ∷ z ∷ zs) x = last-last (z ∷ zs) x
 
+-- the last of names that end in one
+pub last_of : (names parents : List (List ℕ)) (name : List ℕ) → names ≡ parents ++ name ∷ [] → last names ≡ name
+last_of names parents name e = ap last e ∙ last-last parents name
+
 -- the tests behind the first, by the names before the last and the last
-abbrev in_parent : Rows → Caller → List (List ℕ) → List ℕ → List Check
-in_parent rows caller parents name =
-    (asks (is_directory_row (map.get rows (reached rows root parents))) IsDirectory 0 (length parents)
-    ∷ asks (row_grants caller bits.Search (map.get rows (reached rows root parents))) GrantsSearch 0 (length parents)
-    ∷ asks (is_none (child rows (reached rows root parents) name)) NameFree 0 (length parents + 1)
-    ∷ asks (row_grants caller bits.Write (map.get rows (reached rows root parents))) GrantsWrite 0 (length parents)
+abbrev in_parent : Rows → Caller → ℕ → List (List ℕ) → List ℕ → List Check
+in_parent rows caller path parents name =
+    (asks (is_directory_row (map.get rows (reached rows root parents))) IsDirectory path (length parents)
+    ∷ asks (row_grants caller bits.Search (map.get rows (reached rows root parents))) GrantsSearch path (length parents)
+    ∷ asks (is_none (child rows (reached rows root parents) name)) NameFree path (length parents + 1)
+    ∷ asks (not (is_immutable (attrs_at rows (reached rows root parents)))) IsMutable path (length parents)
+    ∷ asks (row_grants caller bits.Write (map.get rows (reached rows root parents))) GrantsWrite path (length parents)
     ∷ [])
 
-pub make_root : (rows : Rows) (caller : Caller) (names : List (List ℕ)) → length names ≡ 0 → first_failing (making rows caller names) ≡ Some (record { rule = NameFree; path = 0; at = 0 })
-make_root rows caller [] h = refl
-make_root rows caller (x ∷ xs) h = absurd (omega arith)
+-- no name may be given to the root
+pub make_root : (rows : Rows) (caller : Caller) (path : ℕ) (names : List (List ℕ)) → length names ≡ 0 → first_failing (making rows caller path names) ≡ Some (record { rule = NameFree; path = path; at = 0 })
+make_root rows caller path [] h = refl
+make_root rows caller path (x ∷ xs) h = absurd (omega arith)
 
 -- a path of names before the last, and a last
-making_in : (rows : Rows) (caller : Caller) (names parents : List (List ℕ)) (name : List ℕ) → names ≡ parents ++ name ∷ [] → (length names == 0) ≡ false
-    → first_failing (making rows caller names) ≡ first_failing (walk rows caller 0 0 root parents ++ in_parent rows caller parents name)
-making_in rows caller names parents name e some =
+making_in : (rows : Rows) (caller : Caller) (path : ℕ) (names parents : List (List ℕ)) (name : List ℕ) → names ≡ parents ++ name ∷ [] → (length names == 0) ≡ false
+    → first_failing (making rows caller path names) ≡ first_failing (walk rows caller path 0 root parents ++ in_parent rows caller path parents name)
+making_in rows caller path names parents name e some =
     cond-true _ _ _ (ap not some)
-    ∙ ap (λ ys. first_failing (walk rows caller 0 0 root (front ys) ++ in_parent rows caller (front ys) (last ys))) e
-    ∙ ap (λ ps. first_failing (walk rows caller 0 0 root ps ++ in_parent rows caller ps (last (parents ++ name ∷ [])))) (front-last parents name)
-    ∙ ap (λ n. first_failing (walk rows caller 0 0 root parents ++ in_parent rows caller parents n)) (last-last parents name)
+    ∙ ap (λ ys. first_failing (walk rows caller path 0 root (front ys) ++ in_parent rows caller path (front ys) (last ys))) e
+    ∙ ap (λ ps. first_failing (walk rows caller path 0 root ps ++ in_parent rows caller path ps (last (parents ++ name ∷ [])))) (front-last parents name)
+    ∙ ap (λ n. first_failing (walk rows caller path 0 root parents ++ in_parent rows caller path parents n)) (last-last parents name)
 
-module _ (c : Content) (w : World) (shows : Shows c w) (caller : Caller) (names parents : List (List ℕ)) (name : List ℕ)
-    (e : names ≡ parents ++ name ∷ []) (count : length parents + 1 ≡ length names) where
-  some_names : (length names == 0) ≡ false
-  some_names = ne_eqb (length names) 0 (λ z. absurd (omega arith))
+module _ (rows : Rows) (caller : Caller) (path : ℕ) (names parents : List (List ℕ)) (name : List ℕ) (e : names ≡ parents ++ name ∷ []) (count : length parents + 1 ≡ length names) where
+  -- the tests are those of the walk to the directory, and those behind it
+  pub to_walk : first_failing (making rows caller path names) ≡ first_failing (walk rows caller path 0 root parents ++ in_parent rows caller path parents name)
+  to_walk = making_in rows caller path names parents name e (ne_eqb (length names) 0 (λ z. absurd (omega arith)))
 
-  pub make_denied : (denial : Denial) → walked w.rows caller 0 0 root parents ≡ Err denial → first_failing (making w.rows caller names) ≡ Some denial
-  make_denied denial h = making_in w.rows caller names parents name e some_names ∙ walk_denied w.rows caller 0 parents _ denial h
+  -- where the walk is denied, the call is
+  pub make_denied : (denial : Denial) → walked rows caller path 0 root parents ≡ Err denial → first_failing (making rows caller path names) ≡ Some denial
+  make_denied denial h = to_walk ∙ walk_denied rows caller path parents _ denial h
 
-  module _ (n : ℕ) (a : Attrs) (leads : walked w.rows caller 0 0 root parents ≡ Ok n) (shown : Some a ≡ shown_attrs c n) where
-    to_tests : first_failing (making w.rows caller names) ≡ first_failing (in_parent w.rows caller parents name)
-    to_tests = making_in w.rows caller names parents name e some_names ∙ passed c w shows caller parents n a leads shown _
+-- the directory to which the names before the last of a path lead
+pub record Way (c : Content) (w : World) (caller : Caller) (path : ℕ) (names parents : List (List ℕ)) (name : List ℕ) (n : ℕ) (a : Attrs) : Type 0 where
+  pub shows : Shows c w
+  pub names_are : names ≡ parents ++ name ∷ []
+  pub count : length parents + 1 ≡ length names
+  pub leads : walked w.rows caller path 0 root parents ≡ Ok n
+  pub shown : Some a ≡ shown_attrs c n
 
-    kind_test : is_directory_row (map.get w.rows (reached w.rows root parents)) ≡ is_directory_kind a.kind
-    kind_test = directory_is c w shows caller parents n a leads shown
+module _ {c : Content} {w : World} {caller : Caller} {path : ℕ} {names parents : List (List ℕ)} {name : List ℕ} {n : ℕ} {a : Attrs} (way : Way c w caller path names parents name n a) where
+  abbrev failing : Option Denial
+  failing = first_failing (making w.rows caller path names)
 
-    pub make_not_directory : is_directory_kind a.kind ≡ false → first_failing (making w.rows caller names) ≡ Some (record { rule = IsDirectory; path = 0; at = length parents })
-    make_not_directory h = to_tests ∙ cond-false _ _ _ (kind_test ∙ h)
+  abbrev fails_by : Rule → ℕ → Type 0
+  fails_by rule at = failing ≡ Some (record { rule = rule; path = path; at = at })
 
-    module _ (h : is_directory_kind a.kind ≡ true) where
-      pub make_no_search : grants_of caller a bits.Search ≡ false → first_failing (making w.rows caller names) ≡ Some (record { rule = GrantsSearch; path = 0; at = length parents })
-      make_no_search s = to_tests ∙ cond-true _ _ _ (kind_test ∙ h) ∙ cond-false _ _ _ (grants_is c w shows caller parents n a leads shown bits.Search ∙ s)
+  parent_is : reached w.rows root parents ≡ n
+  parent_is = walked-reached w.rows caller path 0 root parents n way.leads
 
-      module _ (s : grants_of caller a bits.Search ≡ true) (found : Option ℕ) (f : found ≡ number_in name (listed (bytes_of c n))) where
-        pub child_found : child w.rows n name ≡ found
-        child_found = sym (f ∙ child_listed c w shows n a shown h name)
+  -- the names before the last lead to the directory
+  pub make_object : reached w.rows root (front names) ≡ n
+  make_object = ap (λ ys. reached w.rows root (front ys)) way.names_are ∙ ap (reached w.rows root) (front-last parents name) ∙ parent_is
 
-        free_test : is_none (child w.rows (reached w.rows root parents) name) ≡ is_none found
-        free_test = ap (λ m. is_none (child w.rows m name)) (object c w shows caller parents n a leads shown) ∙ ap is_none child_found
-
-        pub make_taken : is_some found ≡ true → first_failing (making w.rows caller names) ≡ Some (record { rule = NameFree; path = 0; at = length parents + 1 })
-        make_taken t = to_tests ∙ cond-true _ _ _ (kind_test ∙ h) ∙ cond-true _ _ _ (grants_is c w shows caller parents n a leads shown bits.Search ∙ s)
-            ∙ cond-false _ _ _ (free_test ∙ ap not t)
-
-        pub make_not_granted : is_some found ≡ false → grants_of caller a bits.Write ≡ false → first_failing (making w.rows caller names) ≡ Some (record { rule = GrantsWrite; path = 0; at = length parents })
-        make_not_granted t g = to_tests ∙ cond-true _ _ _ (kind_test ∙ h) ∙ cond-true _ _ _ (grants_is c w shows caller parents n a leads shown bits.Search ∙ s)
-            ∙ cond-true _ _ _ (free_test ∙ ap not t) ∙ cond-false _ _ _ (grants_is c w shows caller parents n a leads shown bits.Write ∙ g)
-
-        pub make_allowed : is_some found ≡ false → grants_of caller a bits.Write ≡ true → first_failing (making w.rows caller names) ≡ None
-        make_allowed t g = to_tests ∙ cond-true _ _ _ (kind_test ∙ h) ∙ cond-true _ _ _ (grants_is c w shows caller parents n a leads shown bits.Search ∙ s)
-            ∙ cond-true _ _ _ (free_test ∙ ap not t) ∙ cond-true _ _ _ (grants_is c w shows caller parents n a leads shown bits.Write ∙ g)
-
-  pub make_object : (n : ℕ) (a : Attrs) → walked w.rows caller 0 0 root parents ≡ Ok n → Some a ≡ shown_attrs c n → reached w.rows root (front names) ≡ n
-  make_object n a leads shown = ap (λ ys. reached w.rows root (front ys)) e ∙ ap (reached w.rows root) (front-last parents name) ∙ object c w shows caller parents n a leads shown
-
+  -- the last name of the path
   pub last_is : last names ≡ name
-  last_is = ap last e ∙ last-last parents name
+  last_is = last_of names parents name way.names_are
 
-pub not_some : (o : Option ℕ) → is_some o ≡ false → o ≡ None
-not_some None h = refl
-not_some (Some n) h = absurd (cc)
+  to_tests : failing ≡ first_failing (in_parent w.rows caller path parents name)
+  to_tests = to_walk w.rows caller path names parents name way.names_are way.count ∙ walk_passed w.rows caller path parents _ n way.leads
+
+  kind_test : is_directory_row (map.get w.rows (reached w.rows root parents)) ≡ is_directory_kind a.kind
+  kind_test = ap (λ m. is_directory_row (map.get w.rows m)) parent_is ∙ directory_reads c w way.shows n a way.shown
+
+  grants_test : (bit : Bit) → row_grants caller bit (map.get w.rows (reached w.rows root parents)) ≡ grants_of caller a bit
+  grants_test bit = ap (λ m. row_grants caller bit (map.get w.rows m)) parent_is ∙ grants_reads c w way.shows n a way.shown caller bit
+
+  mutable_test : not (is_immutable (attrs_at w.rows (reached w.rows root parents))) ≡ not (is_immutable a)
+  mutable_test = ap (λ m. not (is_immutable (attrs_at w.rows m))) parent_is ∙ ap (λ x. not (is_immutable x)) (attrs_reads c w way.shows n a way.shown)
+
+  -- a new name in a file is denied
+  pub make_not_directory : is_directory_kind a.kind ≡ false → fails_by IsDirectory (length parents)
+  make_not_directory h = to_tests ∙ cond-false _ _ _ (kind_test ∙ h)
+
+  module _ (h : is_directory_kind a.kind ≡ true) where
+    -- and in a directory that the caller may not search
+    pub make_no_search : grants_of caller a bits.Search ≡ false → fails_by GrantsSearch (length parents)
+    make_no_search s = to_tests ∙ cond-true _ _ _ (kind_test ∙ h) ∙ cond-false _ _ _ (grants_test bits.Search ∙ s)
+
+    module _ (s : grants_of caller a bits.Search ≡ true) (found : Option ℕ) (f : found ≡ number_in name (listed (bytes_of c n))) where
+      -- what the look-up found is the directory's child
+      pub child_found : child w.rows n name ≡ found
+      child_found = sym (f ∙ child_listed c w way.shows n a way.shown h name)
+
+      free_test : is_none (child w.rows (reached w.rows root parents) name) ≡ is_none found
+      free_test = ap (λ m. is_none (child w.rows m name)) parent_is ∙ ap is_none child_found
+
+      to_free : failing ≡ first_failing (drop 2 (in_parent w.rows caller path parents name))
+      to_free = to_tests ∙ cond-true _ _ _ (kind_test ∙ h) ∙ cond-true _ _ _ (grants_test bits.Search ∙ s)
+
+      -- a name that is there is denied
+      pub make_taken : is_some found ≡ true → fails_by NameFree (length parents + 1)
+      make_taken t = to_free ∙ cond-false _ _ _ (free_test ∙ ap not t)
+
+      module _ (t : is_some found ≡ false) where
+        to_mutable : failing ≡ first_failing (drop 3 (in_parent w.rows caller path parents name))
+        to_mutable = to_free ∙ cond-true _ _ _ (free_test ∙ ap not t)
+
+        -- a name in an immutable directory is
+        pub make_immutable : is_immutable a ≡ true → fails_by IsMutable (length parents)
+        make_immutable i = to_mutable ∙ cond-false _ _ _ (mutable_test ∙ ap not i)
+
+        -- a name in a directory that the caller may not write is
+        pub make_not_granted : is_immutable a ≡ false → grants_of caller a bits.Write ≡ false → fails_by GrantsWrite (length parents)
+        make_not_granted i g = to_mutable ∙ cond-true _ _ _ (mutable_test ∙ ap not i) ∙ cond-false _ _ _ (grants_test bits.Write ∙ g)
+
+        -- another is allowed
+        pub make_allowed : is_immutable a ≡ false → grants_of caller a bits.Write ≡ true → failing ≡ None
+        make_allowed i g = to_mutable ∙ cond-true _ _ _ (mutable_test ∙ ap not i) ∙ cond-true _ _ _ (grants_test bits.Write ∙ g)
 
 -- ---- what the store is asked
 
@@ -138,12 +183,14 @@ module _ (c : Content) (number : ℕ) (attrs : Attrs) (dir off : ℕ) (block : L
   there : map.get made dir ≡ Some f
   there = get-insert_other c number made_file dir apart ∙ stored
 
+  -- the content with the new file and the written block
   abbrev pub after_changes : Content
   after_changes = changed_at (map.get made dir) dir (λ x. record x { bytes = splice x.bytes off block }) made
 
   after : after_changes ≡ map.insert made dir put_dir
   after = ap (λ o. changed_at o dir (λ x. record x { bytes = splice x.bytes off block }) made) there
 
+  -- it has the new file and the block, and is otherwise what it was
   pub makes_file : (new : Content) → new ≡ after_changes → MakesFile c new number made_file dir off block
   makes_file new is = record {
     made = ap (λ x. map.get x number) (is ∙ after) ∙ get-insert_other made dir put_dir number (λ same. apart (sym same)) ∙ get-insert_same c number made_file;
@@ -153,10 +200,12 @@ module _ (c : Content) (number : ℕ) (attrs : Attrs) (dir off : ℕ) (block : L
     others = λ q a b. ap (λ x. map.get x q) (is ∙ after) ∙ get-insert_other made dir put_dir q b ∙ get-insert_other c number made_file q a;
   }
 
+  -- a store may be asked for it
   pub can_make : (numbers : ℕ) (pointed : Bor (List ℕ)) → pointed.now ≡ block → 4 ≤ number → number < numbers → length block ≡ 512 → IsLength f.kind (length (splice f.bytes off block)) → CanApply numbers (Make number attrs ∷ Put dir off pointed ∷ []) c
   can_make numbers pointed same low high size long = record {
     few = omega arith;
     few_puts = omega arith;
+    few_lengths = omega arith;
     few_bytes = let n = ap (λ (bs : List ℕ). length bs) same in omega arith;
     each = ((low, high, unused), (is_some_and _ there (subst (λ bs. IsLength f.kind (length (splice f.bytes off bs))) (sym same) long), tt));
   }
@@ -175,13 +224,13 @@ least_unused-is rows (suc count) n m low high free used = ⊎_elim
       above t = ⊎_elim
           (λ e. let none : is_some (map.get rows n) ≡ false = ap (λ k. is_some (map.get rows k)) e ∙ ap is_some free in absurd (cc))
           (λ (apart : n ≢ m). omega arith)
-          (same_or_not n m)
+          (cases_eq n m)
 
       at_end : is_some (map.get rows n) ≡ false → n ≡ m
       at_end t = ⊎_elim
           (λ e. e)
           (λ (apart : n ≢ m). let some : is_some (map.get rows n) ≡ true = used n (omega arith) (omega arith) in absurd (cc))
-          (same_or_not n m)
+          (cases_eq n m)
 
 -- where the store has no number left, the tree has none
 pub all_used : (c : Content) (w : World) → Shows c w → (numbers : ℕ) → IsUsedBelow c numbers → AllUsed numbers w.rows

@@ -17,17 +17,13 @@ use Rattle.lfs_types.specs.declared.rule.Denial.{Denial}
 use Rattle.lfs_types.specs.declared.rule.Rule.TheVariants.{IsNoDirectory, GrantsRead}
 use Rattle.lfs_rules.specs.Grants.{grants_of}
 use Rattle.lfs_volume.specs.World.{file_at}
-use Rattle.lfs_volume.specs.Rules.{Check, first_failing, is_directory_row, row_grants, reached, walk, decide}
+use Rattle.lfs_volume.specs.Rules.{Check, first_failing, is_directory_row, row_grants, attrs_at, reached, walk, decide}
 use Rattle.lfs_volume.specs.Effects.{answer_of, read_max}
 use Rattle.lfs_volume.specs.Content.{visible, visible_bytes, Shows}
 use Rattle.lfs_volume.specs.Walks.{walked}
-use Rattle.lfs_volume.proofs.Deciding.{walk_denied, walk_passed, walked-reached}
-use Rattle.lfs_volume.proofs.StepLemmas.{shown_file, directory_reads, grants_reads}
+use Rattle.lfs_volume.proofs.Deciding.{walk_denied, walk_passed, walked-reached, denied_at}
+use Rattle.lfs_volume.proofs.StepLemmas.{shown_file, stored_regular, attrs_reads, directory_reads, grants_reads}
 use Rattle.lfs_volume.proofs.Visible.{Stored, shown_of, visible-regular}
-
-pub regular_kind : (k : Kind) → is_directory_kind k ≡ false → k ≡ Regular
-regular_kind Regular h = refl
-regular_kind Directory h = absurd (cc)
 
 -- the size that is shown of a file: 0 of a directory
 size_shown : (k : Kind) (bytes : List ℕ) (size : ℕ) → (is_directory_kind k ≡ true → size ≡ 0) → (is_directory_kind k ≡ false → size ≡ length bytes) → size ≡ length (visible_bytes k bytes)
@@ -37,12 +33,15 @@ size_shown Directory bytes size dir file = dir refl
 -- a row that a path leads to, with what the store has of it
 module _ (c : Content) (w : World) (shows : Shows c w) (caller : Caller) (path : List (List ℕ)) (n : ℕ) (a : Attrs)
     (leads : walked w.rows caller 0 0 root path ≡ Ok n) (shown : Some a ≡ shown_attrs c n) where
+  -- the path leads to it
   pub object : reached w.rows root path ≡ n
   object = walked-reached w.rows caller 0 0 root path n leads
 
+  -- the walk's tests are met, so those behind them decide
   pub passed : (rest : List Check) → first_failing (walk w.rows caller 0 0 root path ++ rest) ≡ first_failing rest
   passed rest = walk_passed w.rows caller 0 path rest n leads
 
+  -- it is a row of the tree
   pub row_is : Stored w n (shown_file c n a shown).file
   row_is = shown_of c w shows n (shown_file c n a shown).file (shown_file c n a shown).stored
 
@@ -50,15 +49,23 @@ module _ (c : Content) (w : World) (shows : Shows c w) (caller : Caller) (path :
   pub file_is : file_at (map.get w.rows (reached w.rows root path)) ≡ visible (shown_file c n a shown).file
   file_is = ap (λ m. file_at (map.get w.rows m)) object ∙ ap file_at row_is.there ∙ sym row_is.same
 
+  -- the attributes that users see of it, all but the size
+  pub attrs_is : attrs_at w.rows (reached w.rows root path) ≡ record a { size = length (visible (shown_file c n a shown).file).bytes }
+  attrs_is = ap (attrs_at w.rows) object ∙ attrs_reads c w shows n a shown
+
+  -- it is a directory's where the attributes say so
   pub directory_is : is_directory_row (map.get w.rows (reached w.rows root path)) ≡ is_directory_kind a.kind
   directory_is = ap (λ m. is_directory_row (map.get w.rows m)) object ∙ directory_reads c w shows n a shown
 
+  -- it grants what the attributes do
   pub grants_is : (bit : _) → row_grants caller bit (map.get w.rows (reached w.rows root path)) ≡ grants_of caller a bit
   grants_is bit = ap (λ m. row_grants caller bit (map.get w.rows m)) object ∙ grants_reads c w shows n a shown caller bit
 
+  -- a Stat is allowed
   pub stat_allowed : decide w caller (Stat path) ≡ None
   stat_allowed = ap first_failing (sym (append-nil (walk w.rows caller 0 0 root path))) ∙ passed []
 
+  -- and shows the attributes with the size that users see
   pub stat_answer : (size : ℕ) → (is_directory_kind a.kind ≡ true → size ≡ 0) → (is_directory_kind a.kind ≡ false → size ≡ a.size)
       → served.Stat n (record a { size = size }) ≡ answer_of w (Stat path)
   stat_answer size dir file =
@@ -72,12 +79,15 @@ module _ (c : Content) (w : World) (shows : Shows c w) (caller : Caller) (path :
       ∙ ap (λ m. served.Stat m (attrs_of (file_at (map.get w.rows (reached w.rows root path))))) (sym object)
 
   module _ (off len : ℕ) where
-    pub read_of_directory : is_directory_kind a.kind ≡ true → decide w caller (Read path off len) ≡ Some (record { rule = IsNoDirectory; path = 0; at = length path })
+    -- a Read of a directory is denied
+    pub read_of_directory : is_directory_kind a.kind ≡ true → decide w caller (Read path off len) ≡ Some (denied_at (length path) IsNoDirectory)
     read_of_directory h = passed _ ∙ cond-false _ _ _ (ap not (directory_is ∙ h))
 
-    pub read_not_granted : is_directory_kind a.kind ≡ false → grants_of caller a bits.Read ≡ false → decide w caller (Read path off len) ≡ Some (record { rule = GrantsRead; path = 0; at = length path })
+    -- one of a file that the caller may not read is too
+    pub read_not_granted : is_directory_kind a.kind ≡ false → grants_of caller a bits.Read ≡ false → decide w caller (Read path off len) ≡ Some (denied_at (length path) GrantsRead)
     read_not_granted h g = passed _ ∙ cond-true _ _ _ (ap not (directory_is ∙ h)) ∙ cond-false _ _ _ (grants_is bits.Read ∙ g)
 
+    -- another is allowed
     pub read_allowed : is_directory_kind a.kind ≡ false → grants_of caller a bits.Read ≡ true → decide w caller (Read path off len) ≡ None
     read_allowed h g = passed _ ∙ cond-true _ _ _ (ap not (directory_is ∙ h)) ∙ cond-true _ _ _ (grants_is bits.Read ∙ g)
 
@@ -85,9 +95,9 @@ module _ (c : Content) (w : World) (shows : Shows c w) (caller : Caller) (path :
     pub read_answer : is_directory_kind a.kind ≡ false → (bytes : List ℕ) → bytes ≡ slice_of (bytes_of c n) off (min len read_max) → served.Bytes bytes ≡ answer_of w (Read path off len)
     read_answer h bytes e =
         let f = shown_file c n a shown in
-        let regular = regular_kind f.file.kind (ap is_directory_kind (sym (ap (λ (x : Attrs). x.kind) f.same)) ∙ h) in
-        let same : f.file.bytes ≡ (file_at (map.get w.rows (reached w.rows root path))).bytes = ap (λ (x : File). x.bytes) (sym (file_is ∙ visible-regular f.file regular)) in
+        let same : f.file.bytes ≡ (file_at (map.get w.rows (reached w.rows root path))).bytes = ap (λ (x : File). x.bytes) (sym (file_is ∙ visible-regular f.file (stored_regular c n a shown h))) in
         ap served.Bytes (e ∙ ap (λ bs. slice_of bs off (min len read_max)) (ap bytes_of_file f.stored ∙ same))
 
+-- where the walk is denied, a Stat is
 pub stat_denied : (w : World) (caller : Caller) (path : List (List ℕ)) (denial : Denial) → walked w.rows caller 0 0 root path ≡ Err denial → decide w caller (Stat path) ≡ Some denial
 stat_denied w caller path denial h = ap first_failing (sym (append-nil (walk w.rows caller 0 0 root path))) ∙ walk_denied w.rows caller 0 path [] denial h

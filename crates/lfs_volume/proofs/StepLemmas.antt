@@ -1,10 +1,10 @@
 -- What the store says of a row, and what a step of a walk finds.
-use Rattle.std.proofs.Common.{◌≡◌, ℕ, ◌+◌, ◌%◌, Bool, true, false, cond, List, [], ◌∷◌, length, Option, None, Some, Result, Ok, Err, refl, sym, ap, subst, ◌∙◌}
+use Rattle.std.proofs.Common.{◌≡◌, ℕ, ◌+◌, ◌<◌, Bool, true, false, cond, List, [], ◌∷◌, length, get_or, drop, Option, None, Some, Result, Ok, Err, refl, sym, ap, ◌∙◌, add-one}
 use Rattle.std.specs.Prelude.{option_map, IsSome, ok_or}
 use Rattle.std.proofs.lemmas.Bool.{cond-true, cond-false}
+use Rattle.std.proofs.Math.Seq.{drop-cons}
 use Rattle.std.specs.FinMap as map
 use Rattle.lfs_types.specs.Caller.{Caller}
-use Rattle.lfs_types.specs.Changes.{IsLength}
 use Rattle.lfs_types.specs.Kinds.{is_directory_kind}
 use Rattle.lfs_types.specs.Stored.{shown_attrs, bytes_of, bytes_of_file}
 use Rattle.lfs_types.specs.Tree.{File, World, Content, root, attrs_of}
@@ -17,9 +17,9 @@ use Rattle.lfs_types.specs.declared.rule.Denial.{Denial}
 use Rattle.lfs_types.specs.declared.rule.Rule.TheVariants.{IsDirectory, GrantsSearch, NameThere}
 use Rattle.lfs_dirs.specs.Directory.{number_in}
 use Rattle.lfs_rules.specs.Grants.{grants_of}
-use Rattle.lfs_volume.specs.World.{Rows, child, IsTree}
-use Rattle.lfs_volume.specs.Rules.{is_directory_row, row_grants}
-use Rattle.lfs_volume.specs.Content.{Shows, listed}
+use Rattle.lfs_volume.specs.World.{Rows, child, file_at, IsTree}
+use Rattle.lfs_volume.specs.Rules.{is_directory_row, row_grants, attrs_at}
+use Rattle.lfs_volume.specs.Content.{visible, Shows, listed}
 use Rattle.lfs_volume.specs.Walks.{stepped, found, and_then, walked}
 use Rattle.lfs_volume.proofs.Visible.{Stored, shown_of, stored_of}
 use Rattle.lfs_volume.proofs.Children.{child-is}
@@ -35,12 +35,29 @@ shown_file_as : (c : Content) (n : ℕ) (a : Attrs) (o : Option File) → map.ge
 shown_file_as c n a None e h = absurd (cc)
 shown_file_as c n a (Some f) e h = record { file = f; stored = e; same = cc }
 
+-- what shows attributes has a file
 pub shown_file : (c : Content) (n : ℕ) (a : Attrs) → Some a ≡ shown_attrs c n → ShownFile c n a
 shown_file c n a h = shown_file_as c n a (map.get c n) refl h
 
+-- a kind that tests as a directory's is it
 pub directory_kind : (k : Kind) → is_directory_kind k ≡ true → k ≡ Directory
 directory_kind Regular h = absurd (cc)
 directory_kind Directory h = refl
+
+-- and one that doesn't is a file's
+pub regular_kind : (k : Kind) → is_directory_kind k ≡ false → k ≡ Regular
+regular_kind Regular h = refl
+regular_kind Directory h = absurd (cc)
+
+-- the shown kind is the stored file's
+module _ (c : Content) (n : ℕ) (a : Attrs) (shown : Some a ≡ shown_attrs c n) where
+  -- it is a directory
+  pub stored_directory : is_directory_kind a.kind ≡ true → (shown_file c n a shown).file.kind ≡ Directory
+  stored_directory h = ap (λ (x : Attrs). x.kind) (sym (shown_file c n a shown).same) ∙ directory_kind a.kind h
+
+  -- or it is none
+  pub stored_regular : is_directory_kind a.kind ≡ false → (shown_file c n a shown).file.kind ≡ Regular
+  stored_regular h = ap (λ (x : Attrs). x.kind) (sym (shown_file c n a shown).same) ∙ regular_kind a.kind h
 
 -- what the attributes that a store shows of a number say of its row
 module _ (c : Content) (w : World) (shows : Shows c w) (n : ℕ) (a : Attrs) (shown : Some a ≡ shown_attrs c n) where
@@ -50,28 +67,25 @@ module _ (c : Content) (w : World) (shows : Shows c w) (n : ℕ) (a : Attrs) (sh
   abbrev the_row : Stored w n the_file.file
   the_row = shown_of c w shows n the_file.file the_file.stored
 
+  -- the row is a directory's where they say so
   pub directory_reads : is_directory_row (map.get w.rows n) ≡ is_directory_kind a.kind
   directory_reads =
       ap is_directory_row the_row.there ∙ ap (λ (x : File). is_directory_kind x.kind) (sym the_row.same) ∙ ap (λ (x : Attrs). is_directory_kind x.kind) (sym the_file.same)
 
+  -- it grants what they do
   pub grants_reads : (caller : Caller) (bit : Bit) → row_grants caller bit (map.get w.rows n) ≡ grants_of caller a bit
   grants_reads caller bit =
       ap (row_grants caller bit) the_row.there ∙ ap (λ (x : File). grants_of caller (attrs_of x) bit) (sym the_row.same) ∙ ap (λ (x : Attrs). grants_of caller x bit) (sym the_file.same)
 
-  pub size_reads : a.size ≡ length (bytes_of c n)
-  size_reads = ap (λ (x : Attrs). x.size) the_file.same ∙ ap (λ o. length (bytes_of_file o)) (sym the_file.stored)
-
-  is_directory : is_directory_kind a.kind ≡ true → the_file.file.kind ≡ Directory
-  is_directory h = ap (λ (x : Attrs). x.kind) (sym the_file.same) ∙ directory_kind a.kind h
-
-  pub whole_blocks : is_directory_kind a.kind ≡ true → a.size % 512 ≡ 0
-  whole_blocks h =
-      let size = subst (λ k. IsLength k (length the_file.file.bytes)) (is_directory h) (shows.sizes n the_file.file the_file.stored) in
-      ap (λ (x : Attrs). x.size % 512) the_file.same ∙ size.1
+  -- the attributes that users see of the row, all but the size
+  pub attrs_reads : attrs_at w.rows n ≡ record a { size = length (visible the_file.file).bytes }
+  attrs_reads =
+      ap (λ o. attrs_of (file_at o)) the_row.there ∙ ap attrs_of (sym the_row.same)
+      ∙ ap (λ (x : Attrs). record x { size = length (visible the_file.file).bytes }) (sym the_file.same)
 
   -- what the directory lists under a name is its child
   pub child_listed : is_directory_kind a.kind ≡ true → (name : List ℕ) → number_in name (listed (bytes_of c n)) ≡ child w.rows n name
-  child_listed h name = ap (λ o. number_in name (listed (bytes_of_file o))) the_file.stored ∙ (shows.listings n the_file.file the_file.stored (is_directory h)).names name
+  child_listed h name = ap (λ o. number_in name (listed (bytes_of_file o))) the_file.stored ∙ (shows.listings n the_file.file the_file.stored (stored_directory c n a shown h)).names name
 
 -- a child that was looked up, or its denial
 ok_found : (path k : ℕ) (o : Option ℕ) → ok_or o (record { rule = NameThere; path = path; at = k }) ≡ found path k o
@@ -79,12 +93,15 @@ ok_found path k None = refl
 ok_found path k (Some n) = refl
 
 module _ (c : Content) (w : World) (shows : Shows c w) (caller : Caller) (path k n : ℕ) (name : List ℕ) (a : Attrs) (shown : Some a ≡ shown_attrs c n) where
+  -- a step from a file is denied
   pub steps_not_directory : is_directory_kind a.kind ≡ false → stepped w.rows caller path k n name ≡ Err (record { rule = IsDirectory; path = path; at = k })
   steps_not_directory h = cond-false _ _ _ (directory_reads c w shows n a shown ∙ h)
 
+  -- and one from a directory that the caller may not search
   pub steps_no_search : is_directory_kind a.kind ≡ true → grants_of caller a bits.Search ≡ false → stepped w.rows caller path k n name ≡ Err (record { rule = GrantsSearch; path = path; at = k })
   steps_no_search h g = cond-true _ _ _ (directory_reads c w shows n a shown ∙ h) ∙ cond-false _ _ _ (grants_reads c w shows n a shown caller bits.Search ∙ g)
 
+  -- another goes to the child, or is denied where there is none
   pub steps_on : is_directory_kind a.kind ≡ true → grants_of caller a bits.Search ≡ true → (o : Option ℕ) → o ≡ number_in name (listed (bytes_of c n))
       → ok_or o (record { rule = NameThere; path = path; at = k + 1 }) ≡ stepped w.rows caller path k n name
   steps_on h g o e =
@@ -94,16 +111,19 @@ module _ (c : Content) (w : World) (shows : Shows c w) (caller : Caller) (path k
 
 -- ---- a walk goes on
 
-stepped_row : (rows : Rows) (caller : Caller) (path k at : ℕ) (name : List ℕ) (n : ℕ) (d s : Bool) (o : Option ℕ)
-    → cond d (cond s (found path (k + 1) o) (Err (record { rule = GrantsSearch; path = path; at = k }))) (Err (record { rule = IsDirectory; path = path; at = k })) ≡ Ok n → o ≡ Some n
-stepped_row rows caller path k at name n true true None h = absurd (cc)
-stepped_row rows caller path k at name n true true (Some m) h = cc
-stepped_row rows caller path k at name n true false o h = absurd (cc)
-stepped_row rows caller path k at name n false s o h = absurd (cc)
+stepped_row : (path k n : ℕ) (search kind : Denial) (d s : Bool) (o : Option ℕ) → cond d (cond s (found path k o) (Err search)) (Err kind) ≡ Ok n → (d ≡ true) × (o ≡ Some n)
+stepped_row path k n search kind true true None h = absurd (cc)
+stepped_row path k n search kind true true (Some m) h = (refl, cc)
+stepped_row path k n search kind true false o h = absurd (cc)
+stepped_row path k n search kind false s o h = absurd (cc)
 
--- a step that is taken leads to a child
+-- a step that is taken starts at a directory
+pub stepped-directory : (rows : Rows) (caller : Caller) (path k at : ℕ) (name : List ℕ) (n : ℕ) → Ok n ≡ stepped rows caller path k at name → is_directory_row (map.get rows at) ≡ true
+stepped-directory rows caller path k at name n h = (stepped_row path (k + 1) n _ _ (is_directory_row (map.get rows at)) (row_grants caller bits.Search (map.get rows at)) (child rows at name) (sym h)).0
+
+-- and leads to a child
 pub stepped-child : (rows : Rows) (caller : Caller) (path k at : ℕ) (name : List ℕ) (n : ℕ) → Ok n ≡ stepped rows caller path k at name → child rows at name ≡ Some n
-stepped-child rows caller path k at name n h = stepped_row rows caller path k at name n (is_directory_row (map.get rows at)) (row_grants caller bits.Search (map.get rows at)) (child rows at name) (sym h)
+stepped-child rows caller path k at name n h = (stepped_row path (k + 1) n _ _ (is_directory_row (map.get rows at)) (row_grants caller bits.Search (map.get rows at)) (child rows at name) (sym h)).1
 
 -- a child is stored
 pub child-stored : (c : Content) (w : World) → Shows c w → (parent : ℕ) (name : List ℕ) (n : ℕ) → child w.rows parent name ≡ Some n → IsSome (map.get c n)
@@ -111,15 +131,22 @@ child-stored c w shows parent name n h =
     let is = child-is w.rows parent name n h in
     present (stored_of c w shows n is.row is.there).stored
 
+-- the names that are left, with the first of them
+pub names_left : (names : List (List ℕ)) (at : ℕ) (name : List ℕ) → at < length names → name ≡ get_or names at name → drop at names ≡ name ∷ drop (at + 1) names
+names_left names at name h is = drop-cons names at name h ∙ rw (← is, add-one) refl
+
+-- a walk takes a step, and goes on from there
 pub walked_on : (rows : Rows) (caller : Caller) (path k at : ℕ) (name : List ℕ) (names : List (List ℕ)) (r : Result ℕ Denial) → r ≡ stepped rows caller path k at name
     → walked rows caller path k at (name ∷ names) ≡ and_then r (λ n. walked rows caller path (k + 1) n names)
 unfolding walked
 walked_on rows caller path k at name names r h = ap (λ x. and_then x (λ n. walked rows caller path (k + 1) n names)) (sym h)
 
+-- a walk along no names ends where it is
 pub walked_end : (rows : Rows) (caller : Caller) (path k at : ℕ) → walked rows caller path k at [] ≡ Ok at
 unfolding walked
 walked_end rows caller path k at = refl
 
+-- the root is stored
 pub root_stored : (c : Content) (w : World) → Shows c w → IsTree w.rows → IsSome (map.get c root)
 root_stored c w shows tree =
     let r = some_and (map.get w.rows root) _ tree.rooted in
@@ -136,6 +163,7 @@ not_shown c n used h =
 pub shown_stored : (c : Content) (n : ℕ) (a : Attrs) → Some a ≡ shown_attrs c n → IsSome (map.get c n)
 shown_stored c n a h = present (shown_file c n a h).stored
 
+-- such a number has as many bytes as they say
 pub size_stored : (c : Content) (n : ℕ) (a : Attrs) → Some a ≡ shown_attrs c n → a.size ≡ length (bytes_of c n)
 size_stored c n a h =
     let f = shown_file c n a h in

@@ -1,11 +1,11 @@
 -- What a store's content shows as a world.
-use Rattle.std.specs.Prelude.{◌≡◌, ℕ, zero, suc, ◌+◌, ◌*◌, ◌/◌, ◌<◌, List, [], ◌++◌, length, take, drop, Some, option_map}
+use Rattle.std.specs.Prelude.{◌≡◌, ℕ, zero, suc, ◌+◌, ◌*◌, ◌/◌, ◌<◌, List, [], ◌++◌, length, take, drop, Option, None, Some, option_map}
 use Rattle.std.specs.FinMap as map
 use Rattle.lfs_types.specs.Changes.{IsLength}
 use Rattle.lfs_types.specs.Tree.{File, Row, World, Content}
 use Rattle.lfs_types.specs.declared.attrs.Kind.{Kind}
 use Rattle.lfs_types.specs.declared.attrs.Kind.TheVariants.{File as Regular, Directory}
-use Rattle.lfs_dirs.specs.Directory.{Entry, IsDirectoryBlock, AreEntries, number_in, used_of}
+use Rattle.lfs_dirs.specs.Directory.{Entry, IsDirectoryBlock, AreEntries, number_in, used_of, without}
 use Rattle.lfs_dirs.specs.Reading.{entries_of}
 use Rattle.lfs_volume.specs.World.{Rows, child}
 
@@ -49,7 +49,13 @@ pub record Shows (c : Content) (w : World) : Type 0 where
   pub sizes : (n : ℕ) (f : File) → map.get c n ≡ Some f → IsLength f.kind (length f.bytes)
   pub listings : (n : ℕ) (f : File) → map.get c n ≡ Some f → f.kind ≡ Directory → IsListing w.rows n f.bytes
 
--- a new name fits in no block of a directory, which has all the blocks that it may have
-pub record FitsNowhere (bytes : List ℕ) (name : List ℕ) : Type 0 where
+-- entries without that of a name, if one is given
+abbrev pub left_of : Option (List ℕ) → List Entry → List Entry
+left_of None es = es
+left_of (Some name) es = without name es
+
+-- a new name fits in no block of a directory, from which a name was taken away or none, and which has all the blocks
+-- that it may have
+pub record FitsNowhere (bytes : List ℕ) (taken : Option (List ℕ)) (name : List ℕ) : Type 0 where
   pub whole : length bytes ≡ 71680
-  pub full : (k : ℕ) → k < 140 → 512 < used_of (entries_of (block_at bytes k)) + 5 + length name
+  pub full : (k : ℕ) → k < 140 → 512 < used_of (left_of taken (entries_of (block_at bytes k))) + 5 + length name

@@ -1,17 +1,8 @@
--- Answers that take memory, and that tell of its want.
+-- Answers that tell of want of memory.
 use Rattle.std.specs.Prelude.{Bool, true, false}
 use Rattle.lfs_types.specs.declared.answer.Answer.{Answer}
 use Rattle.lfs_types.specs.declared.answer.Answer.TheVariants.{Served, Denied, Refused}
 use Rattle.lfs_types.specs.declared.answer.Resource.TheVariants.{NoMemory, NoSpace, NoInodes, DirectoryFull, JournalFull}
-use Rattle.lfs_types.specs.declared.answer.Served.TheVariants.{Stat, Bytes, Done}
-
--- an answer whose copy takes memory
-abbrev pub HasBytes : Answer → Type 0
-HasBytes (Served (Stat number attrs)) = ⊥
-HasBytes (Served (Bytes bytes)) = Unit {0}
-HasBytes (Served Done) = ⊥
-HasBytes (Denied denial) = ⊥
-HasBytes (Refused resource) = ⊥
 
 -- whether an answer tells that memory was wanting
 abbrev pub is_lack_of_memory : Answer → Bool

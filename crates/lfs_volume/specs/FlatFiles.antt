@@ -2,10 +2,10 @@
 use Rattle.std.specs.Prelude.{ℕ, zero, suc, ◌+◌, ◌<◌, ◌≤◌, List, [], ◌∷◌, length, Option, None, Some, option_map}
 use Rattle.std.specs.FinMap as map
 use Rattle.lfs_types.specs.Tree.{File, Content, file_of}
-use Rattle.lfs_types.specs.Splicing.{splice}
+use Rattle.lfs_types.specs.Splicing.{splice, resized}
 use Rattle.lfs_types.specs.declared.attrs.Attrs.{Attrs}
 use Rattle.lfs_types.specs.declared.store.Change.{Change}
-use Rattle.lfs_types.specs.declared.store.Change.TheVariants.{Make, SetAttrs, Put}
+use Rattle.lfs_types.specs.declared.store.Change.TheVariants.{Make, Remove, SetAttrs, Put, SetLength}
 use Rattle.lfs_volume.specs.declared.flat_files.place.Place.{Place}
 
 -- the file at a place, if there is one
@@ -51,17 +51,25 @@ with_attrs attrs f = file_of attrs f.bytes
 abbrev pub with_bytes : ℕ → List ℕ → File → File
 with_bytes off bytes f = record f { bytes = splice f.bytes off bytes }
 
+-- a file of another length
+abbrev pub with_length : ℕ → File → File
+with_length len f = record f { bytes = resized f.bytes len }
+
 -- a change names a place and ends within the limit of a file
 abbrev pub IsInReach : ℕ → Change → Type 0
 IsInReach numbers (Make ino attrs) = ino < numbers
+IsInReach numbers (Remove ino) = ino < numbers
 IsInReach numbers (SetAttrs ino attrs) = ino < numbers
 IsInReach numbers (Put ino off bytes) = (ino < numbers) × (end_of off bytes.now ≤ 71680)
+IsInReach numbers (SetLength ino len) = (ino < numbers) × (len ≤ 71680)
 
 -- there is room for what a change puts
 abbrev pub HasRoom : List Place → Change → Type 0
 HasRoom ps (Make ino attrs) = Unit {0}
+HasRoom ps (Remove ino) = Unit {0}
 HasRoom ps (SetAttrs ino attrs) = Unit {0}
 HasRoom ps (Put ino off bytes) = end_of off bytes.now ≤ room_in ps ino
+HasRoom ps (SetLength ino len) = len ≤ room_in ps ino
 
 -- no place loses room
 abbrev pub Grows : List Place → List Place → Type 0

@@ -1,9 +1,13 @@
+pub mod Attributes
 pub mod Content
 pub mod Copies
 pub mod Effects
 pub mod FlatFiles
+pub mod Lists
 pub mod Makes
 pub mod Outcomes
+pub mod Removes
+pub mod Renames
 pub mod Rules
 pub mod Runs
 pub mod Seen

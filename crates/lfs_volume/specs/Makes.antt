@@ -1,11 +1,16 @@
 -- What judging and making a new row come to, over a store.
-use Rattle.std.specs.Prelude.{◌≡◌, ◌≢◌, ℕ, ◌*◌, ◌/◌, ◌<◌, ◌≤◌, true, List, [], ◌∷◌, ◌++◌, length, None, Some, Result, Ok, Err}
+use Rattle.std.specs.Prelude.{◌≡◌, ◌≢◌, ℕ, ◌*◌, ◌/◌, ◌%◌, ◌<◌, ◌≤◌, true, List, [], ◌∷◌, ◌++◌, length, Option, None, Some, Result, Ok, Err}
+use Rattle.std.specs.Borrow.{Bor}
 use Rattle.std.specs.FinMap as map
 use Rattle.lfs_types.specs.Caller.{Caller}
 use Rattle.lfs_types.specs.Kinds.{is_directory_kind}
 use Rattle.lfs_types.specs.Splicing.{splice}
 use Rattle.lfs_types.specs.Stored.{shown_attrs}
 use Rattle.lfs_types.specs.Tree.{File, Content, root}
+use Rattle.lfs_types.specs.declared.attrs.Kind.{Kind}
+use Rattle.lfs_types.specs.declared.attrs.Kind.TheVariants.{File as Regular, Directory}
+use Rattle.lfs_types.specs.declared.request.Request.{Request}
+use Rattle.lfs_types.specs.declared.request.Request.TheVariants.{Create, Mkdir}
 use Rattle.lfs_types.specs.declared.rule.Denial.{Denial}
 use Rattle.lfs_dirs.specs.Directory.{IsDirectoryBlock}
 use Rattle.lfs_dirs.specs.Reading.{entries_of}
@@ -16,17 +21,22 @@ use Rattle.lfs_volume.specs.Rules.{first_failing, making, front, last, reached}
 use Rattle.lfs_volume.specs.Content.{block_at}
 
 -- a directory in which a new name may be put, as the store shows it
-pub record IsParent (c : Content) (rows : Rows) (caller : Caller) (path : List (List ℕ)) (dir : Reached) : Type 0 where
-  pub allowed : first_failing (making rows caller path) ≡ None
+pub record IsParent (c : Content) (rows : Rows) (caller : Caller) (index : ℕ) (path : List (List ℕ)) (dir : Reached) : Type 0 where
+  pub allowed : first_failing (making rows caller index path) ≡ None
   pub object : reached rows root (front path) ≡ dir.number
   pub shown : Some dir.attrs ≡ shown_attrs c dir.number
   pub directory : is_directory_kind dir.attrs.kind ≡ true
   pub free : child rows dir.number (last path) ≡ None
 
--- the directory in which a new name may be put, or the denial
-abbrev pub JudgesMaking : Content → Rows → Caller → List (List ℕ) → Result Reached Denial → Type 0
-JudgesMaking c rows caller path (Ok dir) = IsParent c rows caller path dir
-JudgesMaking c rows caller path (Err denial) = first_failing (making rows caller path) ≡ Some denial
+-- the directory in which the new name of the path of this index may be put, or the denial
+abbrev pub JudgesMaking : Content → Rows → Caller → ℕ → List (List ℕ) → Result Reached Denial → Type 0
+JudgesMaking c rows caller index path (Ok dir) = IsParent c rows caller index path dir
+JudgesMaking c rows caller index path (Err denial) = first_failing (making rows caller index path) ≡ Some denial
+
+-- the request that makes an empty file of this kind
+abbrev pub request_for : Kind → List (List ℕ) → ℕ → Request
+request_for Regular path mode = Create path mode
+request_for Directory path mode = Mkdir path mode
 
 -- a block of a directory's bytes, or one at their end, with an entry more
 pub record IsRoom (bytes : List ℕ) (number : ℕ) (name : List ℕ) (room : Room) (k : ℕ) : Type 0 where
@@ -35,6 +45,17 @@ pub record IsRoom (bytes : List ℕ) (number : ℕ) (name : List ℕ) (room : Ro
   pub fits : k < 140
   pub block : IsDirectoryBlock room.block (entries_of room.block)
   pub adds : entries_of room.block ≡ entries_of (block_at bytes k) ++ (number, name) ∷ []
+
+-- a block may be read in place of one of a directory's bytes
+pub record StandsIn (bytes : List ℕ) (room : Room) : Type 0 where
+  pub aligned : room.off % 512 ≡ 0
+  pub within : room.off < length bytes
+  pub size : length room.block ≡ 512
+
+-- a directory's bytes, with a block read in place of the stored one, if one is given
+abbrev pub with_block : List ℕ → Option (Bor Room) → List ℕ
+with_block bytes None = bytes
+with_block bytes (Some room) = splice bytes room.now.off room.now.block
 
 -- the content after a file was made and a block of its directory was written; all other files stay
 pub record MakesFile (old new : Content) (number : ℕ) (file : File) (dir : ℕ) (off : ℕ) (block : List ℕ) : Type 0 where

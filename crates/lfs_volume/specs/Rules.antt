@@ -1,20 +1,26 @@
 -- The rules that a call must pass, in order, and the first that fails.
-use Rattle.std.specs.Prelude.{ℕ, ◌+◌, ◌==◌, nat_le, not, Bool, false, List, [], ◌∷◌, ◌++◌, length, Option, None, Some, is_some, is_none, unwrap_or, if◌then◌else◌}
+use Rattle.std.specs.Prelude.{ℕ, ◌+◌, ◌==◌, nat_le, not, ◌||◌, Bool, true, false, List, [], ◌∷◌, ◌++◌, length, Option, None, Some, is_some, is_none, unwrap_or, if◌then◌else◌}
 use Rattle.std.specs.FinMap as map
+use Rattle.std.specs.List.{list_any}
 use Rattle.lfs_types.specs.Caller.{Caller}
 use Rattle.lfs_types.specs.Kinds.{is_directory_kind}
 use Rattle.lfs_types.specs.Tree.{Row, World, root, attrs_of}
+use Rattle.lfs_types.specs.declared.attrs.Attrs.{Attrs}
 use Rattle.lfs_types.specs.declared.attrs.Bit.{Bit}
 use Rattle.lfs_types.specs.declared.attrs.Bit.TheVariants as bits
 use Rattle.lfs_types.specs.declared.request.Place.{Place}
 use Rattle.lfs_types.specs.declared.request.Place.TheVariants.{At, End}
 use Rattle.lfs_types.specs.declared.request.Request.{Request}
-use Rattle.lfs_types.specs.declared.request.Request.TheVariants.{Stat, Read, Write, Create}
+use Rattle.lfs_types.specs.declared.request.Request.TheVariants.{Stat, Read, Write, List as Names, SetLength, Create, Mkdir, Unlink, Rmdir, Rename, Chmod, Chown, Chflags, SetLevel}
 use Rattle.lfs_types.specs.declared.rule.Denial.{Denial}
 use Rattle.lfs_types.specs.declared.rule.Rule.{Rule}
-use Rattle.lfs_types.specs.declared.rule.Rule.TheVariants.{IsDirectory, GrantsSearch, NameThere, NameFree, IsNoDirectory, GrantsRead, GrantsWrite, FitsFile}
+use Rattle.lfs_types.specs.declared.rule.Rule.TheVariants.{IsDirectory, GrantsSearch, NameThere, NameFree, IsNoDirectory, IsEmpty, IsNotRoot, IsNotBeneathItself, IsMutable, IsNotAppendOnly, GrantsRead, GrantsWrite, PassesSticky, IsOwner, MaySetOwner, IsSuperuser, MaySetFlags, KeepsSystemLocks, MaySetLevel, FitsFile}
 use Rattle.lfs_rules.specs.Grants.{grants_of}
-use Rattle.lfs_volume.specs.World.{Rows, child, file_at}
+use Rattle.lfs_rules.specs.Locks.{is_immutable, is_append_only, may_set_flags, keeps_system_locks}
+use Rattle.lfs_rules.specs.Owners.{is_the_superuser, is_owner_or_superuser, may_set_owner}
+use Rattle.lfs_rules.specs.Securelevel.{may_set_level}
+use Rattle.lfs_rules.specs.Sticky.{is_barred}
+use Rattle.lfs_volume.specs.World.{Rows, child, children, file_at}
 
 -- a test of a call: whether it is met, and the denial where it isn't
 pub record Check : Type 0 where
@@ -37,6 +43,10 @@ is_directory_row (Some r) = is_directory_kind r.file.kind
 abbrev pub row_grants : Caller → Bit → Option Row → Bool
 row_grants caller bit None = false
 row_grants caller bit (Some r) = grants_of caller (attrs_of r.file) bit
+
+-- the attributes of a row
+abbrev pub attrs_at : Rows → ℕ → Attrs
+attrs_at rows n = attrs_of (file_at (map.get rows n))
 
 -- the row that a name leads to from a row, and 0 where it leads nowhere
 abbrev pub next : Rows → ℕ → List ℕ → ℕ
@@ -77,17 +87,63 @@ start_of End size = size
 abbrev pub file_max : ℕ
 file_max = 71680
 
--- the tests of a call that makes a row
-abbrev pub making : Rows → Caller → List (List ℕ) → List Check
-making rows caller path =
-    let dir = reached rows root (front path) in
-    let k = length (front path) in
-    asks (not (length path == 0)) NameFree 0 0
-    ∷ walk rows caller 0 0 root (front path) ++
+-- whether a place is the end
+abbrev pub is_end : Place → Bool
+is_end (At start) = false
+is_end End = true
+
+-- the rows that names lead through from a row, the first and the last among them
+abbrev pub visited : Rows → ℕ → List (List ℕ) → List ℕ
+visited rows at [] = at ∷ []
+visited rows at (name ∷ names) = at ∷ visited rows (next rows at name) names
+
+-- where a number first stands in a list, and the list's length where it doesn't
+abbrev pub position : ℕ → List ℕ → ℕ
+position n [] = 0
+position n (m ∷ ms) = if m == n then 0 else 1 + position n ms
+
+-- the tests of a call that gives a new name to a row, in the path of this index
+abbrev pub making : Rows → Caller → ℕ → List (List ℕ) → List Check
+making rows caller path names =
+    let dir = reached rows root (front names) in
+    let k = length (front names) in
+    asks (not (length names == 0)) NameFree path 0
+    ∷ walk rows caller path 0 root (front names) ++
+    (asks (is_directory_row (map.get rows dir)) IsDirectory path k
+    ∷ asks (row_grants caller bits.Search (map.get rows dir)) GrantsSearch path k
+    ∷ asks (is_none (child rows dir (last names))) NameFree path (k + 1)
+    ∷ asks (not (is_immutable (attrs_at rows dir))) IsMutable path k
+    ∷ asks (row_grants caller bits.Write (map.get rows dir)) GrantsWrite path k
+    ∷ [])
+
+-- the tests of a call that takes away a name, up to those that a file and a directory differ in
+abbrev pub removing : Rows → Caller → List (List ℕ) → List Check
+removing rows caller names =
+    let dir = reached rows root (front names) in
+    let file = reached rows root names in
+    let k = length (front names) in
+    asks (not (length names == 0)) IsNotRoot 0 0
+    ∷ walk rows caller 0 0 root (front names) ++
     (asks (is_directory_row (map.get rows dir)) IsDirectory 0 k
     ∷ asks (row_grants caller bits.Search (map.get rows dir)) GrantsSearch 0 k
-    ∷ asks (is_none (child rows dir (last path))) NameFree 0 (k + 1)
+    ∷ asks (is_some (child rows dir (last names))) NameThere 0 (k + 1)
+    ∷ asks (not (is_immutable (attrs_at rows dir))) IsMutable 0 k
     ∷ asks (row_grants caller bits.Write (map.get rows dir)) GrantsWrite 0 k
+    ∷ asks (not (is_append_only (attrs_at rows dir))) IsNotAppendOnly 0 k
+    ∷ asks (not (is_barred caller (attrs_at rows dir) (attrs_at rows file))) PassesSticky 0 (k + 1)
+    ∷ asks (not (is_immutable (attrs_at rows file))) IsMutable 0 (k + 1)
+    ∷ asks (not (is_append_only (attrs_at rows file))) IsNotAppendOnly 0 (k + 1)
+    ∷ [])
+
+-- the tests of a call that changes a file's length or bytes, up to the length
+abbrev pub changing : Rows → Caller → List (List ℕ) → Bool → List Check
+changing rows caller path appends =
+    let file = map.get rows (reached rows root path) in
+    walk rows caller 0 0 root path ++
+    (asks (not (is_directory_row file)) IsNoDirectory 0 (length path)
+    ∷ asks (not (is_immutable (attrs_of (file_at file)))) IsMutable 0 (length path)
+    ∷ asks (row_grants caller bits.Write file) GrantsWrite 0 (length path)
+    ∷ asks (appends || not (is_append_only (attrs_of (file_at file)))) IsNotAppendOnly 0 (length path)
     ∷ [])
 
 -- the tests of each call, in order
@@ -99,14 +155,66 @@ rule_table w caller (Read path off len) =
     (asks (not (is_directory_row file)) IsNoDirectory 0 (length path)
     ∷ asks (row_grants caller bits.Read file) GrantsRead 0 (length path)
     ∷ [])
-rule_table w caller (Write path place bytes) =
-    let file = map.get w.rows (reached w.rows root path) in
+rule_table w caller (Names path) =
+    let dir = map.get w.rows (reached w.rows root path) in
     walk w.rows caller 0 0 root path ++
-    (asks (not (is_directory_row file)) IsNoDirectory 0 (length path)
-    ∷ asks (row_grants caller bits.Write file) GrantsWrite 0 (length path)
-    ∷ asks (nat_le (start_of place (length (file_at file).bytes) + length bytes) file_max) FitsFile 0 (length path)
+    (asks (is_directory_row dir) IsDirectory 0 (length path)
+    ∷ asks (row_grants caller bits.Read dir) GrantsRead 0 (length path)
     ∷ [])
-rule_table w caller (Create path mode) = making w.rows caller path
+rule_table w caller (Write path place bytes) =
+    let size = length (file_at (map.get w.rows (reached w.rows root path))).bytes in
+    changing w.rows caller path (is_end place) ++
+    (asks (nat_le (start_of place size + length bytes) file_max) FitsFile 0 (length path)
+    ∷ [])
+rule_table w caller (SetLength path len) =
+    changing w.rows caller path false ++
+    (asks (nat_le len file_max) FitsFile 0 (length path)
+    ∷ [])
+rule_table w caller (Create path mode) = making w.rows caller 0 path
+rule_table w caller (Mkdir path mode) = making w.rows caller 0 path
+rule_table w caller (Unlink path) =
+    removing w.rows caller path ++
+    (asks (not (is_directory_row (map.get w.rows (reached w.rows root path)))) IsNoDirectory 0 (length path)
+    ∷ [])
+rule_table w caller (Rmdir path) =
+    let dir = reached w.rows root path in
+    removing w.rows caller path ++
+    (asks (is_directory_row (map.get w.rows dir)) IsDirectory 0 (length path)
+    ∷ asks (length (children w.rows dir) == 0) IsEmpty 0 (length path)
+    ∷ [])
+rule_table w caller (Rename from to) =
+    let moved = reached w.rows root from in
+    let way = visited w.rows root (front to) in
+    let stays = reached w.rows root (front from) == reached w.rows root (front to) in
+    removing w.rows caller from ++ (making w.rows caller 1 to ++
+    (asks (not (list_any (λ n. n == moved) way)) IsNotBeneathItself 1 (position moved way)
+    ∷ asks (not (is_directory_row (map.get w.rows moved)) || stays || row_grants caller bits.Write (map.get w.rows moved)) GrantsWrite 0 (length from)
+    ∷ []))
+rule_table w caller (Chmod path mode) =
+    let attrs = attrs_at w.rows (reached w.rows root path) in
+    walk w.rows caller 0 0 root path ++
+    (asks (not (is_immutable attrs)) IsMutable 0 (length path)
+    ∷ asks (not (is_append_only attrs)) IsNotAppendOnly 0 (length path)
+    ∷ asks (is_owner_or_superuser caller attrs) IsOwner 0 (length path)
+    ∷ [])
+rule_table w caller (Chown path uid gid) =
+    let attrs = attrs_at w.rows (reached w.rows root path) in
+    walk w.rows caller 0 0 root path ++
+    (asks (not (is_immutable attrs)) IsMutable 0 (length path)
+    ∷ asks (not (is_append_only attrs)) IsNotAppendOnly 0 (length path)
+    ∷ asks (may_set_owner caller attrs uid gid) MaySetOwner 0 (length path)
+    ∷ [])
+rule_table w caller (Chflags path flags) =
+    let attrs = attrs_at w.rows (reached w.rows root path) in
+    walk w.rows caller 0 0 root path ++
+    (asks (is_owner_or_superuser caller attrs) IsOwner 0 (length path)
+    ∷ asks (may_set_flags caller attrs.flags flags) MaySetFlags 0 (length path)
+    ∷ asks (keeps_system_locks w.level attrs.flags flags) KeepsSystemLocks 0 (length path)
+    ∷ [])
+rule_table w caller (SetLevel level) =
+    asks (is_the_superuser caller) IsSuperuser 0 0
+    ∷ asks (may_set_level caller w.level level) MaySetLevel 0 0
+    ∷ []
 
 -- the denial of a call, or None where the rules allow it
 abbrev pub decide : World → Caller → Request → Option Denial

@@ -9,7 +9,7 @@ use Rattle.lfs_types.specs.declared.answer.Answer.TheVariants.{Served, Denied, R
 use Rattle.lfs_types.specs.declared.answer.Resource.{Resource}
 use Rattle.lfs_types.specs.declared.answer.Resource.TheVariants.{NoMemory, NoSpace, NoInodes, DirectoryFull, JournalFull}
 use Rattle.lfs_types.specs.declared.request.Request.{Request}
-use Rattle.lfs_types.specs.declared.request.Request.TheVariants.{Stat, Read, Write, Create}
+use Rattle.lfs_types.specs.declared.request.Request.TheVariants.{Stat, Read, Write, List as Names, SetLength, Create, Mkdir, Unlink, Rmdir, Rename, Chmod, Chown, Chflags, SetLevel}
 use Rattle.lfs_volume.specs.declared.journal.Entry.{Entry}
 use Rattle.lfs_volume.specs.declared.journal.Event.{Event}
 use Rattle.lfs_volume.specs.declared.journal.Event.TheVariants.{User}
@@ -26,22 +26,52 @@ AllUsed numbers rows = (n : ℕ) → 4 ≤ n → n < numbers → IsSome (map.get
 abbrev pub LacksInodes : ℕ → World → Request → Type 0
 LacksInodes numbers w (Stat path) = ⊥
 LacksInodes numbers w (Read path off len) = ⊥
+LacksInodes numbers w (Names path) = ⊥
 LacksInodes numbers w (Write path place bytes) = ⊥
+LacksInodes numbers w (SetLength path len) = ⊥
 LacksInodes numbers w (Create path mode) = AllUsed numbers w.rows
+LacksInodes numbers w (Mkdir path mode) = AllUsed numbers w.rows
+LacksInodes numbers w (Unlink path) = ⊥
+LacksInodes numbers w (Rmdir path) = ⊥
+LacksInodes numbers w (Rename from to) = ⊥
+LacksInodes numbers w (Chmod path mode) = ⊥
+LacksInodes numbers w (Chown path uid gid) = ⊥
+LacksInodes numbers w (Chflags path flags) = ⊥
+LacksInodes numbers w (SetLevel level) = ⊥
 
 -- the call wants a new name in a directory that has at least 140
 abbrev pub IsCrowded : World → Request → Type 0
 IsCrowded w (Stat path) = ⊥
 IsCrowded w (Read path off len) = ⊥
+IsCrowded w (Names path) = ⊥
 IsCrowded w (Write path place bytes) = ⊥
+IsCrowded w (SetLength path len) = ⊥
 IsCrowded w (Create path mode) = 140 ≤ length (children w.rows (reached w.rows root (front path)))
+IsCrowded w (Mkdir path mode) = 140 ≤ length (children w.rows (reached w.rows root (front path)))
+IsCrowded w (Unlink path) = ⊥
+IsCrowded w (Rmdir path) = ⊥
+IsCrowded w (Rename from to) = 140 ≤ length (children w.rows (reached w.rows root (front to)))
+IsCrowded w (Chmod path mode) = ⊥
+IsCrowded w (Chown path uid gid) = ⊥
+IsCrowded w (Chflags path flags) = ⊥
+IsCrowded w (SetLevel level) = ⊥
 
 -- the call may change files
 abbrev pub IsChanging : Request → Type 0
 IsChanging (Stat path) = ⊥
 IsChanging (Read path off len) = ⊥
+IsChanging (Names path) = ⊥
 IsChanging (Write path place bytes) = Unit {0}
+IsChanging (SetLength path len) = Unit {0}
 IsChanging (Create path mode) = Unit {0}
+IsChanging (Mkdir path mode) = Unit {0}
+IsChanging (Unlink path) = Unit {0}
+IsChanging (Rmdir path) = Unit {0}
+IsChanging (Rename from to) = Unit {0}
+IsChanging (Chmod path mode) = Unit {0}
+IsChanging (Chown path uid gid) = Unit {0}
+IsChanging (Chflags path flags) = Unit {0}
+IsChanging (SetLevel level) = ⊥
 
 -- a call may be refused for a resource, with an entry in the journal
 abbrev pub MayLack : ℕ → World → Request → Resource → Type 0

@@ -54,6 +54,11 @@ pub record IsTree (rows : Rows) : Type 0 where
   pub reached : (n : ℕ) (r : Row) → map.get rows n ≡ Some r → (k : ℕ) × (ancestor rows k n ≡ root)
   pub empty : (n : ℕ) (r : Row) → map.get rows n ≡ Some r → r.file.kind ≡ Directory → r.file.bytes ≡ []
 
+-- the name of a row, and none where there is no row
+abbrev pub name_of : Option Row → List ℕ
+name_of None = []
+name_of (Some r) = r.name
+
 -- the file of a row, and the root's where there is no row
 abbrev pub file_at : Option Row → File
 file_at None = fresh_root

@@ -5,7 +5,7 @@ ghost use Rattle.std.specs.FinMap as map;
 ghost use Rattle.std.specs.Vec.{vec_len};
 ghost use Rattle.lfs_types.specs.Changes.{CanChange, CanChangeAll, changed, changed_at, applied};
 ghost use Rattle.lfs_types.specs.Tree.{opening_content, attrs_of, fresh_root, file_of};
-ghost use Rattle.lfs_volume.specs.FlatFiles.{content_of, file_in, room_in, end_of, with_attrs, with_bytes, IsInReach, HasRoom, Grows};
+ghost use Rattle.lfs_volume.specs.FlatFiles.{content_of, file_in, room_in, end_of, with_attrs, with_bytes, with_length, IsInReach, HasRoom, Grows};
 
 mod place;
 #[cfg(test)]
@@ -94,8 +94,9 @@ impl FlatFiles {
         ensures room { OnOk result (HasRoom self.new.places.items change.now) }
     {
         match *change {
-            Change::Make { .. } | Change::SetAttrs { .. } => Ok(()),
+            Change::Make { .. } | Change::Remove { .. } | Change::SetAttrs { .. } => Ok(()),
             Change::Put { ino, off, bytes } => self.make_room_at(ino as usize, end_of(off, bytes)),
+            Change::SetLength { ino, len } => self.make_room_at(ino as usize, len as usize),
         }
     }
 
@@ -132,8 +133,10 @@ impl FlatFiles {
     {
         match *change {
             Change::Make { ino, attrs } => self.make(ino as usize, attrs),
+            Change::Remove { ino } => self.remove(ino as usize),
             Change::SetAttrs { ino, attrs } => self.set_attrs(ino as usize, attrs),
             Change::Put { ino, off, bytes } => self.put(ino as usize, off, bytes),
+            Change::SetLength { ino, len } => self.set_length(ino as usize, len as usize),
         }
     }
 
@@ -150,6 +153,34 @@ impl FlatFiles {
         if ino == self.least_free {
             self.least_free = first_free(self.places.as_slice(), ino + 1);
         }
+    }
+
+    /// Takes away the file of a number, which becomes free.
+    fn remove(&mut self, ino: usize)
+        requires within { ino < vec_len self.old.places }
+        requires used { IsSome (file_in self.old.places.items ino) }
+        ensures content { content_of self.new.places.items ≡ map.remove (content_of self.old.places.items) ino }
+        ensures numbers { vec_len self.new.places ≡ vec_len self.old.places }
+        ensures grows { Grows self.old.places.items self.new.places.items }
+    {
+        self.places[ino].remove();
+        if ino >= FIRST_FILE {
+            self.least_free = self.least_free.min(ino);
+        }
+    }
+
+    /// Gives the file of a number so many bytes, for which there is room.
+    fn set_length(&mut self, ino: usize, len: usize)
+        requires within { ino < vec_len self.old.places }
+        requires used { IsSome (file_in self.old.places.items ino) }
+        requires reach { len ≤ 71680 }
+        requires room { len ≤ room_in self.old.places.items ino }
+        ensures content { let old = content_of self.old.places.items in
+            content_of self.new.places.items ≡ changed_at (map.get old ino) ino (with_length len) old }
+        ensures numbers { vec_len self.new.places ≡ vec_len self.old.places }
+        ensures grows { Grows self.old.places.items self.new.places.items }
+    {
+        self.places[ino].set_length(len);
     }
 
     /// Gives the file of a number these attributes.

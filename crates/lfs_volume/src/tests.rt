@@ -12,8 +12,9 @@ use lfs_types::cred::Cred;
 use lfs_types::file_flags::FileFlags;
 use lfs_types::level::Level;
 use lfs_types::mode::Mode;
+use lfs_types::name::clone_names;
 use lfs_types::path::Path;
-use lfs_types::payload::{Bytes, Payload};
+use lfs_types::payload::{Bytes, Names, Payload};
 use lfs_types::request::{Place, Request};
 use lfs_types::rule::{Denial, Rule};
 use std::alloc::Global;
@@ -66,16 +67,28 @@ fn denied(rule: Rule, at: u32) -> Answer {
     Answer::Denied(Denial { rule, path: 0, at })
 }
 
+/// The superuser makes `/a` and writes it.
+fn owners_calls(alloc: Global) -> Result<Vec<Call>, Fail> {
+    Ok(vec![in alloc;
+        call(0, create(alloc, "/a", 0o644)?)?,
+        call(0, write(alloc, "/a", Place::At(0), b"abc")?)?,
+    ]?)
+}
+
+/// User 5 reads `/a` and would write it.
+fn strangers_calls(alloc: Global) -> Result<Vec<Call>, Fail> {
+    Ok(vec![in alloc;
+        call(5, read(alloc, "/a", 0, 10)?)?,
+        call(5, write(alloc, "/a", Place::At(0), b"d")?)?,
+    ]?)
+}
+
 #[test]
 fn owner_writes_and_stranger_only_reads(rt: HostRuntime) -> Result<(), Fail> {
     let alloc = rt.alloc();
     let mut volume = volume(alloc, 64, 4)?;
-    let calls = vec![in alloc;
-        call(0, create(alloc, "/a", 0o644)?)?,
-        call(0, write(alloc, "/a", Place::At(0), b"abc")?)?,
-        call(5, read(alloc, "/a", 0, 10)?)?,
-        call(5, write(alloc, "/a", Place::At(0), b"d")?)?,
-    ]?;
+    let mut calls = owners_calls(alloc)?;
+    calls.append(&mut strangers_calls(alloc)?)?;
     let answers = volume.run(calls)?;
     let expected = [
         Answer::Served(Served::Done),
@@ -97,6 +110,23 @@ fn owner_writes_and_stranger_only_reads(rt: HostRuntime) -> Result<(), Fail> {
     assert_eq!(rt; volume.journal_limit(), 4);
     assert_eq!(rt; volume.level(), Level::Insecure);
     assert_eq!(rt; volume.clean_segments(), 1024);
+    Ok(())
+}
+
+#[test]
+fn names_are_listed_in_byte_order(rt: HostRuntime) -> Result<(), Fail> {
+    let alloc = rt.alloc();
+    let mut volume = volume(alloc, 16, 8)?;
+    let cred = Cred::new(0, &[0], false)?;
+    for path in ["/b", "/a.", "/B", "/a"] {
+        let made = volume.call(0, &cred, create(alloc, path, 0o644)?);
+        assert_eq!(rt; made, Answer::Served(Served::Done));
+    }
+    let path = Path::parse(alloc, "/")?;
+    let listed = volume.call(0, &cred, Request::List { path });
+    let names = Path::parse(alloc, "/B/a/a./b")?;
+    let names = Names::from(clone_names(alloc, names.names())?);
+    assert_eq!(rt; listed, Answer::Served(Served::Names(names)));
     Ok(())
 }
 

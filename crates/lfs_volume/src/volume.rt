@@ -1,20 +1,28 @@
 //! A volume: a file store under the rules, and the journal of what was answered.
 
-ghost use Rattle.std.specs.Prelude.{◌≡◌, ◌↔◌, ◌≤◌, ◌<◌, [], ◌∷◌, ◌++◌, length, IfOk, IfErr};
-ghost use Rattle.lfs_types.specs.Tree.{World, opening_content};
+ghost use Rattle.std.specs.Prelude.{◌≡◌, ℕ, Bool, ◌↔◌, ◌≤◌, ◌<◌, [], ◌∷◌, ◌++◌, length, IfOk, IfErr};
+ghost use Rattle.lfs_types.specs.Shown.{ServesList};
+ghost use Rattle.lfs_types.specs.Tree.{Content, World, opening_content};
 ghost use Rattle.lfs_types.specs.declared.level.Level.TheVariants.{Insecure};
 ghost use Rattle.lfs_volume.specs.World.{IsTree};
 ghost use Rattle.lfs_volume.specs.Content.{Shows};
-ghost use Rattle.lfs_volume.specs.Copies.{HasBytes, is_lack_of_memory};
+ghost use Rattle.lfs_volume.specs.Copies.{is_lack_of_memory};
 ghost use Rattle.lfs_volume.specs.Outcomes.{IsOutcome};
 ghost use Rattle.lfs_volume.specs.Runs.{AreAnswers, IsUnserved, kept, kept_entry};
 ghost use Rattle.lfs_volume.specs.Steps.{IsJournal, after_answer, world_of};
 
-use crate::journal::{Call, Entry, Event, copied};
-use crate::making::create;
+use crate::attributes::{chflags, chmod, chown};
+use crate::cutting::set_length;
+use crate::journal::{Call, Entry, Event};
+use crate::listing::list;
+use crate::making::{create, mkdir};
 use crate::reading::{read, stat};
+use crate::removing::{rmdir, unlink};
+use crate::renaming::rename;
+use crate::walking::denied;
 use crate::writing::write;
-use lfs_types::answer::{Answer, Resource};
+use lfs_rules::level::level_change;
+use lfs_types::answer::{Answer, Resource, Served};
 use lfs_types::cred::Cred;
 use lfs_types::level::Level;
 use lfs_types::request::Request;
@@ -69,7 +77,7 @@ impl<F: FileStore + Drop> Volume<F> {
         ensures entered { self.new.journal ≡ self.old.journal ++ kept_entry session cred.now request result }
         ensures legal { IsJournal (F.content self.new.store) (F.numbers self.new.store) (F.clean self.new.store) self.new.level self.new.journal self.new.limit }
         ensures same { IsUnserved result → F.content self.new.store ≡ F.content self.old.store }
-        ensures level { self.new.level ≡ self.old.level }
+        ensures level { IsUnserved result → self.new.level ≡ self.old.level }
         ensures limit { self.new.limit ≡ self.old.limit }
         ensures clean { F.clean self.new.store ≤ F.clean self.old.store }
         ensures numbers { F.numbers self.new.store ≡ F.numbers self.old.store }
@@ -79,12 +87,13 @@ impl<F: FileStore + Drop> Volume<F> {
             return Answer::Refused(Resource::JournalFull);
         }
         let alloc = *self.journal.allocator();
-        let answer = answer(alloc, &mut self.store, cred, &request);
+        let answer = answer(alloc, &mut self.store, &mut self.level, cred, &request);
         if lacks_memory(&answer) {
             return answer;
         }
-        let Some(copy) = copied(alloc, &answer) else {
-            return Answer::Refused(Resource::NoMemory);
+        let copy = match answer.try_clone(alloc) {
+            Ok(copy) => copy,
+            Err(AllocError) => return Answer::Refused(Resource::NoMemory),
         };
         let entry = Entry {
             session,
@@ -103,7 +112,6 @@ impl<F: FileStore + Drop> Volume<F> {
         ensures entered { IfOk result (λ answers. self.new.journal ≡ self.old.journal ++ kept calls.items answers.items) }
         ensures legal { IsJournal (F.content self.new.store) (F.numbers self.new.store) (F.clean self.new.store) self.new.level self.new.journal self.new.limit }
         ensures refused { IfErr result (λ _. self.new ≡ self.old) }
-        ensures level { self.new.level ≡ self.old.level }
         ensures limit { self.new.limit ≡ self.old.limit }
         ensures clean { F.clean self.new.store ≤ F.clean self.old.store }
         ensures numbers { F.numbers self.new.store ≡ F.numbers self.old.store }
@@ -168,14 +176,37 @@ fn lacks_memory(answer: &Answer) -> bool
     matches!(answer, Answer::Refused(Resource::NoMemory))
 }
 
-/// The answer to a call by the rules, and its effect on the store.
-fn answer<F: FileStore>(alloc: Global, store: &mut F, cred: &Cred, request: &Request) -> Answer
+/// Sets the securelevel, where the rules allow it.
+fn set_level(level: &mut Level, cred: &Cred, new: Level) -> Answer
+    ensures outcome { (numbers clean : ℕ) (can_lack : Bool) (c : Content) (w : World) → w.level ≡ level.old → IsOutcome numbers clean can_lack c w cred.now (Request.SetLevel new) result }
+    ensures no_list { ServesList result → ⊥ }
+    ensures served { (numbers : ℕ) (w : World) → w.level ≡ level.old → (after_answer numbers w cred.now (Request.SetLevel new) result).level ≡ level.new }
+    ensures same { IsUnserved result → level.new ≡ level.old }
+{
+    if let Some(rule) = level_change(cred, *level, new) {
+        return denied(rule, 0, 0);
+    }
+    *level = new;
+    Answer::Served(Served::Done)
+}
+
+/// The answer to a call by the rules, and its effect on the store and the securelevel.
+fn answer<F: FileStore>(
+    alloc: Global,
+    store: &mut F,
+    level: &mut Level,
+    cred: &Cred,
+    request: &Request,
+) -> Answer
     requires tree { (w : World) × (Shows (F.content store.old) w × IsTree w.rows) }
-    ensures outcome { (w : World) → Shows (F.content store.old) w → IsTree w.rows → IsOutcome (F.numbers store.old) (F.clean store.old) F.can_lack_memory (F.content store.old) w cred.now request.now result }
+    ensures outcome { (w : World) → Shows (F.content store.old) w → IsTree w.rows → w.level ≡ level.old → IsOutcome (F.numbers store.old) (F.clean store.old) F.can_lack_memory (F.content store.old) w cred.now request.now result }
     ensures shows { (w : World) → Shows (F.content store.old) w → IsTree w.rows → Shows (F.content store.new) (after_answer (F.numbers store.old) w cred.now request.now result) }
     ensures tree_after { (w : World) → Shows (F.content store.old) w → IsTree w.rows → IsTree (after_answer (F.numbers store.old) w cred.now request.now result).rows }
+    ensures level_after { (w : World) → w.level ≡ level.old → (after_answer (F.numbers store.old) w cred.now request.now result).level ≡ level.new }
     ensures same { IsUnserved result → F.content store.new ≡ F.content store.old }
-    ensures reads { HasBytes result → F.content store.new ≡ F.content store.old }
+    ensures same_level { IsUnserved result → level.new ≡ level.old }
+    ensures reads { ServesList result → F.content store.new ≡ F.content store.old }
+    ensures reads_level { ServesList result → level.new ≡ level.old }
     ensures clean { F.clean store.new ≤ F.clean store.old }
     ensures numbers { F.numbers store.new ≡ F.numbers store.old }
     ensures segments { F.segments store.new ≡ F.segments store.old }
@@ -183,7 +214,17 @@ fn answer<F: FileStore>(alloc: Global, store: &mut F, cred: &Cred, request: &Req
     match request {
         Request::Stat { path } => stat(store, cred, path),
         Request::Read { path, off, len } => read(alloc, store, cred, path, *off, *len),
+        Request::List { path } => list(alloc, store, cred, path),
         Request::Write { path, place, bytes } => write(store, cred, path, *place, bytes),
+        Request::SetLength { path, len } => set_length(store, cred, path, *len),
         Request::Create { path, mode } => create(store, cred, path, *mode),
+        Request::Mkdir { path, mode } => mkdir(store, cred, path, *mode),
+        Request::Unlink { path } => unlink(store, cred, path),
+        Request::Rmdir { path } => rmdir(store, cred, path),
+        Request::Rename { from, to } => rename(store, cred, from, to),
+        Request::Chmod { path, mode } => chmod(store, cred, path, *mode),
+        Request::Chown { path, uid, gid } => chown(store, cred, path, *uid, *gid),
+        Request::Chflags { path, flags } => chflags(store, cred, path, *level, *flags),
+        Request::SetLevel { level: new } => set_level(level, cred, *new),
     }
 }

@@ -20,7 +20,7 @@ use lfs_types::store::FileStore;
 pub(crate) const ROOT: u32 = 2;
 
 /// One step of a walk: from the row at component `at` to a name, or the first rule that fails.
-fn step<F: FileStore>(
+pub(crate) fn step<F: FileStore>(
     store: &mut F,
     cred: &Cred,
     path: u8,
@@ -122,9 +122,16 @@ pub(crate) fn component(names: &[Name]) -> u32
     names.len() as u32
 }
 
+/// A rule that fails at a component of the path of this index.
+pub(crate) fn denial(rule: Rule, path: u8, at: u32) -> Denial
+    ensures { result ≡ record { rule = rule; path = path; at = at } }
+{
+    Denial { rule, path, at }
+}
+
 /// The answer that denies a call by a rule.
 pub(crate) fn denied(rule: Rule, path: u8, at: u32) -> Answer
     ensures { result ≡ Answer.Denied (record { rule = rule; path = path; at = at }) }
 {
-    Answer::Denied(Denial { rule, path, at })
+    Answer::Denied(denial(rule, path, at))
 }

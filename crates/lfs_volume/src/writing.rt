@@ -3,22 +3,25 @@
 ghost use Rattle.std.specs.Prelude.{◌≡◌, ◌≤◌, ◌+◌, ◌<◌, IsSome, Some, IfErr, OnOk, OnErr, false, nat_le, length};
 ghost use Rattle.std.specs.FinMap.{get};
 ghost use Rattle.lfs_types.specs.Kinds.{is_directory_kind};
+ghost use Rattle.lfs_types.specs.Shown.{ServesList};
+ghost use Rattle.lfs_types.specs.Splicing.{splice};
 ghost use Rattle.lfs_types.specs.Stored.{shown_attrs, MayRefuse};
 ghost use Rattle.lfs_types.specs.Tree.{World};
 ghost use Rattle.lfs_volume.specs.World.{IsTree};
-ghost use Rattle.lfs_volume.specs.Rules.{start_of};
+ghost use Rattle.lfs_volume.specs.Rules.{start_of, is_end};
 ghost use Rattle.lfs_volume.specs.Content.{Shows};
-ghost use Rattle.lfs_volume.specs.Copies.{HasBytes};
 ghost use Rattle.lfs_volume.specs.Outcomes.{IsOutcome};
 ghost use Rattle.lfs_volume.specs.Runs.{IsUnserved};
 ghost use Rattle.lfs_volume.specs.Steps.{after_answer};
-ghost use Rattle.lfs_volume.specs.Writes.{JudgesWrite, WritesFile, resource_of};
+ghost use Rattle.lfs_volume.specs.Writes.{ChangesBytes, JudgesChanging, JudgesWrite, change_denial, resource_of};
 
-use crate::walking::{component, reach};
+use crate::walking::{Reached, component, denial, reach};
 use lfs_rules::access::{clear_set_id, grants};
+use lfs_rules::flags::{append_only, immutable};
 use lfs_types::answer::{Answer, Resource, Served};
 use lfs_types::attrs::{Attrs, Bit};
 use lfs_types::cred::Cred;
+use lfs_types::name::Name;
 use lfs_types::path::Path;
 use lfs_types::payload::Payload;
 use lfs_types::request::{Place, Request};
@@ -52,7 +55,7 @@ pub(crate) fn write<F: FileStore>(
     ensures shows { (w : World) → Shows (F.content store.old) w → IsTree w.rows → Shows (F.content store.new) (after_answer (F.numbers store.old) w cred.now (Request.Write path.now place bytes.now) result) }
     ensures tree_after { (w : World) → Shows (F.content store.old) w → IsTree w.rows → IsTree (after_answer (F.numbers store.old) w cred.now (Request.Write path.now place bytes.now) result).rows }
     ensures same { IsUnserved result → F.content store.new ≡ F.content store.old }
-    ensures no_bytes { HasBytes result → ⊥ }
+    ensures no_list { ServesList result → ⊥ }
     ensures clean { F.clean store.new ≤ F.clean store.old }
     ensures numbers { F.numbers store.new ≡ F.numbers store.old }
     ensures segments { F.segments store.new ≡ F.segments store.old }
@@ -87,35 +90,69 @@ fn judge_write<F: FileStore>(
     ensures segments { F.segments store.new ≡ F.segments store.old }
 {
     let names = path.names();
-    let at = component(names);
-    let found = reach(store, cred, 0, names)?;
-    if found.attrs.kind.is_directory() {
-        return Err(Denial {
-            rule: Rule::IsNoDirectory,
-            path: 0,
-            at,
-        });
-    }
-    if !grants(&found.attrs, cred, Bit::Write) {
-        return Err(Denial {
-            rule: Rule::GrantsWrite,
-            path: 0,
-            at,
-        });
-    }
+    let found = judge_change(store, cred, names, is_end(place))?;
     let start = start_in(place, found.attrs.size);
     if !fits_file(start, bytes.len()) {
-        return Err(Denial {
-            rule: Rule::FitsFile,
-            path: 0,
-            at,
-        });
+        return Err(denial(Rule::FitsFile, 0, component(names)));
     }
     Ok(Target {
         number: found.number,
         attrs: found.attrs,
         start,
     })
+}
+
+/// The file that names lead to, if a caller may change its bytes or its length, or the first rule that fails; some
+/// changes only add bytes at its end.
+pub(crate) fn judge_change<F: FileStore>(
+    store: &mut F,
+    cred: &Cred,
+    names: &[Name],
+    appends: bool,
+) -> Result<Reached, Denial>
+    requires tree { (w : World) × (Shows (F.content store.old) w × IsTree w.rows) }
+    requires short { length names.now ≤ 1024 }
+    ensures judge { (w : World) → Shows (F.content store.old) w → IsTree w.rows → JudgesChanging (F.content store.old) w cred.now names.now appends result }
+    ensures content { F.content store.new ≡ F.content store.old }
+    ensures clean { F.clean store.new ≡ F.clean store.old }
+    ensures numbers { F.numbers store.new ≡ F.numbers store.old }
+    ensures segments { F.segments store.new ≡ F.segments store.old }
+{
+    let found = reach(store, cred, 0, names)?;
+    match change_denial(&found.attrs, cred, appends) {
+        Some(rule) => Err(denial(rule, 0, component(names))),
+        None => Ok(found),
+    }
+}
+
+/// The first rule, if there is one, that keeps a caller from changing the bytes or the length of a file; some changes
+/// only add bytes at its end.
+fn change_denial(attrs: &Attrs, cred: &Cred, appends: bool) -> Option<Rule>
+    ensures { result ≡ change_denial cred.now attrs.now appends }
+{
+    if attrs.kind.is_directory() {
+        return Some(Rule::IsNoDirectory);
+    }
+    if immutable(attrs) {
+        return Some(Rule::IsMutable);
+    }
+    if !grants(attrs, cred, Bit::Write) {
+        return Some(Rule::GrantsWrite);
+    }
+    if !appends && append_only(attrs) {
+        return Some(Rule::IsNotAppendOnly);
+    }
+    None
+}
+
+/// Whether bytes go to the end of a file.
+fn is_end(place: Place) -> bool
+    ensures { result ≡ is_end place }
+{
+    match place {
+        Place::At(_) => false,
+        Place::End => true,
+    }
 }
 
 /// Where bytes that are put at a place begin in a file of this size.
@@ -148,7 +185,7 @@ fn put<F: FileStore>(
     requires few { length bytes.now ≤ 4096 }
     requires fits { target.now.start + length bytes.now ≤ 71680 }
     requires size { target.now.attrs.size ≤ 71680 }
-    ensures ok { OnOk result (WritesFile (F.content store.old) (F.content store.new) target.now.number cred.now target.now.start bytes.now) }
+    ensures ok { OnOk result (ChangesBytes (F.content store.old) (F.content store.new) target.now.number cred.now (λ old. splice old target.now.start bytes.now)) }
     ensures err { OnErr result (F.content store.new ≡ F.content store.old) }
     ensures refused { IfErr result (MayRefuse (F.clean store.old) F.can_lack_memory) }
     ensures clean { F.clean store.new ≤ F.clean store.old }

@@ -5,7 +5,7 @@ ghost use Rattle.std.specs.Vec.{vec_capacity, vec_len};
 ghost use Rattle.lfs_types.specs.Tree.{attrs_of, file_of};
 ghost use Rattle.lfs_types.specs.Splicing.{splice};
 ghost use Rattle.lfs_types.specs.Stored.{Reads, slice_of};
-ghost use Rattle.lfs_volume.specs.FlatFiles.{file_at, end_of, with_attrs, with_bytes};
+ghost use Rattle.lfs_volume.specs.FlatFiles.{file_at, end_of, with_attrs, with_bytes, with_length};
 
 use lfs_types::attrs::Attrs;
 use std::alloc::{AllocError, Global};
@@ -78,6 +78,14 @@ impl Place {
         self.bytes.clear();
     }
 
+    /// Takes the file away, if there is one. Its memory stays, as room.
+    pub fn remove(&mut self)
+        ensures file { file_at self.new ≡ None }
+        ensures grows { vec_capacity self.old.bytes ≤ vec_capacity self.new.bytes }
+    {
+        self.attrs = None;
+    }
+
     /// Gives the file these attributes. Its bytes stay.
     pub fn set_attrs(&mut self, attrs: Attrs)
         requires { IsSome (file_at self.old) }
@@ -95,6 +103,16 @@ impl Place {
         ensures grows { vec_capacity self.old.bytes ≤ vec_capacity self.new.bytes }
     {
         splice(&mut self.bytes, off, bytes);
+    }
+
+    /// Cuts the file to this length, or adds zeros up to it, where there is room for them.
+    pub fn set_length(&mut self, len: usize)
+        requires { len ≤ vec_capacity self.old.bytes }
+        ensures file { file_at self.new ≡ option_map (with_length len) (file_at self.old) }
+        ensures grows { vec_capacity self.old.bytes ≤ vec_capacity self.new.bytes }
+    {
+        self.bytes.truncate(len);
+        fill_up(&mut self.bytes, len);
     }
 }
 

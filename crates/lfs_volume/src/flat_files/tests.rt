@@ -108,3 +108,62 @@ fn knows_the_least_free_number(rt: HostRuntime) -> Result<(), Fail> {
     assert_eq!(rt; store.least_free(), Some(6));
     Ok(())
 }
+
+#[test]
+fn shows_zeros_where_a_file_was_cut(rt: HostRuntime) -> Result<(), Fail> {
+    let mut store = FlatFiles::new(rt.alloc(), 16)?;
+    let made = attrs_of(0o600)?;
+    let cut = [
+        Change::Make {
+            ino: 4,
+            attrs: made,
+        },
+        Change::Put {
+            ino: 4,
+            off: 0,
+            bytes: b"abcd",
+        },
+        Change::SetLength { ino: 4, len: 1 },
+    ];
+    store.apply(&cut)?;
+    let shown = attrs_of(0o600)?;
+    assert_eq!(rt; store.attrs(4), Some(Attrs { size: 1, ..shown }));
+    let mut bytes = [9; 5];
+    assert_eq!(rt; store.read(4, 0, &mut bytes), 1);
+    assert_eq!(rt; bytes, [b'a', 9, 9, 9, 9]);
+    store.apply(&[Change::SetLength { ino: 4, len: 4 }])?;
+    assert_eq!(rt; store.attrs(4), Some(Attrs { size: 4, ..shown }));
+    assert_eq!(rt; store.read(4, 0, &mut bytes), 4);
+    assert_eq!(rt; bytes, [b'a', 0, 0, 0, 9]);
+    Ok(())
+}
+
+#[test]
+fn gives_out_a_removed_number(rt: HostRuntime) -> Result<(), Fail> {
+    let mut store = FlatFiles::new(rt.alloc(), 16)?;
+    let made = attrs_of(0o600)?;
+    let first = [
+        Change::Make {
+            ino: 4,
+            attrs: made,
+        },
+        Change::Put {
+            ino: 4,
+            off: 0,
+            bytes: b"abc",
+        },
+    ];
+    store.apply(&first)?;
+    assert_eq!(rt; store.least_free(), Some(5));
+    store.apply(&[Change::Remove { ino: 4 }])?;
+    assert_eq!(rt; store.attrs(4), None);
+    assert_eq!(rt; store.least_free(), Some(4));
+    let second = [Change::Make {
+        ino: 4,
+        attrs: attrs_of(0o644)?,
+    }];
+    store.apply(&second)?;
+    assert_eq!(rt; store.least_free(), Some(5));
+    assert_eq!(rt; store.read(4, 0, &mut [9; 3]), 0);
+    Ok(())
+}

@@ -3,25 +3,31 @@ use Rattle.lfs_types.specs.Stored.{bytes_of}
 use Rattle.lfs_dirs.specs.Directory.{number_in, IsDirectoryBlock}
 use Rattle.lfs_dirs.specs.Reading.{entries_of}
 use Rattle.lfs_volume.specs.Content.{block_at}
+use Rattle.lfs_volume.specs.Makes.{with_block}
 use Rattle.lfs_volume.proofs.Listings.{absent_in_block, none_at_end}
+use Rattle.lfs_volume.proofs.WithBlock.{length-with_block}
 use Rattle.lfs_volume.proofs.making.find_room.Goals as goal
 
 pub added-requires-clause-new_name : goal.added-requires-clause-new_name
 added-requires-clause-new_name g c =
-    let bytes = bytes_of (g.F.FileStore.content c.args.store.now) c.args.dir in
-    let block : c.read_block-block.result ≡ block_at bytes c.loop-k.k = c.read_block-block.ensures.block ∙ ap (λ x. block_at (bytes_of x c.args.dir) c.loop-k.k) c.loop-k.invariant.content in
-    let within : c.loop-k.k < length bytes / 512 = subst (λ n. c.loop-k.k < n / 512) c.requires.size c.loop-k-test.true in
+    let stored = bytes_of (g.F.FileStore.content c.args.store.now) c.args.dir in
+    let bytes = with_block stored c.args.taken in
+    let size : length bytes ≡ c.args.size = length-with_block stored c.args.taken c.args.size c.requires.taken c.requires.size c.requires.whole in
+    let block : c.seen_block-block.result ≡ block_at bytes c.loop-k.k = c.seen_block-block.ensures.block ∙ ap (λ x. block_at (with_block (bytes_of x c.args.dir) c.args.taken) c.loop-k.k) c.loop-k.invariant.content in
+    let within : c.loop-k.k < length bytes / 512 = subst (λ n. c.loop-k.k < n / 512) (sym size) c.loop-k-test.true in
     ap (λ b. number_in c.args.name.now (entries_of b)) block ∙ absent_in_block c.args.name.now bytes c.loop-k.k within c.requires.free
 
 pub returns-clause-room : goal.returns-clause-room
 returns-clause-room g c =
-    let bytes = bytes_of (g.F.FileStore.content c.args.store.now) c.args.dir in
-    let whole : length bytes % 512 ≡ 0 = ap (λ n. n % 512) (sym c.requires.size) ∙ c.requires.whole in (
+    let stored = bytes_of (g.F.FileStore.content c.args.store.now) c.args.dir in
+    let bytes = with_block stored c.args.taken in
+    let size : length bytes ≡ c.args.size = length-with_block stored c.args.taken c.args.size c.requires.taken c.requires.size c.requires.whole in
+    let whole : length bytes % 512 ≡ 0 = ap (λ n. n % 512) size ∙ c.requires.whole in (
       length bytes / 512,
       record {
-        off = omega (arith, c.requires.size);
+        off = omega (arith, size, whole);
         within = omega arith;
-        fits = let apart = c.if-size-eq-FILE_MAX.false in omega (arith, c.requires.size, c.requires.bounded, c.requires.whole);
+        fits = let apart = c.if-size-eq-FILE_MAX.false in omega (arith, size, c.requires.bounded, c.requires.whole);
         block = subst (IsDirectoryBlock c.lone_entry-block.result) (sym c.lone_entry-block.ensures.listed) c.lone_entry-block.ensures.block;
         adds = c.lone_entry-block.ensures.listed ∙ ap (λ es. es ++ (c.args.number, c.args.name.now) ∷ []) (sym (none_at_end bytes whole));
       },

@@ -1,10 +1,11 @@
 use Rattle.std.proofs.Common.{sym, ◌∙◌}
-use Rattle.lfs_volume.proofs.StepLemmas.{whole_blocks, steps_on}
+use Rattle.lfs_volume.proofs.Directories.{size_whole}
+use Rattle.lfs_volume.proofs.StepLemmas.{steps_on}
 use Rattle.lfs_volume.proofs.walking.step.Goals as goal
 
 pub look_up-requires-clause-whole : goal.look_up-requires-clause-whole
 look_up-requires-clause-whole g c =
-    whole_blocks (g.F.FileStore.content c.args.store.now) c.requires.tree.0 c.requires.tree.1.0 c.args.dir c.in-Some.attrs c.in-Some.ensures (sym c.if-not-is_directory.ensures)
+    size_whole c.requires.tree.1.0 c.args.dir c.in-Some.attrs c.in-Some.ensures (sym c.if-not-is_directory.ensures)
 
 pub returns-clause-step : goal.returns-clause-step
 returns-clause-step g c w shows =

@@ -1,15 +1,10 @@
-use Rattle.std.proofs.Common.{◌≡◌, ◌+◌, ◌<◌, ℕ, length, drop, List, [], ◌∷◌, Err, get_or, refl, sym, ap, subst, ◌∙◌, arith, add-one}
+use Rattle.std.proofs.Common.{◌≡◌, ◌+◌, drop, [], Err, sym, ap, subst, ◌∙◌, arith}
 use Rattle.std.proofs.lemmas.List.{drop_all}
 use Rattle.std.proofs.lemmas.Result.{err_from_is_err_and}
-use Rattle.std.proofs.Math.Seq.{drop-cons}
 use Rattle.lfs_volume.specs.Content.{Shows}
 use Rattle.lfs_volume.specs.Walks.{walked}
-use Rattle.lfs_volume.proofs.StepLemmas.{walked_on, walked_end, stepped-child, child-stored}
+use Rattle.lfs_volume.proofs.StepLemmas.{names_left, walked_on, walked_end, stepped-child, child-stored}
 use Rattle.lfs_volume.proofs.walking.walk.Goals as goal
-
--- the names that are left, with the first of them
-rest : (names : List (List ℕ)) (at : ℕ) (name : List ℕ) → at < length names → name ≡ get_or names at name → drop at names ≡ name ∷ drop (at + 1) names
-rest names at name h is = drop-cons names at name h ∙ rw (← is, add-one) refl
 
 pub step-requires-clause-tree : goal.step-requires-clause-tree
 step-requires-clause-tree g c = let t = c.requires.tree in (t.0, (subst (λ x. Shows x t.0) (sym c.loop-at.invariant.content) t.1.0, t.1.1))
@@ -20,7 +15,7 @@ returns-in_err-dir-clause-walk g c w shows =
     let p = err_from_is_err_and c.from_residual.result c.from_residual.ensures.1 in
     p.1 ∙ ap Err p.2
     ∙ sym (c.loop-at.invariant.walk w shows
-    ∙ ap (walked w.rows c.args.cred.now c.args.path c.loop-at.at c.loop-at.dir) (rest c.args.names.now c.loop-at.at c.index-names-at.result c.loop-at-test.true c.index-names-at.is)
+    ∙ ap (walked w.rows c.args.cred.now c.args.path c.loop-at.at c.loop-at.dir) (names_left c.args.names.now c.loop-at.at c.index-names-at.result c.loop-at-test.true c.index-names-at.is)
     ∙ walked_on w.rows c.args.cred.now c.args.path c.loop-at.at c.loop-at.dir c.index-names-at.result (drop (c.loop-at.at + 1) c.args.names.now) _ (c.in_err-dir.ensures.step w here))
 
 pub loop-at-preserved : goal.loop-at-preserved
@@ -28,7 +23,7 @@ loop-at-preserved g c = record {
   walk = λ w shows.
       let here = subst (λ x. Shows x w) (sym c.loop-at.invariant.content) shows in
       c.loop-at.invariant.walk w shows
-      ∙ ap (walked w.rows c.args.cred.now c.args.path c.loop-at.at c.loop-at.dir) (rest c.args.names.now c.loop-at.at c.index-names-at.result c.loop-at-test.true c.index-names-at.is)
+      ∙ ap (walked w.rows c.args.cred.now c.args.path c.loop-at.at c.loop-at.dir) (names_left c.args.names.now c.loop-at.at c.index-names-at.result c.loop-at-test.true c.index-names-at.is)
       ∙ walked_on w.rows c.args.cred.now c.args.path c.loop-at.at c.loop-at.dir c.index-names-at.result (drop (c.loop-at.at + 1) c.args.names.now) _ (c.in_ok-dir.ensures.step w here);
   used =
       let t = c.requires.tree in

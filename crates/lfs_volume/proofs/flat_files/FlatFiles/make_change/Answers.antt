@@ -1,6 +1,6 @@
-use Rattle.std.proofs.Common.{sym, ◌∙◌, arith}
+use Rattle.std.proofs.Common.{is_some, sym, ap, ◌∙◌, arith}
 use Rattle.lfs_volume.proofs.FlatFilesContent.{get-content_of}
-use Rattle.lfs_volume.proofs.FlatFilesReach.{used_within, file_used}
+use Rattle.lfs_volume.proofs.FlatFilesReach.{content_below, used_within, file_used}
 use Rattle.lfs_volume.proofs.flat_files.FlatFiles.make_change.Goals as goal
 
 pub make-requires-clause-free : goal.make-requires-clause-free
@@ -29,3 +29,25 @@ pub put-requires-clause-used : goal.put-requires-clause-used
 put-requires-clause-used c =
     let can = rw c.in-Put.is at c.requires.can in
     file_used c.args.self.now.places.items c.in-Put.ino _ can
+
+pub remove-requires-clause-within : goal.remove-requires-clause-within
+remove-requires-clause-within c =
+    let places = c.args.self.now.places in
+    let can = rw c.in-Remove.is at c.requires.can in
+    omega (arith, places.ok.0, content_below places.items c.in-Remove.ino can)
+
+pub remove-requires-clause-used : goal.remove-requires-clause-used
+remove-requires-clause-used c =
+    let can = rw c.in-Remove.is at c.requires.can in
+    ap is_some (sym (get-content_of c.args.self.now.places.items c.in-Remove.ino)) ∙ can
+
+pub set_length-requires-clause-within : goal.set_length-requires-clause-within
+set_length-requires-clause-within c =
+    let places = c.args.self.now.places in
+    let can = rw c.in-SetLength.is at c.requires.can in
+    omega (arith, places.ok.0, used_within places.items c.in-SetLength.ino _ can)
+
+pub set_length-requires-clause-used : goal.set_length-requires-clause-used
+set_length-requires-clause-used c =
+    let can = rw c.in-SetLength.is at c.requires.can in
+    file_used c.args.self.now.places.items c.in-SetLength.ino _ can

@@ -1,9 +1,9 @@
-use Rattle.std.proofs.Common.{◌≡◌, ◌↔◌, ◌∷◌, [], ◌++◌, length, sym, ap, subst, ◌∙◌, arith, length-append}
+use Rattle.std.proofs.Common.{◌≡◌, ◌↔◌, ◌∷◌, [], ◌++◌, length, sym, ap, subst, ◌∙◌, arith, length-append, append_assoc}
 use Rattle.lfs_types.specs.declared.answer.Answer.TheVariants.{Refused}
 use Rattle.lfs_types.specs.declared.answer.Resource.TheVariants.{JournalFull}
 use Rattle.lfs_volume.specs.Runs.{AreAnswers, kept, kept_entry}
 use Rattle.lfs_volume.specs.Steps.{world_of}
-use Rattle.lfs_volume.proofs.RunLemmas.{AreAnswers-append, kept-append, append-assoc, lack_cause}
+use Rattle.lfs_volume.proofs.RunLemmas.{AreAnswers-append, kept-append, lack_cause}
 use Rattle.lfs_volume.proofs.volume.Volume.run.Goals as goal
 
 pub loop-session-preserved : goal.loop-session-preserved
@@ -22,13 +22,12 @@ loop-session-preserved g c =
           (lack_cause before.limit (g.F.FileStore.clean before.store) (g.F.FileStore.numbers before.store) g.F.FileStore.can_lack_memory (g.F.FileStore.content before.store) before.journal (world_of (g.F.FileStore.numbers before.store) before.journal) one.cred one.request answer call.ensures.full i.legal.within call.ensures.outcome));
       entered = call.ensures.entered
           ∙ ap (λ j. j ++ kept_entry one.session one.cred one.request answer) i.entered
-          ∙ append-assoc c.args.self.now.journal (kept c.loop-session.yielded c.loop-session.answers.items) (kept_entry one.session one.cred one.request answer)
+          ∙ append_assoc c.args.self.now.journal (kept c.loop-session.yielded c.loop-session.answers.items) (kept_entry one.session one.cred one.request answer)
           ∙ ap (λ l. c.args.self.now.journal ++ l) (sym (kept-append c.loop-session.yielded c.loop-session.answers.items one answer i.count) ∙ ap (kept (c.loop-session.yielded ++ one ∷ [])) (sym pushed));
       legal = call.ensures.legal;
-      all = append-assoc c.loop-session.yielded (one ∷ []) c.next.new.self.rest.items ∙ ap (λ l. c.loop-session.yielded ++ l) (sym stepped) ∙ i.all;
+      all = append_assoc c.loop-session.yielded (one ∷ []) c.next.new.self.rest.items ∙ ap (λ l. c.loop-session.yielded ++ l) (sym stepped) ∙ i.all;
       count = simp (pushed, length-append) (omega (arith, i.count));
       room = omega (arith, i.room, c.in-Ok-push.ensures.capacity);
-      level = call.ensures.level ∙ i.level;
       limit = call.ensures.limit ∙ i.limit;
       clean = omega (arith, call.ensures.clean, i.clean);
       numbers = call.ensures.numbers ∙ i.numbers;

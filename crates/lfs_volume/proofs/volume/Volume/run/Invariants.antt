@@ -11,7 +11,6 @@ invariant-loop-session g l = record {
   all : l.yielded ++ l.session-iterator.rest.items ≡ l.fn.calls.items;
   count : length l.answers.items ≡ length l.yielded;
   room : length l.fn.calls.items ≤ vec_capacity l.answers;
-  level : l.self.level ≡ l.fn.self.level;
   limit : l.self.limit ≡ l.fn.self.limit;
   clean : g.F.FileStore.clean l.self.store ≤ g.F.FileStore.clean l.fn.self.store;
   numbers : g.F.FileStore.numbers l.self.store ≡ g.F.FileStore.numbers l.fn.self.store;

@@ -1,0 +1,138 @@
+//! The call that lists a directory.
+
+ghost use Rattle.std.specs.Prelude.{◌≡◌, ◌++◌, ◌%◌, IsSome, IfOk, None, map, length};
+ghost use Rattle.std.specs.Cmp.Lexicographic.{slice_cmp};
+ghost use Rattle.std.specs.FinMap.{get};
+ghost use Rattle.std.specs.List.Sorted.{IsPermutation, IsSorted};
+ghost use Rattle.std.specs.Ordering.{nat_cmp};
+ghost use Rattle.lfs_types.specs.Naming.{name_fault};
+ghost use Rattle.lfs_types.specs.Stored.{bytes_of};
+ghost use Rattle.lfs_types.specs.Tree.{World};
+ghost use Rattle.lfs_dirs.specs.Directory.{IsDirectoryBlock};
+ghost use Rattle.lfs_dirs.specs.Reading.{entries_of};
+ghost use Rattle.lfs_volume.specs.World.{IsTree};
+ghost use Rattle.lfs_volume.specs.Content.{Shows, AreBlocks, listed};
+ghost use Rattle.lfs_volume.specs.Lists.{JudgesList};
+ghost use Rattle.lfs_volume.specs.Outcomes.{IsOutcome};
+
+use crate::directory::read_block;
+use crate::walking::{Reached, component, reach};
+use lfs_dirs::entries;
+use lfs_rules::access::grants;
+use lfs_types::answer::{Answer, Resource, Served};
+use lfs_types::attrs::Bit;
+use lfs_types::block::{BLOCK_SIZE, Block};
+use lfs_types::cred::Cred;
+use lfs_types::name::{BadName, Name};
+use lfs_types::path::Path;
+use lfs_types::payload::Names;
+use lfs_types::request::Request;
+use lfs_types::rule::{Denial, Rule};
+use lfs_types::store::FileStore;
+use std::alloc::{AllocError, Global};
+
+/// The names in a directory, in byte order.
+pub(crate) fn list<F: FileStore>(alloc: Global, store: &mut F, cred: &Cred, path: &Path) -> Answer
+    requires tree { (w : World) × (Shows (F.content store.old) w × IsTree w.rows) }
+    ensures outcome { (w : World) → Shows (F.content store.old) w → IsTree w.rows → IsOutcome (F.numbers store.old) (F.clean store.old) F.can_lack_memory (F.content store.old) w cred.now (Request.List path.now) result }
+    ensures content { F.content store.new ≡ F.content store.old }
+    ensures clean { F.clean store.new ≡ F.clean store.old }
+    ensures numbers { F.numbers store.new ≡ F.numbers store.old }
+    ensures segments { F.segments store.new ≡ F.segments store.old }
+{
+    let dir = match judge_list(store, cred, path) {
+        Ok(dir) => dir,
+        Err(denial) => return Answer::Denied(denial),
+    };
+    match names_of_directory(alloc, store, dir.number, dir.attrs.size) {
+        Ok(names) => Answer::Served(Served::Names(Names::from(sorted(names)))),
+        Err(AllocError) => Answer::Refused(Resource::NoMemory),
+    }
+}
+
+/// The directory that a List may show, or the first rule that fails.
+fn judge_list<F: FileStore>(store: &mut F, cred: &Cred, path: &Path) -> Result<Reached, Denial>
+    requires tree { (w : World) × (Shows (F.content store.old) w × IsTree w.rows) }
+    ensures judge { (w : World) → Shows (F.content store.old) w → IsTree w.rows → JudgesList (F.content store.old) w cred.now path.now result }
+    ensures content { F.content store.new ≡ F.content store.old }
+    ensures clean { F.clean store.new ≡ F.clean store.old }
+    ensures numbers { F.numbers store.new ≡ F.numbers store.old }
+    ensures segments { F.segments store.new ≡ F.segments store.old }
+{
+    let names = path.names();
+    let at = component(names);
+    let dir = reach(store, cred, 0, names)?;
+    if !dir.attrs.kind.is_directory() {
+        return Err(Denial {
+            rule: Rule::IsDirectory,
+            path: 0,
+            at,
+        });
+    }
+    if !grants(&dir.attrs, cred, Bit::Read) {
+        return Err(Denial {
+            rule: Rule::GrantsRead,
+            path: 0,
+            at,
+        });
+    }
+    Ok(dir)
+}
+
+/// The names that a directory of this size lists, as they stand in its blocks; an error where a growth was refused.
+fn names_of_directory<F: FileStore>(
+    alloc: Global,
+    store: &mut F,
+    dir: u32,
+    size: u64,
+) -> Result<Vec<Name>, AllocError>
+    requires used { IsSome (get (F.content store.old) dir) }
+    requires size { size ≡ length (bytes_of (F.content store.old) dir) }
+    requires whole { size % 512 ≡ 0 }
+    requires blocks { AreBlocks (bytes_of (F.content store.old) dir) }
+    ensures names { IfOk result (λ names. names.items ≡ map (λ e. e.1) (listed (bytes_of (F.content store.old) dir))) }
+    ensures content { F.content store.new ≡ F.content store.old }
+    ensures clean { F.clean store.new ≡ F.clean store.old }
+    ensures numbers { F.numbers store.new ≡ F.numbers store.old }
+    ensures segments { F.segments store.new ≡ F.segments store.old }
+{
+    let block_size = BLOCK_SIZE as u64;
+    let mut names = Vec::new(alloc);
+    for k in 0..size / block_size {
+        let block = read_block(store, dir, block_size * k);
+        push_names(alloc, &mut names, &block)?;
+    }
+    Ok(names)
+}
+
+/// Puts the names of a block's entries behind others; an error where a growth was refused.
+fn push_names(alloc: Global, names: &mut Vec<Name>, block: &Block) -> Result<(), AllocError>
+    requires block { IsDirectoryBlock block.now (entries_of block.now) }
+    ensures { IfOk result (λ _. names.new.items ≡ names.old.items ++ map (λ e. e.1) (entries_of block.now)) }
+{
+    for (_, bytes) in entries(block) {
+        names.push(name_of(alloc, bytes)?)?;
+    }
+    Ok(())
+}
+
+/// The name of an entry; an error where a growth was refused.
+fn name_of(alloc: Global, bytes: &[u8]) -> Result<Name, AllocError>
+    requires { name_fault bytes.now ≡ None }
+    ensures { IfOk result (λ name. name ≡ bytes.now) }
+{
+    match Name::parse(alloc, bytes) {
+        Ok(name) => Ok(name),
+        Err(BadName::Memory) => Err(AllocError),
+        Err(_) => unreachable!(),
+    }
+}
+
+/// Names in byte order.
+fn sorted(mut names: Vec<Name>) -> Vec<Name>
+    ensures permutation { IsPermutation names.items result.items }
+    ensures order { IsSorted (slice_cmp nat_cmp) result.items }
+{
+    names.sort_unstable_by(|first, second| first.as_bytes().cmp(second.as_bytes()));
+    names
+}
