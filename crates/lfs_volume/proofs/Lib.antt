@@ -15,6 +15,13 @@ pub mod FlatFilesReach
 pub mod FlatFilesSplice
 pub mod Grown
 pub mod GrownStore
+pub mod LawBytes
+pub mod LawChanges
+pub mod LawFates
+pub mod LawFlags
+pub mod LawReads
+pub mod LawTree
+pub mod LawUnused
 pub mod LevelLemmas
 pub mod ListLemmas
 pub mod Listings

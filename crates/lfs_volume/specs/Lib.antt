@@ -3,6 +3,10 @@ pub mod Content
 pub mod Copies
 pub mod Effects
 pub mod FlatFiles
+pub mod LawsAccess
+pub mod LawsBytes
+pub mod LawsFlags
+pub mod LawsRuns
 pub mod Lists
 pub mod Makes
 pub mod Outcomes

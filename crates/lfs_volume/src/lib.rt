@@ -6,6 +6,7 @@ mod cutting;
 mod directory;
 pub mod flat_files;
 pub mod journal;
+pub mod laws;
 mod listing;
 mod making;
 mod reading;
