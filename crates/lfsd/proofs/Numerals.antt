@@ -18,13 +18,17 @@ all_digits radix (c ∷ cs) h =
     let parts = and_parts (is_digit c radix) (list_all (λ d. is_digit d radix) cs) h in
     (ltb-true (digit_value c) radix parts.0, all_digits radix cs parts.1)
 
-no_plus : (radix : ℕ) (cs : List ℕ) → radix ≤ 10 → AllDigits radix cs → get_or cs 0 0 ≢ 43
+no_plus : (radix : ℕ) (cs : List ℕ) → radix ≤ 36 → AllDigits radix cs → get_or cs 0 0 ≢ 43
 no_plus radix [] low digits plus = absurd (cc)
 no_plus radix (c ∷ cs) low digits plus =
     let lt : digit_value 43 < radix = subst (λ x. digit_value x < radix) plus digits.0 in absurd (omega arith)
 
+-- digits have no plus before them
+pub plain : (radix : ℕ) (word : List ℕ) → radix ≤ 36 → AllDigits radix word → without_leading_plus word ≡ word
+plain radix word low digits = without_leading_plus_none word (no_plus radix word low digits)
+
 same : (radix : ℕ) (word : List ℕ) → radix ≤ 10 → AreDigits radix word → without_leading_plus word ≡ word
-same radix word low alone = without_leading_plus_none word (no_plus radix word low (all_digits radix word alone))
+same radix word low alone = plain radix word (omega arith) (all_digits radix word alone)
 
 pub reads_ok : (E : Type 0) (radix : ℕ) (word : List ℕ) (v : ℕ) → radix ≤ 10 → AreDigits radix word → ParsesUnsigned {E = E} 64 radix word (Ok v) → v ≡ digits_value radix word
 reads_ok E radix word v low alone h = subst (λ bs. v ≡ digits_value radix bs) (same radix word low alone) h.1

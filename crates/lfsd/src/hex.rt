@@ -1,14 +1,19 @@
-//! Bytes in scripts.
+//! Bytes and file flags in scripts.
 
 ghost use Rattle.std.specs.Prelude.{◌≡◌, ◌≢◌, ◌<◌, ◌≤◌, length, true, Some, None, IfOk, MatchResult};
 ghost use Rattle.lfsd.specs.BytesText.{is_hex_digit, is_hex, hex_text, bytes_text, bytes_fault};
+ghost use Rattle.lfsd.specs.FlagText.{is_flags, flags_of};
 ghost use Rattle.std.specs.Char.{digit_char};
 ghost use Rattle.std.specs.List.{list_all};
 ghost use Rattle.lfsd.specs.declared.fault.FaultKind.TheVariants.{Memory};
 
 use crate::fault::FaultKind;
+use lfs_types::file_flags::FileFlags;
 use lfs_types::payload::{PAYLOAD_MAX, Payload};
 use std::alloc::{AllocError, Global};
+
+/// The most digits of flags.
+const FLAG_DIGITS: usize = 8;
 
 /// The bytes that an even, positive number of digits of 0-9 a-f spells, at most 4,096, or none for `-`.
 pub fn payload(alloc: Global, word: &str) -> Result<Payload, FaultKind>
@@ -93,4 +98,24 @@ fn decoded(alloc: Global, digits: &[u8]) -> Result<Vec<u8>, AllocError>
         bytes.push(16 * high + low)?;
     }
     Ok(bytes)
+}
+
+/// Whether a word is 1 to 8 digits of 0-9 a-f.
+fn is_flags(word: &str) -> bool
+    ensures { result ≡ is_flags word.now }
+{
+    !word.is_empty() && word.len() <= FLAG_DIGITS && has_hex_alone(word.as_bytes())
+}
+
+/// The flags, each of them known, that 1 to 8 digits of 0-9 a-f spell.
+pub fn flags(word: &str) -> Result<FileFlags, FaultKind>
+    ensures { result ≡ flags_of word.now }
+{
+    if !is_flags(word) {
+        return Err(FaultKind::Number);
+    }
+    match u32::from_str_radix(word, 16) {
+        Ok(bits) => FileFlags::new(bits).ok_or(FaultKind::Range),
+        Err(_) => unreachable!(),
+    }
 }

@@ -2,6 +2,7 @@
 #![tactic(auto)]
 
 mod caller;
+mod calls;
 mod fault;
 mod hex;
 mod number;

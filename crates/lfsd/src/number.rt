@@ -1,17 +1,22 @@
 //! Numbers in scripts.
 
-ghost use Rattle.std.specs.Prelude.{◌≡◌, ◌-◌, ◌^◌, ◌<◌, ◌≤◌};
+ghost use Rattle.std.specs.Prelude.{◌≡◌, ◌-◌, ◌^◌, ◌<◌, ◌≤◌, pos};
+ghost use Rattle.std.specs.Result.{result_map_both};
 ghost use Rattle.std.specs.Char.{is_digit};
 ghost use Rattle.std.specs.List.{list_all};
+ghost use Rattle.lfsd.specs.LevelText.{level_word};
 ghost use Rattle.lfsd.specs.Numbers.{is_numeral, number_of};
 
 use crate::fault::FaultKind;
+use lfs_types::level::Level;
 use lfs_types::mode::Mode;
 
 /// The most digits of a decimal.
 const DECIMAL_DIGITS: usize = 20;
 /// The most digits of a mode.
 const MODE_DIGITS: usize = 6;
+/// The highest number of a level.
+const LEVEL_MAX: u64 = 2;
 
 /// Whether every byte of a word is a digit of this radix.
 fn has_digits_alone(word: &str, radix: u32) -> bool
@@ -80,4 +85,23 @@ pub fn mode(word: &str) -> Result<Mode, FaultKind>
 {
     let value = number(word, 8, MODE_DIGITS, 0o7777)?;
     Mode::new(value as u16).ok_or(FaultKind::Range)
+}
+
+/// The level, from -1 to 2, that an optional minus and 1 to 20 decimal digits spell.
+pub fn level(word: &str) -> Result<Level, FaultKind>
+    ensures { result ≡ level_word word.now }
+{
+    let number = match word.strip_prefix('-') {
+        Some(digits) => -level_number(digits)?,
+        None => level_number(word)?,
+    };
+    Level::new(number).ok_or(FaultKind::Range)
+}
+
+/// The number, at most 2, that 1 to 20 decimal digits spell.
+fn level_number(digits: &str) -> Result<i8, FaultKind>
+    ensures { result ≡ result_map_both pos (λ kind. kind) (number_of 10 20 2 digits.now) }
+{
+    let value = number(digits, 10, DECIMAL_DIGITS, LEVEL_MAX)?;
+    Ok(value as i8)
 }

@@ -2,6 +2,7 @@
 
 use lfs_types::answer::{Answer, Served};
 use lfs_types::attrs::{Attrs, Kind};
+use lfs_types::name::Name;
 use lfs_types::rule::Denial;
 use std::alloc::{AllocError, Global};
 
@@ -12,6 +13,7 @@ pub fn print_answer(alloc: Global, session: u8, answer: &Answer) -> Result<Strin
     match answer {
         Answer::Served(Served::Stat(number, attrs)) => push_stat(&mut line, *number, attrs)?,
         Answer::Served(Served::Bytes(bytes)) => push_bytes(&mut line, bytes.as_slice())?,
+        Answer::Served(Served::Names(names)) => push_names(&mut line, names.as_slice())?,
         Answer::Served(Served::Done) => line.push_str("ok")?,
         Answer::Denied(denial) => push_denial(&mut line, *denial)?,
         Answer::Refused(resource) => write!(line, "refused {resource:?}")?,
@@ -43,6 +45,27 @@ fn push_bytes(line: &mut String, bytes: &[u8]) -> Result<(), AllocError> {
     }
     for byte in bytes {
         write!(line, "{byte:02x}")?;
+    }
+    Ok(())
+}
+
+/// Appends names, each behind a space.
+fn push_names(line: &mut String, names: &[Name]) -> Result<(), AllocError> {
+    line.push_str("names")?;
+    for name in names {
+        line.push(' ')?;
+        push_name(line, name.as_bytes())?;
+    }
+    Ok(())
+}
+
+/// Appends a name, in which a byte outside 0x21 to 0x7E, and `%`, is `%` and two digits.
+fn push_name(line: &mut String, name: &[u8]) -> Result<(), AllocError> {
+    for byte in name {
+        match byte {
+            b'%' | 0..=0x20 | 0x7f..=0xff => write!(line, "%{byte:02x}")?,
+            _ => line.push(char::from(*byte))?,
+        }
     }
     Ok(())
 }

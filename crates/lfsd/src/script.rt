@@ -1,19 +1,15 @@
 //! Lines of a script.
 
-ghost use Rattle.std.specs.Prelude.{◌≡◌, ◌==◌, ◌^◌, ◌<◌, length, map, true, false, position, IfOk, IfSome, MatchOption, MatchResult};
-ghost use Rattle.lfs_types.specs.Paths.{path_text};
-ghost use Rattle.lfsd.specs.Calls.{SpellsCall, SpellsLine};
+ghost use Rattle.std.specs.Prelude.{◌≡◌, ◌==◌, ◌^◌, ◌<◌, length, true, false, position, IfOk, MatchOption, MatchResult};
+ghost use Rattle.lfsd.specs.Calls.{SpellsLine};
 ghost use Rattle.lfsd.specs.Lines.{HasNoLineFeed, IsFirstLine, is_printable};
 ghost use Rattle.lfsd.specs.declared.fault.FaultKind.TheVariants.{Bytes};
 
 use crate::caller::caller;
+use crate::calls::call;
 use crate::fault::{FaultKind, ScriptFault};
-use crate::hex::payload;
-use crate::number::{decimal, mode, short_decimal};
 use crate::plan::{Draft, Line, Plan};
 use crate::words::Words;
-use lfs_types::path::{BadPath, Path};
-use lfs_types::request::{Place, Request};
 use std::alloc::Global;
 use std::str;
 
@@ -100,55 +96,4 @@ fn is_printable(line: &[u8]) -> bool
     ensures { result ≡ is_printable line.now }
 {
     line.iter().all(|byte| *byte >= 0x20 && *byte <= 0x7e)
-}
-
-/// The call that the words of a line ask for.
-fn call(alloc: Global, words: &[&str]) -> Result<Request, FaultKind>
-    ensures { IfOk result (SpellsCall (map (λ word. word.now) words.now)) }
-{
-    match words {
-        ["stat", path] => {
-            let path = path_of(alloc, path)?.ok_or(FaultKind::Memory)?;
-            Ok(Request::Stat { path })
-        }
-        ["create", path, bits] => {
-            let path = path_of(alloc, path)?;
-            let mode = mode(bits)?;
-            let path = path.ok_or(FaultKind::Memory)?;
-            Ok(Request::Create { path, mode })
-        }
-        ["read", path, off, len] => {
-            let path = path_of(alloc, path)?;
-            let off = decimal(off)?;
-            let len = short_decimal(len)?;
-            let path = path.ok_or(FaultKind::Memory)?;
-            Ok(Request::Read { path, off, len })
-        }
-        ["write", path, "at", off, bytes] => {
-            let path = path_of(alloc, path)?;
-            let place = Place::At(decimal(off)?);
-            let bytes = payload(alloc, bytes)?;
-            let path = path.ok_or(FaultKind::Memory)?;
-            Ok(Request::Write { path, place, bytes })
-        }
-        ["write", path, "end", bytes] => {
-            let path = path_of(alloc, path)?;
-            let place = Place::End;
-            let bytes = payload(alloc, bytes)?;
-            let path = path.ok_or(FaultKind::Memory)?;
-            Ok(Request::Write { path, place, bytes })
-        }
-        _ => Err(FaultKind::Words),
-    }
-}
-
-/// The path that a word spells. There is none where a growth was refused, a fault that is asked after those of the words behind it.
-fn path_of(alloc: Global, word: &str) -> Result<Option<Path>, FaultKind>
-    ensures { IfOk result (λ found. IfSome found (λ path. path_text path ≡ word.now)) }
-{
-    match Path::parse(alloc, word) {
-        Ok(path) => Ok(Some(path)),
-        Err(BadPath::Memory) => Ok(None),
-        Err(fault) => Err(FaultKind::Path(fault)),
-    }
 }

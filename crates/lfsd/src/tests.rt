@@ -3,6 +3,7 @@
 mod arguments;
 mod cases;
 mod faults;
+mod rules;
 mod streams;
 mod texts;
 
@@ -11,6 +12,8 @@ use crate::options::DEFAULTS;
 use crate::run::run_lines;
 use lfs_types::store::Params;
 use std::alloc::Global;
+use std::process::Abort;
+use std::test::Fail;
 
 /// What a run of this script writes.
 fn output_with(alloc: Global, script: &str, params: Params) -> Result<Vec<u8>, LinesFault> {
@@ -23,4 +26,11 @@ fn output_with(alloc: Global, script: &str, params: Params) -> Result<Vec<u8>, L
 /// What a run of this script writes where the program has no arguments.
 fn output(alloc: Global, script: &str) -> Result<Vec<u8>, LinesFault> {
     output_with(alloc, script, DEFAULTS)
+}
+
+/// Asserts that a run of this script writes these lines.
+fn expect(rt: &impl Abort, alloc: Global, script: &str, expected: &str) -> Result<(), Fail> {
+    let written = output(alloc, script)?;
+    assert_eq!(rt; written.as_slice(), expected.as_bytes());
+    Ok(())
 }

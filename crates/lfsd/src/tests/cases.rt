@@ -1,10 +1,27 @@
 //! Worked scripts and the lines that they must print.
 
-use super::{output, output_with};
+use super::{expect, output, output_with};
 use crate::fault::{FaultKind, LinesFault, ScriptFault};
 use crate::options::DEFAULTS;
 use lfs_types::store::Params;
+use std::alloc::{AllocError, Global};
 use std::test::Fail;
+
+/// Appends the `create` of a name of `length` bytes that ends with this number.
+fn create_long(script: &mut String, length: usize, number: u32) -> Result<(), AllocError> {
+    script.push_str("create ")?;
+    push_long(script, length, number)?;
+    script.push_str(" 0600\n")
+}
+
+/// Appends the path of a name of `length` bytes that ends with this number.
+fn push_long(script: &mut String, length: usize, number: u32) -> Result<(), AllocError> {
+    script.push('/')?;
+    for _ in 3..length {
+        script.push('n')?;
+    }
+    write!(script, "{number:03}")
+}
 
 #[test]
 fn owner_writes_and_stranger_only_reads(rt: HostRuntime) -> Result<(), Fail> {
@@ -26,8 +43,9 @@ fn file_on_the_way_is_no_directory(rt: HostRuntime) -> Result<(), Fail> {
 #[test]
 fn file_length_limit(rt: HostRuntime) -> Result<(), Fail> {
     let script =
-        "create /h 0644\nwrite /h at 71679 7a\nread /h 71678 4\nwrite /h at 71680 7a\nwrite /h at 18446744073709551615 7a7a\n";
-    let expected = b"0 ok\n0 ok\n0 bytes 007a\n0 denied Z1 EFBIG 0 1\n0 denied Z1 EFBIG 0 1\n";
+        "create /h 0644\nwrite /h at 71679 7a\nread /h 71678 4\nwrite /h at 71680 7a\nwrite /h at 18446744073709551615 7a7a\nlength /h 71681\n";
+    let expected =
+        b"0 ok\n0 ok\n0 bytes 007a\n0 denied Z1 EFBIG 0 1\n0 denied Z1 EFBIG 0 1\n0 denied Z1 EFBIG 0 1\n";
     assert_eq!(rt; output(rt.alloc(), script)?.as_slice(), expected.as_slice());
     Ok(())
 }
@@ -85,4 +103,312 @@ fn line_without_line_feed(rt: HostRuntime) {
 fn empty_script(rt: HostRuntime) -> Result<(), Fail> {
     assert!(rt; output(rt.alloc(), "")?.is_empty());
     Ok(())
+}
+
+#[test]
+fn owner_is_judged_by_owner_bits_alone(rt: HostRuntime) -> Result<(), Fail> {
+    let script = "\
+create /f 0077
+chown /f 7 7
+as 7 7
+read /f 0 1
+as 8 9
+read /f 0 1
+";
+    let expected = "\
+0 ok
+0 ok
+0 denied M1 EACCES 0 1
+0 bytes -
+";
+    expect(&rt, rt.alloc(), script, expected)
+}
+
+#[test]
+fn search_is_asked_before_the_name(rt: HostRuntime) -> Result<(), Fail> {
+    let script = "\
+mkdir /d 0700
+chown /d 7 7
+as 8 8
+stat /d/nothing
+stat /nothing
+";
+    let expected = "\
+0 ok
+0 ok
+0 denied S1 EACCES 0 1
+0 denied N2 ENOENT 0 1
+";
+    expect(&rt, rt.alloc(), script, expected)
+}
+
+#[test]
+fn sticky_directory_guards_removal(rt: HostRuntime) -> Result<(), Fail> {
+    let script = "\
+mkdir /t 1777
+chown /t 9 9
+as 7 7
+create /t/x 0644
+create /t/y 0644
+as 8 8
+unlink /t/x
+as 7 7
+unlink /t/x
+as 9 9
+unlink /t/y
+";
+    let expected = "\
+0 ok
+0 ok
+0 ok
+0 ok
+0 denied Y1 EPERM 0 2
+0 ok
+0 ok
+";
+    expect(&rt, rt.alloc(), script, expected)
+}
+
+#[test]
+fn append_only_file_grows_at_its_end_alone(rt: HostRuntime) -> Result<(), Fail> {
+    let script = "\
+create /l 0666
+chflags /l 4
+write /l at 0 61
+write /l end 61
+length /l 0
+unlink /l
+read /l 0 4
+";
+    let expected = "\
+0 ok
+0 ok
+0 denied F2 EPERM 0 1
+0 ok
+0 denied F2 EPERM 0 1
+0 denied F2 EPERM 0 1
+0 bytes 61
+";
+    expect(&rt, rt.alloc(), script, expected)
+}
+
+#[test]
+fn flags_of_a_directory_guard_its_names(rt: HostRuntime) -> Result<(), Fail> {
+    let script = "\
+mkdir /q 0777
+chflags /q 4
+create /q/x 0600
+unlink /q/x
+chflags /q 2
+create /q/y 0600
+";
+    let expected = "\
+0 ok
+0 ok
+0 ok
+0 denied F2 EPERM 0 1
+0 ok
+0 denied F1 EPERM 0 1
+";
+    expect(&rt, rt.alloc(), script, expected)
+}
+
+#[test]
+fn raised_level_keeps_system_flags_until_init_lowers_it(rt: HostRuntime) -> Result<(), Fail> {
+    let script = "\
+create /s 0644
+chflags /s 20000
+level 1
+chflags /s 0
+chflags /s 60000
+level 0
+as 0 0 init
+level 0
+chflags /s 0
+stat /s
+";
+    let expected = "\
+0 ok
+0 ok
+0 ok
+0 denied L2 EPERM 0 1
+0 ok
+0 denied L3 EPERM 0 0
+0 ok
+0 ok
+0 stat 4 file 0 0 0644 00000000 0
+";
+    expect(&rt, rt.alloc(), script, expected)
+}
+
+#[test]
+fn owner_may_change_user_flags_unless_locked(rt: HostRuntime) -> Result<(), Fail> {
+    let script = "\
+create /o 0644
+chown /o 7 7
+chflags /o 10000
+as 7 7
+chflags /o 10001
+as 0 0
+chflags /o 50000
+as 7 7
+chflags /o 50000
+";
+    let expected = "\
+0 ok
+0 ok
+0 ok
+0 ok
+0 ok
+0 denied L1 EPERM 0 1
+";
+    expect(&rt, rt.alloc(), script, expected)
+}
+
+#[test]
+fn level_minus_one_behaves_as_zero(rt: HostRuntime) -> Result<(), Fail> {
+    let script = "\
+as 0 0 init
+level -1
+create /p 0600
+chflags /p 40000
+chflags /p 0
+as 0 0
+level 0
+";
+    let expected = "\
+0 ok
+0 ok
+0 ok
+0 ok
+0 ok
+";
+    expect(&rt, rt.alloc(), script, expected)
+}
+
+#[test]
+fn owner_may_give_the_group_to_one_of_his_groups(rt: HostRuntime) -> Result<(), Fail> {
+    let script = "\
+create /g 6755
+chown /g 7 7
+as 7 7,8
+chown /g 7 8
+stat /g
+chown /g 8 8
+chown /g 7 9
+";
+    let expected = "\
+0 ok
+0 ok
+0 ok
+0 stat 4 file 7 8 0755 00000000 0
+0 denied O2 EPERM 0 1
+0 denied O2 EPERM 0 1
+";
+    expect(&rt, rt.alloc(), script, expected)
+}
+
+#[test]
+fn write_of_no_bytes_keeps_set_id_bits(rt: HostRuntime) -> Result<(), Fail> {
+    let script = "\
+create /e 6644
+chown /e 7 7
+as 7 7
+write /e at 100 -
+stat /e
+write /e end 61
+stat /e
+";
+    let expected = "\
+0 ok
+0 ok
+0 ok
+0 stat 4 file 7 7 6644 00000000 0
+0 ok
+0 stat 4 file 7 7 0644 00000000 1
+";
+    expect(&rt, rt.alloc(), script, expected)
+}
+
+#[test]
+fn directory_may_not_move_beneath_itself(rt: HostRuntime) -> Result<(), Fail> {
+    let script = "\
+create /a 0644
+create /c 0644
+rename /a /b
+list /
+mkdir /d 0755
+mkdir /d/e 0755
+rename /d /d/e/f
+";
+    let expected = "\
+0 ok
+0 ok
+0 ok
+0 names b c
+0 ok
+0 ok
+0 denied K4 EINVAL 1 1
+";
+    expect(&rt, rt.alloc(), script, expected)
+}
+
+#[test]
+fn rename_onto_a_name_that_is_there(rt: HostRuntime) -> Result<(), Fail> {
+    let script = "\
+create /a 0644
+create /c 0644
+rename /a /b
+list /
+mkdir /d 0755
+mkdir /d/e 0755
+rename /d /d/e/f
+rename /b /c
+rename /b /b
+";
+    let expected = "\
+0 ok
+0 ok
+0 ok
+0 names b c
+0 ok
+0 ok
+0 denied K4 EINVAL 1 1
+0 denied N3 EEXIST 1 1
+0 denied N3 EEXIST 1 1
+";
+    expect(&rt, rt.alloc(), script, expected)
+}
+
+#[test]
+fn directory_of_long_names(rt: HostRuntime) -> Result<(), Fail> {
+    let alloc = rt.alloc();
+    let mut script = String::new(alloc);
+    let mut expected = String::new(alloc);
+    for k in 0..140 {
+        create_long(&mut script, 255, k)?;
+        expected.push_str("0 ok\n")?;
+    }
+    create_long(&mut script, 255, 140)?;
+    create_long(&mut script, 247, 141)?;
+    expected.push_str("0 refused DirectoryFull\n0 ok\n")?;
+    expect(&rt, alloc, script.as_str(), expected.as_str())
+}
+
+#[test]
+fn rename_within_a_directory_of_long_names(rt: HostRuntime) -> Result<(), Fail> {
+    let alloc = rt.alloc();
+    let mut script = String::new(alloc);
+    let mut expected = String::new(alloc);
+    for k in 0..140 {
+        create_long(&mut script, 255, k)?;
+        expected.push_str("0 ok\n")?;
+    }
+    script.push_str("rename ")?;
+    push_long(&mut script, 255, 0)?;
+    script.push(' ')?;
+    push_long(&mut script, 255, 200)?;
+    script.push('\n')?;
+    expected.push_str("0 ok\n")?;
+    expect(&rt, alloc, script.as_str(), expected.as_str())
 }

@@ -4,6 +4,9 @@ use super::output;
 use crate::fault::{FaultKind, LinesFault, ScriptFault};
 use crate::script::parse_script;
 use lfs_types::cred::{BadCred, Cred};
+use lfs_types::file_flags::FileFlags;
+use lfs_types::level::Level;
+use lfs_types::mode::Mode;
 use lfs_types::name::BadName;
 use lfs_types::path::{BadPath, Path};
 use lfs_types::payload::Payload;
@@ -47,7 +50,7 @@ fn bytes(rt: HostRuntime) -> Result<(), Fail> {
 fn words(rt: HostRuntime) -> Result<(), Fail> {
     let lines = [
         " ",
-        "list /",
+        "sync",
         "Stat /",
         "stat",
         "stat /a /b",
@@ -68,6 +71,26 @@ fn words(rt: HostRuntime) -> Result<(), Fail> {
         "write /a at 0 61 62",
         "write /a at 0 61 62 63 64",
         "as 0 0 ",
+        "list",
+        "list a b",
+        "unlink",
+        "unlink a 0",
+        "rmdir",
+        "rmdir a b",
+        "length a",
+        "length a x y",
+        "mkdir a",
+        "mkdir a x y",
+        "chmod a",
+        "chmod a x y",
+        "rename a",
+        "rename a b c",
+        "chown a x",
+        "chown a x y z",
+        "chflags a",
+        "chflags a x y",
+        "level",
+        "level x y",
     ];
     expect_kind(&rt, rt.alloc(), lines.as_slice(), FaultKind::Words)
 }
@@ -93,6 +116,25 @@ fn number(rt: HostRuntime) -> Result<(), Fail> {
         "as 5 x init",
         "write /a at x zz",
         "as x 4294967296",
+        "length /a -1",
+        "length /a 000000000000000000001",
+        "mkdir /a 8",
+        "mkdir /a 0000755",
+        "chmod /a 08",
+        "chmod /a -1",
+        "chown /a x 4294967296",
+        "chown /a 0 1,2",
+        "chflags /a 000000000",
+        "chflags /a 0x2",
+        "chflags /a 4A",
+        "chflags /a -",
+        "level -",
+        "level --1",
+        "level +1",
+        "level 1-",
+        "level x",
+        "level 000000000000000000001",
+        "level -000000000000000000001",
     ];
     expect_kind(&rt, rt.alloc(), lines.as_slice(), FaultKind::Number)
 }
@@ -109,6 +151,19 @@ fn range(rt: HostRuntime) -> Result<(), Fail> {
         "as 0 4294967296",
         "as 5 1,4294967296 init",
         "write /a at 18446744073709551616 zz",
+        "length /a 18446744073709551616",
+        "mkdir /a 10000",
+        "chmod /a 777777",
+        "chown /a 4294967296 x",
+        "chown /a 0 4294967296",
+        "chflags /a 8",
+        "chflags /a a",
+        "chflags /a 00080000",
+        "chflags /a ffffffff",
+        "level 3",
+        "level -2",
+        "level 18446744073709551616",
+        "level -99999999999999999999",
     ];
     expect_kind(&rt, rt.alloc(), lines.as_slice(), FaultKind::Range)
 }
@@ -138,6 +193,16 @@ fn path(rt: HostRuntime) -> Result<(), Fail> {
         ("read /a/ x 1", BadPath::Name(2, BadName::Empty)),
         ("create /.. x", BadPath::Name(1, BadName::Dot)),
         ("write a/b end zz", BadPath::NotAbsolute),
+        ("list a", BadPath::NotAbsolute),
+        ("unlink a", BadPath::NotAbsolute),
+        ("rmdir a", BadPath::NotAbsolute),
+        ("length a x", BadPath::NotAbsolute),
+        ("mkdir a 8", BadPath::NotAbsolute),
+        ("chmod a 8", BadPath::NotAbsolute),
+        ("chown a x y", BadPath::NotAbsolute),
+        ("chflags a x", BadPath::NotAbsolute),
+        ("rename a //", BadPath::NotAbsolute),
+        ("rename /a //", BadPath::Name(1, BadName::Empty)),
     ];
     for (line, fault) in cases {
         let kind = FaultKind::Path(fault);
@@ -203,7 +268,7 @@ fn each_call_as_it_is_written(rt: HostRuntime) -> Result<(), Fail> {
         "\n# nothing\nstat /\ncreate /d/f 6755\nread /f 18446744073709551615 4294967295\nwrite /f at 00000000000000000007 00ff6a\nwrite /f end -\n";
     let plan = parse_script(alloc, script.as_bytes())?;
     let file = Path::parse(alloc, "/f")?;
-    let mode = lfs_types::mode::Mode::new(0o6755).ok_or("mode")?;
+    let mode = Mode::new(0o6755).ok_or("mode")?;
     let path = Path::parse(alloc, "/")?;
     assert_eq!(rt; plan.steps.len(), 5);
     assert_eq!(rt; plan.steps[0].request, Request::Stat { path });
@@ -223,5 +288,79 @@ fn each_call_as_it_is_written(rt: HostRuntime) -> Result<(), Fail> {
         plan.steps[4].request,
         Request::Write { path, place, bytes }
     );
+    Ok(())
+}
+
+#[test]
+fn each_change_as_it_is_written(rt: HostRuntime) -> Result<(), Fail> {
+    let alloc = rt.alloc();
+    let script =
+        "list /f\nunlink /f\nrmdir /f\nlength /f 71680\nmkdir /f 755\nchmod /f 1777\nchown /f 7 0008\nchflags /f 70007\nrename /f /\n";
+    let plan = parse_script(alloc, script.as_bytes())?;
+    let path = Path::parse(alloc, "/f")?;
+    let requests = [
+        Request::List {
+            path: path.try_clone(alloc)?,
+        },
+        Request::Unlink {
+            path: path.try_clone(alloc)?,
+        },
+        Request::Rmdir {
+            path: path.try_clone(alloc)?,
+        },
+        Request::SetLength {
+            path: path.try_clone(alloc)?,
+            len: 71_680,
+        },
+        Request::Mkdir {
+            path: path.try_clone(alloc)?,
+            mode: Mode::new(0o755).ok_or("mode")?,
+        },
+        Request::Chmod {
+            path: path.try_clone(alloc)?,
+            mode: Mode::new(0o1777).ok_or("mode")?,
+        },
+        Request::Chown {
+            path: path.try_clone(alloc)?,
+            uid: 7,
+            gid: 8,
+        },
+        Request::Chflags {
+            path: path.try_clone(alloc)?,
+            flags: FileFlags::new(0x70007).ok_or("flags")?,
+        },
+        Request::Rename {
+            from: path.try_clone(alloc)?,
+            to: Path::parse(alloc, "/")?,
+        },
+    ];
+    assert_eq!(rt; plan.steps.len(), 9);
+    for (step, request) in plan.steps.iter().zip(&requests) {
+        assert_eq!(rt; step.request, *request);
+    }
+    Ok(())
+}
+
+#[test]
+fn levels_by_value(rt: HostRuntime) -> Result<(), Fail> {
+    let alloc = rt.alloc();
+    let cases = [
+        ("level -1\n", Level::PermanentlyInsecure),
+        ("level -01\n", Level::PermanentlyInsecure),
+        ("level 0\n", Level::Insecure),
+        ("level -0\n", Level::Insecure),
+        ("level 00\n", Level::Insecure),
+        ("level 00000000000000000001\n", Level::Secure),
+        ("level 2\n", Level::HighlySecure),
+    ];
+    for (line, level) in cases {
+        let plan = parse_script(alloc, line.as_bytes())?;
+        assert_eq!(rt; plan.steps.len(), 1);
+        assert_eq!(rt;
+            plan.steps[0].request,
+            Request::SetLevel { level },
+            "{line}"
+        );
+    }
     Ok(())
 }

@@ -9,9 +9,9 @@ use lfs_types::cred::BadCred;
 use lfs_types::fault::FormatFault;
 use lfs_types::file_flags::FileFlags;
 use lfs_types::mode::Mode;
-use lfs_types::name::BadName;
+use lfs_types::name::{BadName, Name};
 use lfs_types::path::BadPath;
-use lfs_types::payload::Bytes;
+use lfs_types::payload::{Bytes, Names};
 use lfs_types::rule::{Denial, Rule};
 use std::test::Fail;
 
@@ -71,6 +71,29 @@ fn answers(rt: HostRuntime) -> Result<(), Fail> {
     }
     let line = print_answer(alloc, 8, &Answer::Served(Served::Done))?;
     assert_eq!(rt; line.as_str(), "8 ok\n");
+    Ok(())
+}
+
+#[test]
+fn names(rt: HostRuntime) -> Result<(), Fail> {
+    let alloc = rt.alloc();
+    let cases: [(&[&[u8]], &str); 4] = [
+        (&[], "0 names\n"),
+        (&[b"a"], "0 names a\n"),
+        (&[b"!", b"..a", b"~"], "0 names ! ..a ~\n"),
+        (
+            &[b"\x01 b", b"100%", b"\x7f\x80\xff"],
+            "0 names %01%20b 100%25 %7f%80%ff\n",
+        ),
+    ];
+    for (names, text) in cases {
+        let mut listed = Vec::new(alloc);
+        for name in names {
+            listed.push(Name::parse(alloc, name)?)?;
+        }
+        let answer = Answer::Served(Served::Names(Names::from(listed)));
+        assert_eq!(rt; print_answer(alloc, 0, &answer)?.as_str(), text);
+    }
     Ok(())
 }
 
