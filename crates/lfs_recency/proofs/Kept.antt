@@ -10,13 +10,13 @@ use Rattle.lfs_recency.specs.declared.queue.Queue.{Queue}
 use Rattle.lfs_recency.specs.declared.queue.Queue.TheVariants.{Locked, Lru, Age, Empty}
 use Rattle.lfs_recency.specs.declared.frame.Frame.{Frame}
 use Rattle.lfs_recency.specs.FrameLists.{FrameLists, listed, taken, fronted, times, times_in_all, frame_count, last_from, oldest_of, IsWhole}
-use Rattle.lfs_recency.specs.Places.{IsItemPlace}
+use Rattle.lfs_recency.specs.Places.{item_number, IsItemPlace}
 use Rattle.lfs_recency.specs.FrameLends.{with_bytes}
 use Rattle.lfs_recency.specs.Lending.{with_block}
 use Rattle.lfs_recency.specs.Links.{no_frame, frame_at, next_at, prev_at, number_at, queue_at, head_of, IsPath, Every, step_by, unlinked, linked_after, ring, shown, IsLinked, AreLinked, count_all, AreKept}
 use Rattle.lfs_recency.proofs.Lists.{Every-map, Every-times, head_high, head_low, times-listed, length-listed, times-taken_same, times-taken_other, whole-pushed, count-pushed, count-taken, blocks-pushed, less_test}
 use Rattle.lfs_recency.proofs.Rings.{chain_is, path_end}
-use Rattle.lfs_recency.proofs.Fields.{field-kept, unlinked-length, unlinked-bytes, linked-length, linked-bytes}
+use Rattle.lfs_recency.proofs.Fields.{frame_is, field-kept, unlinked-length, unlinked-bytes, linked-length, linked-bytes}
 use Rattle.lfs_recency.proofs.Linked.{unlinked_linked, linked_linked}
 
 module _ (size : ℕ) (base : Ptr) (n but : ℕ) (s : FrameLists) (fs : List Frame) (h : AreLinked size base n but s fs) (count : count_all s ≡ n) where
@@ -164,6 +164,14 @@ module _ (size : ℕ) (base : Ptr) (n : ℕ) (fs : List Frame) (q : Queue) (h : 
 
   pub oldest_none : n ≤ last_number size base n fs q → oldest_of (listed q (shown size base n fs)) ≡ None
   oldest_none = oldest_facts.1
+
+-- what an index shows is the head of the queue
+pub head_is : (size : ℕ) (base : Ptr) (n : ℕ) (fs : List Frame) (q : Queue) → AreKept size base n fs → (hd : ℕ) (x : Frame) → hd ≡ head_of n q → x ≡ get_or fs hd x → x ≡ frame_at fs (head_of n q)
+head_is size base n fs q h hd x at shows = frame_is fs (head_of n q) x (subst (λ k. head_of n q < k) (sym h.long) (head_low n q)) (shows ∙ ap (λ i. get_or fs i x) at)
+
+-- the number of the frame before the head
+pub before_head : (size : ℕ) (base : Ptr) (n : ℕ) (fs : List Frame) (q : Queue) (x r : Frame) → x ≡ frame_at fs (head_of n q) → r ≡ frame_at fs (item_number size base x.prev) → r.number ≡ last_number size base n fs q
+before_head size base n fs q x r is shows = ap (λ (f : Frame). f.number) shows ∙ ap (λ (f : Frame). (frame_at fs (item_number size base f.prev)).number) is
 
 -- a number below the count that callers see is one of a frame
 pub frame_below : (size : ℕ) (base : Ptr) (n f : ℕ) (fs : List Frame) (s : FrameLists) → AreKept size base n fs → shown size base n fs ≡ s → f < frame_count s → f < n

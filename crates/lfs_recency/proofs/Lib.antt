@@ -3,4 +3,5 @@ pub mod Filled
 pub mod Kept
 pub mod Linked
 pub mod Lists
+pub mod Lone
 pub mod Rings

@@ -114,11 +114,6 @@ pub record AreKept (size : ℕ) (base : Ptr) (n : ℕ) (fs : List Frame) : Type 
   pub whole : IsWhole (shown size base n fs)
   pub counted : count_all (shown size base n fs) ≡ n
 
--- n frames and their heads, not yet linked
-pub record AreBlank (n : ℕ) (fs : List Frame) : Type 0 where
-  pub long : length fs ≡ n + 4
-  pub numbers : (i : ℕ) → i < n + 4 → number_at fs i ≡ min i n
-
 -- n frames and their heads, each in a ring of its own
 pub record AreAlone (size : ℕ) (base : Ptr) (n : ℕ) (fs : List Frame) : Type 0 where
   pub long : length fs ≡ n + 4

@@ -5,8 +5,8 @@ ghost use Rattle.lfs_recency.specs.Links.{head_of as head_after, frame_size as f
 ghost use Rattle.std.specs.Vec.{vec_ptr};
 ghost use Rattle.lfs_recency.specs.FrameLists.{frame_count, listed, fronted, times, oldest_of, descending, IsWhole};
 
-use crate::frame::{Frame, blank_frames};
-use crate::links::{frame_before, link_alone, link_front, unlink};
+use crate::frame::Frame;
+use crate::links::{frame_before, link_front, lone_frames, unlink};
 use crate::queue::Queue;
 use std::alloc::{AllocError, Global};
 use std::marker::Model;
@@ -68,8 +68,7 @@ impl Frames {
         ensures count { IfOk result (λ s. frame_count s ≡ count) }
         ensures whole { IfOk result IsWhole }
     {
-        let mut frames = blank_frames(alloc, count)?;
-        link_alone(&mut frames, count);
+        let mut frames = lone_frames(alloc, count)?;
         link_all(&mut frames, count);
         Ok(Frames { frames, count })
     }
@@ -98,7 +97,7 @@ impl Frames {
         ensures { result ≡ oldest_of (listed queue self.now) }
     {
         let head = head_of(self.count, queue);
-        let last = frame_before(&self.frames, head).number;
+        let last = frame_before(&self.frames, &self.frames[head]).number;
         if last < self.count { Some(last) } else { None }
     }
 

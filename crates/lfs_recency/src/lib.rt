@@ -4,7 +4,6 @@
 mod frame;
 mod frames;
 mod links;
-mod place;
 mod queue;
 #[cfg(test)]
 mod tests;

@@ -1,24 +1,47 @@
 //! The links between frames. Each queue is a ring of frames through its head, so that no link is missing.
-ghost use Rattle.std.specs.Prelude.{◌≡◌, ◌<◌, vec_len};
-ghost use Rattle.std.specs.Vec.{vec_ptr};
+//!
+//! No function elsewhere holds a pointer to a frame. Each of these five has its part: the frames are made, a frame
+//! leaves its ring, a frame comes into a ring, and a frame is read or written through a link.
+ghost use Rattle.std.specs.Prelude.{◌≡◌, ◌*◌, ◌^◌, ◌<◌, slice_index_or, vec_len, IfOk};
+ghost use Rattle.std.specs.Borrow.{sem};
+ghost use Rattle.std.specs.Mem.{type_size};
+ghost use Rattle.std.specs.Vec.{vec_ptr, vec_follows_item};
 ghost use Rattle.lfs_recency.specs.Places.{IsItemPlace, item_number};
-ghost use Rattle.lfs_recency.specs.Links.{frame_size, frame_at, next_at, prev_at, unlinked, linked_after, AreBlank, AreAlone};
+ghost use Rattle.lfs_recency.specs.Links.{frame_size, frame_at, next_at, prev_at, unlinked, linked_after, AreAlone};
+ghost use denote.RawPtr.{InBlock};
 
 use crate::frame::Frame;
-use crate::place::{item_at, item_at_mut, place_of};
 use crate::queue::Queue;
+use std::alloc::{AllocError, Allocator, Global};
+use std::ptr;
 
-/// Makes each of the frames, and each head after them, a ring of its own.
-pub(crate) fn link_alone(frames: &mut Vec<Frame>, count: u32)
-    requires { AreBlank count frames.old.items }
-    ensures { AreAlone frame_size (vec_ptr frames.new) count frames.new.items }
+/// Makes as many frames as the count says, and then a head for each queue, each in a ring of its own.
+pub(crate) fn lone_frames(alloc: Global, count: u32) -> Result<Vec<Frame>, AllocError>
+    ensures { IfOk result (λ frames. AreAlone frame_size (vec_ptr frames) count frames.items) }
 {
-    for number in 0..frames.len() {
-        let this = place_of(frames, number);
-        let frame = &mut frames[number];
+    let room = count as usize + 4;
+    let mut frames = Vec::with_capacity(alloc, room)?;
+    // Where the next frame will lie: there is room for all of them, so the block doesn't move.
+    let mut this = frames.as_mut_ptr();
+    for place in 0..room {
+        let number = if place < count as usize {
+            place as u32
+        } else {
+            count
+        };
+        frames.push_reserved(Frame {
+            bytes: [0; 512],
+            prev: ptr::null_mut(),
+            next: ptr::null_mut(),
+            number,
+            queue: Queue::Empty,
+        });
+        let frame = item_at_mut(&mut frames, this);
         frame.prev = this;
         frame.next = this;
+        this = unsafe { this.offset(1) };
     }
+    Ok(frames)
 }
 
 /// Takes a frame out of its ring: its two neighbours are linked to one another.
@@ -38,6 +61,8 @@ pub(crate) fn unlink(frames: &mut Vec<Frame>, number: usize)
 
 /// Links a frame in right after the head of a ring.
 pub(crate) fn link_front(frames: &mut Vec<Frame>, head: usize, number: usize, queue: Queue)
+    requires inside { InBlock (vec_ptr frames.old) }
+    requires fits { vec_len frames.old * frame_size < 2 ^ 63 }
     requires head { head < vec_len frames.old }
     requires in_range { number < vec_len frames.old }
     requires next { IsItemPlace frame_size (vec_ptr frames.old) (vec_len frames.old) (next_at frames.old.items head) }
@@ -45,8 +70,9 @@ pub(crate) fn link_front(frames: &mut Vec<Frame>, head: usize, number: usize, qu
     ensures place { vec_ptr frames.new ≡ vec_ptr frames.old }
     ensures len { vec_len frames.new ≡ vec_len frames.old }
 {
-    let this = place_of(frames, number);
-    let before = place_of(frames, head);
+    let start = frames.as_mut_ptr();
+    let this = unsafe { start.offset(number as isize) };
+    let before = unsafe { start.offset(head as isize) };
     let after = frames[head].next;
     let frame = &mut frames[number];
     frame.prev = before;
@@ -56,11 +82,20 @@ pub(crate) fn link_front(frames: &mut Vec<Frame>, head: usize, number: usize, qu
     item_at_mut(frames, before).next = this;
 }
 
-/// The frame before the one of this number in its ring.
-pub(crate) fn frame_before(frames: &Vec<Frame>, number: usize) -> &Frame
-    requires in_range { number < vec_len frames.now }
-    requires prev { IsItemPlace frame_size (vec_ptr frames.now) (vec_len frames.now) (prev_at frames.now.items number) }
-    ensures { result.now ≡ frame_at frames.now.items (item_number frame_size (vec_ptr frames.now) (prev_at frames.now.items number)) }
+/// The frame before another one in its ring.
+pub(crate) fn frame_before<'a>(frames: &'a Vec<Frame>, frame: &'a Frame) -> &'a Frame
+    requires { IsItemPlace frame_size (vec_ptr frames.now) (vec_len frames.now) frame.now.prev }
+    ensures { result.now ≡ frame_at frames.now.items (item_number frame_size (vec_ptr frames.now) frame.now.prev) }
 {
-    item_at(frames, frames[number].prev)
+    unsafe { &*frame.prev }
+}
+
+/// The item at `place`, to be written.
+pub(crate) fn item_at_mut<T, A: Allocator>(items: &mut Vec<T, A>, place: *mut T) -> &mut T
+    requires { IsItemPlace (type_size T.row) (vec_ptr items.old) (vec_len items.old) place }
+    ensures* writes_back { sem 𝓛 (vec_follows_item T.row A.row A.Allocator items.entry (item_number (type_size T.row) (vec_ptr items.old) place) result) }
+    ensures value { result.now ≡ slice_index_or items.old.items (item_number (type_size T.row) (vec_ptr items.old) place) result.now }
+    ensures in_block { InBlock (vec_ptr items.old) }
+{
+    unsafe { &mut *place }
 }

@@ -1,5 +1,5 @@
 -- `item_at_mut` lends the item that the pointer leads to, and the vector follows it, at any type of items.
-use Rattle.std.proofs.Common.{◌≡◌, ℕ, ◌+◌, ◌*◌, ◌≤◌, ◌<◌, [], ◌∷◌, length, get_or, refl, ap, ◌∙◌, add_comm, arith}
+use Rattle.std.proofs.Common.{◌≡◌, ℕ, ◌+◌, ◌*◌, ◌≤◌, ◌<◌, [], ◌∷◌, length, get_or, refl, sym, ap, subst, ◌∙◌, add_comm, arith}
 use seplogic.Ra.Ura.{Ura}
 use mir.Syntax.{Fn, named, ty_ptr}
 use mir.MapTy.{inst_fn}
@@ -17,7 +17,7 @@ use types.Run.{stop, addr, of_opd, first, blocks, exec, returns, enter}
 use types.ByLocal.{alloc_all, pass_all, free_all, look_at, get, through, sets, sets_last, take_at, give_at, env}
 use denote.Exit.{yes, no}
 use denote.RattleType.{owns}
-use denote.RawPtr.{Ptr, block_ptr, ptr_val, ◌+ₚ◌, rawptr_vals, rawptr_Tells, rawptr_Lawful}
+use denote.RawPtr.{Ptr, InBlock, block_ptr, ptr_val, ◌+ₚ◌, rawptr_vals, rawptr_Tells, rawptr_Lawful}
 use denote.Ref.{MutBor, MutRef, mut_vals, mut_Tells}
 use denote.Builtin.{RefMutOf, RawPtr}
 use denote.Follow.{follows}
@@ -28,7 +28,8 @@ use denote.Triple.Clauses.{Clauses, Ended, closing}
 use denote.Triple.Entry.{on_entry}
 use denote.Triple.Spec.{Meets, triple_of}
 use denote.Triple.Table.{entered, run_framed}
-use denote.Triple.Walked.{says, needs, Stays, stay_dropped, walk_of, ends_at, walked, Goes-dropped, Goes-spent_ref, walk_Meets}
+use denote.Triple.Walked.{needs, Stays, stay_dropped, walk_of, ends_at, walked, Goes-dropped, Goes-spent_ref, walk_Meets}
+use Rattle.std.proofs.mem.Facts.{says_two}
 use Rattle.std.proofs.ptr.Rows.{hd}
 use Rattle.std.proofs.slice.Lists.{any-default}
 use Rattle.std.specs.Vec.{with_item}
@@ -37,9 +38,9 @@ use Rattle.std.proofs.VecSteps.Opens.{vec_opens}
 use Rattle.std.proofs.VecSteps.Element.{Got, lends}
 use Rattle.std.proofs.VecSteps.Shapes.{after}
 use Rattle.lfs_recency.specs.Places.{item_number, IsItemPlace}
-use Rattle.lfs_recency.specs.contracts.place.item_at_mut.Key.{name as #self}
-use Rattle.lfs_recency.proofs.place.item_at_mut.Statement as stated
-use Rattle.lfs_recency.proofs.place.item_at_mut.Code as code
+use Rattle.lfs_recency.specs.contracts.links.item_at_mut.Key.{name as #self}
+use Rattle.lfs_recency.proofs.links.item_at_mut.Statement as stated
+use Rattle.lfs_recency.proofs.links.item_at_mut.Code as code
 
 module _ (E : El) where
   abbrev function : Fn
@@ -59,7 +60,7 @@ module _ (E : El) where
   clauses {𝓤 = 𝓤} 𝓛 κs a = record {
     ghost = Unit {0};
     requires = λ _. fact 𝓤 (IsItemPlace (sz E) a.0.now.ptr a.0.now.len a.1.0);
-    ensures = λ _ r _. sep 𝓤 (sem 𝓛 (follows (Vr E) (R E) a.0.ghost_name r.ghost_name (with_item a.0.now (number a.0.now a.1.0)))) (fact 𝓤 (r.now ≡ get_or a.0.now.items (number a.0.now a.1.0) r.now));
+    ensures = λ _ r _. sep 𝓤 (sem 𝓛 (follows (Vr E) (R E) a.0.ghost_name r.ghost_name (with_item a.0.now (number a.0.now a.1.0)))) (sep 𝓤 (fact 𝓤 (r.now ≡ get_or a.0.now.items (number a.0.now a.1.0) r.now)) (fact 𝓤 (InBlock a.0.now.ptr)));
   }
 
 module _ (E : El) {M : Type 1} {𝓤 : Ura M} (𝓛 : Logic 𝓤) (κ : Lft) (q : Share) (rb ro : ℕ) (γ : GName) (h : el_d E) (p : Ptr) where
@@ -77,12 +78,12 @@ module _ (E : El) {M : Type 1} {𝓤 : Ura M} (𝓛 : Logic 𝓤) (κ : Lft) (q 
   abbrev i : ℕ
   i = number E h p
 
-  exits : (b o : ℕ) (x : el_x E) → x ≡ get_or (el_items E h) i x → (γ' : GName) → ent 𝓤 (Got E 𝓛 κ q rb ro γ h i b o x γ') (Post (vptr b (i * sz E + o)))
-  exits b o x e γ' =
+  exits : (b o : ℕ) (x : el_x E) → x ≡ get_or (el_items E h) i x → InBlock h.ptr → (γ' : GName) → ent 𝓤 (Got E 𝓛 κ q rb ro γ h i b o x γ') (Post (vptr b (i * sz E + o)))
+  exits b o x e inside γ' =
       let lent : MutBor (el_x E) = record { ref_ptr = (b, i * sz E + o); ghost_name = γ'; now = x } in
       qed 𝓛 (‵ ((MutRef (named 0) κ (R E)).own_val lent (vptr b (i * sz E + o) ∷ [])) ∷ ‵ (flft κ q) ∷ ‵ (follows (Vr E) (R E) γ γ' (with_item h i)) ∷ []) ∵
       suffices ! _ (ends_at 𝓛 (ended E) (stayed E) (clauses E 𝓛) bound (vptr b (i * sz E + o)) lent (tt, (tt, tt)) (tt, (tt, tt))) $
-      nothing ! $ nothing ! $ fjoin ! $ nothing ! $ fjoin ! $ join ! $ nothing ! $ move ! (2 ∷ 0 ∷ []) $ join ! $ join ! $ frame ! $ says ! e $ done !
+      nothing ! $ nothing ! $ fjoin ! $ nothing ! $ fjoin ! $ join ! $ nothing ! $ move ! (2 ∷ 0 ∷ []) $ join ! $ join ! $ frame ! $ says_two ! (e, inside) $ done !
 
   module _ (C : Calls 𝓤 H) (Λ : Loops 𝓤 H) where
     walk : IsItemPlace (sz E) h.ptr (el_len E h) p → ent 𝓤 (on_entry 𝓛 (ended E).signature (κ, tt) (q, tt) (lender, (p, tt)) (vptr rb ro ∷ [], (ptr_val p ∷ [], tt))) (WpFn 𝓤 H C Λ (function E) (vptr rb ro ∷ ptr_val p ∷ []) Post)
@@ -108,7 +109,7 @@ module _ (E : El) {M : Type 1} {𝓤 : Ura M} (𝓛 : Logic 𝓤) (κ : Lft) (q 
         sets ! (of_opd ! (get ! refl)) refl (tt, tt) $
         group ! 7 $ use1 𝓛 (later (some (λ (γ' : GName). raw (Got E 𝓛 κ q rb ro γ h i b o x γ')))) (lends E 𝓛 κ q rb ro γ h i b o at_b below fl fc fit some_room d) $ await ! tt $ pick ! (λ γ'.
         returns ! (look_at ! 0 refl) $ free_all ! refl $
-        keep ! (0 ∷ []) $ by ! (exits b o x (any-default (el_items E h) i d x listed) γ'))))
+        keep ! (0 ∷ []) $ by ! (exits b o x (any-default (el_items E h) i d x listed) (subst InBlock (sym at_b) tt) γ'))))
 
 meets : (E : El) {M : Type 1} {𝓤 : Ura M} (𝓛 : Logic 𝓤) (𝓣 : Tables 𝓤 𝓛.H)
     → Meets 𝓛 (ended E).signature (WpFn 𝓤 𝓛.H 𝓣.C 𝓣.Λ (function E)) (closing 𝓛 (ended E) (clauses E 𝓛))
