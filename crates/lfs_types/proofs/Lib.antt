@@ -1,1 +1,5 @@
 pub mod Cuts
+pub mod Maps
+pub mod NameLemmas
+pub mod Pieces
+pub mod Somewhere

@@ -1,5 +1,7 @@
+pub mod Blocks
 pub mod Caller
 pub mod Changes
+pub mod Copying
 pub mod Credentials
 pub mod FlagNumbers
 pub mod Kinds
@@ -10,5 +12,6 @@ pub mod Paths
 pub mod RuleCodes
 pub mod Shown
 pub mod Splicing
+pub mod StoreStates
 pub mod Stored
 pub mod Tree

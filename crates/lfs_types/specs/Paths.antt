@@ -47,18 +47,25 @@ path_fault text =
     (if nat_lt 1024 (length text) then Some Long else names_fault 1 (names_of_text text))
     else Some NotAbsolute
 
--- What parsing names, the first of them component k, may answer. Memory may run out before a later fault is met.
+-- the first name is there and has no fault, and so was to be kept
+abbrev pub StartsWell : List (List ℕ) → Type 0
+StartsWell [] = ⊥
+StartsWell (name ∷ names) = name_fault name ≡ None
+
+-- What parsing names, the first of them component k, may answer. Memory may run out at a name without a fault, before
+-- a later fault is met.
 abbrev pub ParsesNames : ℕ → List (List ℕ) → Result (List (List ℕ)) BadPath → Type 0
 ParsesNames k names (Ok parsed) = (names_fault k names ≡ None) × (parsed ≡ names)
-ParsesNames k names (Err Memory) = Unit {0}
+ParsesNames k names (Err Memory) = StartsWell names
 ParsesNames k names (Err NotAbsolute) = names_fault k names ≡ Some NotAbsolute
 ParsesNames k names (Err Long) = names_fault k names ≡ Some Long
 ParsesNames k names (Err (Name component fault)) = names_fault k names ≡ Some (Name component fault)
 
--- What parsing a text as a path may answer. Memory is asked for only where the text is absolute and not too long.
+-- What parsing a text as a path may answer. Memory is asked for only where the text is absolute and not too long, and
+-- its first name has no fault.
 abbrev pub ParsesPath : List ℕ → Result (List (List ℕ)) BadPath → Type 0
 ParsesPath text (Ok names) = (path_fault text ≡ None) × (names ≡ names_of_text text)
-ParsesPath text (Err Memory) = (is_absolute text ≡ true) × (length text ≤ 1024)
+ParsesPath text (Err Memory) = (is_absolute text ≡ true) × (length text ≤ 1024) × StartsWell (names_of_text text)
 ParsesPath text (Err NotAbsolute) = path_fault text ≡ Some NotAbsolute
 ParsesPath text (Err Long) = path_fault text ≡ Some Long
 ParsesPath text (Err (Name component fault)) = path_fault text ≡ Some (Name component fault)

@@ -5,16 +5,19 @@
 pub mod answer;
 pub mod attrs;
 pub mod block;
+pub mod cleaner;
 pub mod cred;
 pub mod fault;
 pub mod file_flags;
 pub mod level;
+pub mod limits;
 pub mod mode;
 pub mod name;
 pub mod path;
 pub mod payload;
 pub mod request;
 pub mod rule;
+pub mod script;
 pub mod store;
 #[cfg(test)]
 mod tests;

@@ -3,12 +3,16 @@
 ghost use Rattle.std.specs.Prelude.{◌≡◌, ◌<◌, ◌≤◌, length, IfOk};
 ghost use Rattle.lfs_types.specs.Naming.{ParsesName, name_fault};
 
+use smallvec::SmallVec;
 use std::alloc::{AllocError, Global};
 use std::marker::Model;
 use thiserror::Error;
 
 /// The most bytes that a name may have (4.4BSD's `NAME_MAX`).
 pub const NAME_MAX: usize = 255;
+
+/// A name of at most so many bytes lies in the value itself and takes no memory.
+const INLINE_BYTES: usize = 24;
 
 /// Why bytes are no name: the first of these that holds (this project's profile).
 #[derive(Clone, Copy, PartialEq, Eq, Debug, Error)]
@@ -36,7 +40,7 @@ pub enum BadName {
 /// A name in a directory: 1 to 255 bytes without `/` and the zero byte, and neither `.` nor `..`.
 #[derive(Drop, Debug)]
 pub struct Name {
-    bytes: Vec<u8>,
+    bytes: SmallVec<u8, INLINE_BYTES>,
 }
 
 impl Model for Name {
@@ -58,7 +62,7 @@ impl Name {
         if let Some(fault) = fault_of(bytes) {
             return Err(fault);
         }
-        match Vec::from_slice(alloc, bytes) {
+        match SmallVec::from_slice(alloc, bytes) {
             Ok(bytes) => Ok(Name { bytes }),
             Err(AllocError) => Err(BadName::Memory),
         }
@@ -78,7 +82,7 @@ impl Name {
     pub fn try_clone(&self, alloc: Global) -> Result<Name, AllocError>
         ensures { IfOk result (λ copy. copy ≡ self.now) }
     {
-        let bytes = Vec::from_slice(alloc, self.bytes.as_slice())?;
+        let bytes = SmallVec::from_slice(alloc, self.bytes.as_slice())?;
         Ok(Name { bytes })
     }
 }

@@ -1,6 +1,6 @@
 //! Absolute paths.
 
-ghost use Rattle.std.specs.Prelude.{◌≡◌, ◌≤◌, length, option_copied, IfOk, MatchOption, false, ◌∷◌, position, ◌==◌};
+ghost use Rattle.std.specs.Prelude.{◌≡◌, ◌≤◌, length, option_copied, IfOk, IfErr, OnOk, MatchOption, false, [], ◌∷◌, ◌++◌, position, ◌==◌};
 ghost use Rattle.lfs_types.specs.Paths.{ParsesPath, ParsesNames, IsCut, is_absolute, items_of, parts, path_text, slashed};
 
 use crate::name::{BadName, Name, clone_names};
@@ -132,7 +132,19 @@ fn cut_at_slash(text: &[u8]) -> (&[u8], Option<&[u8]>)
     }
 }
 
+/// Adds a name behind others.
+fn keep(names: &mut Vec<Name>, name: Name) -> Result<(), BadPath>
+    ensures kept { OnOk result (names.new.items ≡ names.old.items ++ name ∷ []) }
+    ensures memory { IfErr result (λ fault. fault ≡ BadPath.Memory) }
+{
+    match names.push(name) {
+        Ok(()) => Ok(()),
+        Err(_) => Err(BadPath::Memory),
+    }
+}
+
 /// The names between the slashes of a text, the first being component 1.
+#[tactic(auto, using(crate::proofs::NameLemmas::starts_append, crate::proofs::NameLemmas::starts_well))]
 fn names_of(alloc: Global, text: &[u8]) -> Result<Vec<Name>, BadPath>
     requires { length text.now ≤ 1024 }
     ensures { ParsesNames 1 (parts text.now) (items_of result) }
@@ -147,9 +159,7 @@ fn names_of(alloc: Global, text: &[u8]) -> Result<Vec<Name>, BadPath>
             Err(BadName::Memory) => return Err(BadPath::Memory),
             Err(fault) => return Err(BadPath::Name(component, fault)),
         };
-        if names.push(name).is_err() {
-            return Err(BadPath::Memory);
-        }
+        keep(&mut names, name)?;
         match behind {
             None => return Ok(names),
             Some(behind) => rest = behind,

@@ -1,6 +1,7 @@
 //! What a user asks.
 
-ghost use Rattle.std.specs.Prelude.{◌≡◌, IfOk};
+ghost use Rattle.std.specs.Prelude.{◌≡◌, IfOk, IsErr};
+ghost use Rattle.lfs_types.specs.Copying.{HoldsPath};
 
 use crate::file_flags::FileFlags;
 use crate::level::Level;
@@ -115,12 +116,15 @@ pub enum Request {
         /// The new level.
         level: Level,
     },
+    /// Writes what waits to be written (4.4BSD's sync(2)).
+    Sync,
 }
 
 impl Request {
-    /// A request equal to this one.
+    /// A request equal to this one. Only a path and bytes take memory.
     pub fn try_clone(&self, alloc: Global) -> Result<Request, AllocError>
-        ensures { IfOk result (λ copy. copy ≡ self.now) }
+        ensures copy { IfOk result (λ copy. copy ≡ self.now) }
+        ensures memory { IsErr result → HoldsPath self.now }
     {
         Ok(match self {
             Request::Stat { path } => Request::Stat {
@@ -175,6 +179,7 @@ impl Request {
                 flags: *flags,
             },
             Request::SetLevel { level } => Request::SetLevel { level: *level },
+            Request::Sync => Request::Sync,
         })
     }
 }

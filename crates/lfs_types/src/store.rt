@@ -1,10 +1,10 @@
 //! The trait of a file store: files by number, with no names and no permissions.
 
-ghost use Rattle.std.specs.Prelude.{◌≡◌, ◌≤◌, ℕ, Bool, length, IsSome, IfErr, OnOk, OnErr};
+ghost use Rattle.std.specs.Prelude.{◌≡◌, [], length, IsSome};
 ghost use Rattle.std.specs.FinMap.{get};
-ghost use Rattle.lfs_types.specs.Tree.{Content};
-ghost use Rattle.lfs_types.specs.Changes.{applied, CanApply};
-ghost use Rattle.lfs_types.specs.Stored.{shown_attrs, bytes_of, slice_of, Reads, IsLeastFree, MayRefuse};
+ghost use Rattle.lfs_types.specs.Changes.{CanApply};
+ghost use Rattle.lfs_types.specs.StoreStates.{Applies, StoreState};
+ghost use Rattle.lfs_types.specs.Stored.{shown_attrs, bytes_of, slice_of, Reads, IsLeastFree};
 
 use crate::attrs::Attrs;
 use thiserror::Error;
@@ -60,53 +60,38 @@ pub enum StoreRefusal {
     NoMemory,
 }
 
-/// A store of files by number. Contracts see its content as a finite map, however it is kept.
+/// A store of files by number. Contracts see one state of it: its content as a finite map, however it is kept,
+/// the number of its clean segments, and what no call changes.
 pub trait FileStore {
-    /// What it contains.
-    ghost content: { Self → Content };
-
-    /// How many inode numbers it has; no call changes this.
-    ghost numbers: { Self → ℕ };
-
-    /// How many segments it has; no call changes this.
-    ghost segments: { Self → ℕ };
-
-    /// How many of its segments are clean.
-    ghost clean: { Self → ℕ };
-
-    /// Whether its changes take memory, and so can lack it.
-    ghost can_lack_memory: { Bool };
+    /// The state that contracts see.
+    ghost state: { Self → StoreState };
 
     /// The attributes of a number, if it is in use.
     fn attrs(&self, ino: u32) -> Option<Attrs>
-        ensures { result ≡ shown_attrs (content self.now) ino };
+        ensures { result ≡ shown_attrs (state self.now).content ino };
 
     /// Reads a file's bytes from `off` on, as many as there are and the buffer takes, and says how many.
     fn read(&mut self, ino: u32, off: u64, into: &mut [u8]) -> usize
-        requires { IsSome (get (content self.old) ino) }
-        ensures reads { Reads (slice_of (bytes_of (content self.old) ino) off (length into.old)) result into.old into.new }
-        ensures content { content self.new ≡ content self.old }
-        ensures clean { clean self.new ≡ clean self.old }
-        ensures numbers { numbers self.new ≡ numbers self.old }
-        ensures segments { segments self.new ≡ segments self.old };
+        requires { IsSome (get (state self.old).content ino) }
+        ensures reads { Reads (slice_of (bytes_of (state self.old).content ino) off (length into.old)) result into.old into.new }
+        ensures state { state self.new ≡ state self.old };
 
     /// The least free number from 4 up, if there is one below the number of inode numbers.
     fn least_free(&self) -> Option<u32>
-        ensures { IsLeastFree (numbers self.now) (content self.now) result };
+        ensures { IsLeastFree (state self.now).shape.numbers (state self.now).content result };
 
     /// How many segments are clean.
     fn clean_segments(&self) -> u32
-        ensures { result ≡ clean self.now };
+        ensures { result ≡ (state self.now).clean };
 
     /// Makes all the changes, in order, or none of them.
     fn apply(&mut self, changes: &[Change<'_>]) -> Result<(), StoreRefusal>
-        requires { CanApply (numbers self.old) changes.now (content self.old) }
-        ensures ok { OnOk result (content self.new ≡ applied changes.now (content self.old)) }
-        ensures err { OnErr result (content self.new ≡ content self.old) }
-        ensures refused { IfErr result (MayRefuse (clean self.old) can_lack_memory) }
-        ensures clean { clean self.new ≤ clean self.old }
-        ensures numbers { numbers self.new ≡ numbers self.old }
-        ensures segments { segments self.new ≡ segments self.old };
+        requires { CanApply (state self.old).shape.numbers changes.now (state self.old).content }
+        ensures { Applies (state self.old) changes.now result (state self.new) };
+
+    /// Writes what waits to be written. The content stays.
+    fn sync(&mut self) -> Result<(), StoreRefusal>
+        ensures { Applies (state self.old) [] result (state self.new) };
 }
 
 /// The numbers with which a volume is laid out.
