@@ -2,8 +2,9 @@ pub mod BytesLemmas
 pub mod EntryLemmas
 pub mod LogLemmas
 pub mod MemoryLemmas
+pub mod NamesLemmas
+pub mod PaddedLemmas
 pub mod ReadingLemmas
-pub mod SegmentLemmas
 pub mod SummaryLemmas
 pub mod TestLemmas
-pub mod WindowLemmas
+pub mod WritingLemmas

@@ -1,97 +1,146 @@
--- The blocks that a log names: what a summary adds, what blocks behind others add, and where it ends.
-use Rattle.std.proofs.Common.{◌≡◌, ℕ, zero, suc, ◌+◌, List, [], ◌∷◌, ◌++◌, Option, Some, None, option_and_then, option_map, unwrap_or, length, replicate, refl, sym, ap, ◌∙◌, arith}
-use Rattle.std.proofs.lemmas.Option.{none-some, same_Some}
-use Rattle.std.proofs.lemmas.List.{length-take}
-use Rattle.std.proofs.Math.Nat.{add-zero}
-use Rattle.std.specs.List.{enumerate_from}
+-- What the log of a segment expects and names, address by address.
+use Rattle.std.proofs.Common.{◌≡◌, ℕ, zero, suc, ◌+◌, ◌-◌, ◌*◌, ◌/◌, ◌<◌, ◌≤◌, List, [], ◌∷◌, ◌++◌, Option, Some, None, option_and_then, length, drop, refl, sym, ap, ◌∙◌, arith, append_assoc, append-nil}
+use Rattle.std.specs.List.{slice_get}
+use Rattle.lfs_types.specs.Blocks.{zero_block}
 use Rattle.lfs_segments.specs.declared.entry.SummaryEntry.{SummaryEntry}
-use Rattle.lfs_segments.specs.declared.summary.Summary.{Summary}
-use Rattle.lfs_segments.specs.Log.{after_block, after_blocks, named}
-use Rattle.lfs_segments.specs.Reading.{is_summary, named_by, summary_entries}
-use Rattle.lfs_segments.specs.Memory.{zero_block}
-use Rattle.lfs_segments.specs.Summary.{IsSummaryBlock}
-use Rattle.lfs_segments.proofs.ReadingLemmas.{summary_entries-spelled}
+use Rattle.lfs_segments.specs.Log.{Expects, after_block, entry_at, expected, expected_at, first_of, log_block, named_one, names_from}
+use Rattle.lfs_segments.specs.Memory.{IsLaidOut, SegmentMemory, block_at, next_address}
+use Rattle.lfs_segments.specs.Reading.{summary_entries}
+use Rattle.lfs_segments.proofs.MemoryLemmas.{log_start-le}
+use Rattle.lfs_segments.proofs.ReadingLemmas.{summary_entries-zero_block}
 
-append_step : (o : Option (List SummaryEntry)) (address : ℕ) (xs ys : List (List ℕ)) (rest : List SummaryEntry)
-    → ((entries : List SummaryEntry) → after_blocks entries xs ≡ Some rest → named (address + 1) entries (xs ++ ys) ≡ named (address + 1) entries xs ++ named (address + 1 + length xs) rest ys)
-    → option_and_then (λ entries. after_blocks entries xs) o ≡ Some rest
-    → unwrap_or (option_map (λ entries. named (address + 1) entries (xs ++ ys)) o) [] ≡ unwrap_or (option_map (λ entries. named (address + 1) entries xs) o) [] ++ named (address + 1 + length xs) rest ys
-append_step None address xs ys rest each h = absurd (none-some rest h)
-append_step (Some entries) address xs ys rest each h = each entries h
+-- the entry of the next block, if some are expected
+abbrev pub next_entry : Option (List SummaryEntry) → Option SummaryEntry
+next_entry expectation = option_and_then (λ entries. slice_get entries 0) expectation
 
--- where the log goes on behind some blocks, what it names goes on too
-pub named-append : (address : ℕ) (expected : List SummaryEntry) (xs ys : List (List ℕ)) (rest : List SummaryEntry)
-    → after_blocks expected xs ≡ Some rest → named address expected (xs ++ ys) ≡ named address expected xs ++ named (address + length xs) rest ys
-named-append address [] [] ys rest h = let same = same_Some [] rest h in rw (← same, add-zero) refl
-named-append address (entry ∷ expected) [] ys rest h =
-    let same = same_Some (entry ∷ expected) rest h in rw (← same, add-zero) refl
-named-append address [] (x ∷ xs) ys rest h =
-    append_step (summary_entries x) address xs ys rest (λ entries goes. named-append (address + 1) entries xs ys rest goes) h
-    ∙ ap (λ (n : ℕ). named address [] (x ∷ xs) ++ named n rest ys) (omega arith)
-named-append address (entry ∷ expected) (x ∷ xs) ys rest h =
-    ap (λ tail. (address, entry) ∷ tail)
-    (named-append (address + 1) expected xs ys rest h
-    ∙ ap (λ (n : ℕ). named (address + 1) expected xs ++ named n rest ys) (omega arith))
+-- logs that agree on their first blocks expect the same behind them
+pub expected-same : (f g : ℕ → List ℕ) (n : ℕ) → ((k : ℕ) → k < n → f k ≡ g k) → expected f n ≡ expected g n
+unfolding expected
+expected-same f g zero same = refl
+expected-same f g (suc n) same =
+    rw (expected-same f g n (λ k below. same k (omega arith)), same n (omega arith)) refl
 
-ended_step : (o : Option (List SummaryEntry)) (address : ℕ) (xs ys : List (List ℕ))
-    → ((entries : List SummaryEntry) → after_blocks entries xs ≡ None → named (address + 1) entries (xs ++ ys) ≡ named (address + 1) entries xs)
-    → option_and_then (λ entries. after_blocks entries xs) o ≡ None
-    → unwrap_or (option_map (λ entries. named (address + 1) entries (xs ++ ys)) o) [] ≡ unwrap_or (option_map (λ entries. named (address + 1) entries xs) o) []
-ended_step None address xs ys each h = refl
-ended_step (Some entries) address xs ys each h = each entries h
+-- one block more
+pub expected-more : (f : ℕ → List ℕ) (n : ℕ) (entries : List SummaryEntry) → expected f n ≡ Some entries → expected f (n + 1) ≡ after_block entries (f n)
+unfolding expected
+expected-more f n entries e = let one : n + 1 ≡ suc n = omega arith in rw (one, e) refl
 
--- where it has ended, nothing is added
-pub named-append_ended : (address : ℕ) (expected : List SummaryEntry) (xs ys : List (List ℕ)) → after_blocks expected xs ≡ None → named address expected (xs ++ ys) ≡ named address expected xs
-named-append_ended address [] [] ys h = absurd (none-some [] (sym h))
-named-append_ended address (entry ∷ expected) [] ys h = absurd (none-some (entry ∷ expected) (sym h))
-named-append_ended address [] (x ∷ xs) ys h =
-    ended_step (summary_entries x) address xs ys (λ entries ends. named-append_ended (address + 1) entries xs ys ends) h
-named-append_ended address (entry ∷ expected) (x ∷ xs) ys h =
-    ap (λ tail. (address, entry) ∷ tail) (named-append_ended (address + 1) expected xs ys h)
+-- a log that has ended stays so
+pub expected-ended : (f : ℕ → List ℕ) (n j : ℕ) → expected f n ≡ None → expected f (n + j) ≡ None
+unfolding expected
+expected-ended f n zero e = let none : n + 0 ≡ n = omega arith in rw (none, e) refl
+expected-ended f n (suc j) e = let one : n + suc j ≡ suc (n + j) = omega arith in rw (one, expected-ended f n j e) refl
 
-after_step : (o : Option (List SummaryEntry)) (xs ys : List (List ℕ))
-    → ((entries : List SummaryEntry) → after_blocks entries (xs ++ ys) ≡ option_and_then (λ rest. after_blocks rest ys) (after_blocks entries xs))
-    → option_and_then (λ entries. after_blocks entries (xs ++ ys)) o ≡ option_and_then (λ rest. after_blocks rest ys) (option_and_then (λ entries. after_blocks entries xs) o)
-after_step None xs ys each = refl
-after_step (Some entries) xs ys each = each entries
+-- the blocks of the entries are expected in turn, whatever they are
+pub expected-entries : (f : ℕ → List ℕ) (n j : ℕ) (entries : List SummaryEntry) → expected f n ≡ Some entries → j ≤ length entries → expected f (n + j) ≡ Some (drop j entries)
+expected-entries f n zero entries e within = let none : n + 0 ≡ n = omega arith in rw none e
+expected-entries f n (suc j) [] e within = absurd (omega arith)
+expected-entries f n (suc j) (entry ∷ entries) e within =
+    let one : n + suc j ≡ n + 1 + j = omega arith in
+    ap (expected f) one ∙ expected-entries f (n + 1) j entries (expected-more f n (entry ∷ entries) e) (omega arith)
 
--- what is expected behind two runs of blocks
-pub after_blocks-append : (expected : List SummaryEntry) (xs ys : List (List ℕ)) → after_blocks expected (xs ++ ys) ≡ option_and_then (λ rest. after_blocks rest ys) (after_blocks expected xs)
-after_blocks-append expected [] ys = refl
-after_blocks-append expected (x ∷ xs) ys =
-    after_step (after_block expected x) xs ys (λ entries. after_blocks-append entries xs ys)
+-- behind whole partial segments zeros are no log
+pub expected-zeros : (f : ℕ → List ℕ) (n j : ℕ) → expected f n ≡ Some [] → f n ≡ zero_block → expected f (n + suc j) ≡ None
+expected-zeros f n j e at =
+    let one : n + suc j ≡ n + 1 + j = omega arith in
+    ap (expected f) one ∙ expected-ended f (n + 1) j (expected-more f n [] e ∙ ap summary_entries at ∙ summary_entries-zero_block)
 
--- the blocks of some entries are named by them, and then a summary is expected
-pub named-entries : (address : ℕ) (entries : List SummaryEntry) (blocks : List (List ℕ)) → length blocks ≡ length entries → named address entries blocks ≡ enumerate_from address entries
-named-entries address [] [] h = refl
-named-entries address [] (block ∷ blocks) h = absurd (omega arith)
-named-entries address (entry ∷ entries) [] h = absurd (omega arith)
-named-entries address (entry ∷ entries) (block ∷ blocks) h =
-    ap (λ tail. (address, entry) ∷ tail) (named-entries (address + 1) entries blocks (omega arith))
+-- and name nothing
+next_entry-zeros : (f : ℕ → List ℕ) (n j : ℕ) → expected f n ≡ Some [] → (0 < j → f n ≡ zero_block) → next_entry (expected f (n + j)) ≡ None
+next_entry-zeros f n zero e at = let none : n + 0 ≡ n = omega arith in rw (none, e) refl
+next_entry-zeros f n (suc j) e at = rw (expected-zeros f n j e (at (omega arith))) refl
 
-pub after_blocks-entries : (entries : List SummaryEntry) (blocks : List (List ℕ)) → length blocks ≡ length entries → after_blocks entries blocks ≡ Some []
-after_blocks-entries [] [] h = refl
-after_blocks-entries [] (block ∷ blocks) h = absurd (omega arith)
-after_blocks-entries (entry ∷ entries) [] h = absurd (omega arith)
-after_blocks-entries (entry ∷ entries) (block ∷ blocks) h = after_blocks-entries entries blocks (omega arith)
+pub next_entry-zeros_from : (f : ℕ → List ℕ) (n k : ℕ) → n ≤ k → expected f n ≡ Some [] → (n < k → f n ≡ zero_block) → next_entry (expected f k) ≡ None
+next_entry-zeros_from f n k from e at =
+    let sum : k ≡ n + (k - n) = omega arith in
+    ap (λ (i : ℕ). next_entry (expected f i)) sum ∙ next_entry-zeros f n (k - n) e (λ some. at (omega arith))
 
-length-named_by : (s : Summary) → length (named_by s) ≡ s.count
-length-named_by s = let whole = s.whole in let at_most = s.at_most in simp length-take (omega arith)
+-- an address whose segment is known
+pub entry_at-in : (m : SegmentMemory) (segment address : ℕ) → address / 64 ≡ segment → entry_at m address ≡ next_entry (expected_at m segment address)
+unfolding entry_at
+entry_at-in m segment address here = ap (λ (s : ℕ). next_entry (expected_at m s address)) here
 
--- a partial segment names its blocks
-pub named-partial : (address : ℕ) (block : List ℕ) (s : Summary) (blocks : List (List ℕ)) → IsSummaryBlock block s → length blocks ≡ s.count → named address [] (block ∷ blocks) ≡ enumerate_from (address + 1) (named_by s)
-named-partial address block s blocks p long =
-    rw (summary_entries-spelled block s p) (named-entries (address + 1) (named_by s) blocks (long ∙ sym (length-named_by s)))
+-- one address more, of a segment's log
+pub expected_at-more : (m : SegmentMemory) (segment address : ℕ) (entries : List SummaryEntry) → first_of segment ≤ address → expected_at m segment address ≡ Some entries
+    → expected_at m segment (address + 1) ≡ after_block entries (block_at m address)
+expected_at-more m segment address entries from e =
+    let one : address + 1 - first_of segment ≡ address - first_of segment + 1 = omega arith in
+    let at : first_of segment + (address - first_of segment) ≡ address = omega arith in
+    ap (expected (log_block m segment)) one
+    ∙ expected-more (log_block m segment) (address - first_of segment) entries e
+    ∙ ap (λ (a : ℕ). after_block entries (block_at m a)) at
 
-pub after_blocks-partial : (block : List ℕ) (s : Summary) (blocks : List (List ℕ)) → IsSummaryBlock block s → length blocks ≡ s.count → after_blocks [] (block ∷ blocks) ≡ Some []
-after_blocks-partial block s blocks p long =
-    rw (summary_entries-spelled block s p) (after_blocks-entries (named_by s) blocks (long ∙ sym (length-named_by s)))
+-- a segment's log begins with a summary
+pub expected_at-first : (m : SegmentMemory) (segment : ℕ) → expected_at m segment (first_of segment) ≡ Some []
+unfolding expected
+expected_at-first m segment = let none : first_of segment - first_of segment ≡ 0 = omega arith in rw none refl
 
--- a block without data is no summary
-pub summary_entries-zero_block : summary_entries zero_block ≡ None
-unfolding summary_entries is_summary zero_block
-summary_entries-zero_block = refl
+-- where it has ended, nothing more is named
+pub entry_at-ended : (m : SegmentMemory) (segment end address : ℕ) → expected_at m segment end ≡ None → end ≤ address → address / 64 ≡ segment → first_of segment ≤ end → entry_at m address ≡ None
+entry_at-ended m segment end address e past inside from =
+    let sum : address - first_of segment ≡ end - first_of segment + (address - end) = omega arith in
+    entry_at-in m segment address inside
+    ∙ ap (λ (n : ℕ). next_entry (expected (log_block m segment) n)) sum
+    ∙ ap next_entry (expected-ended (log_block m segment) (end - first_of segment) (address - end) e)
 
-pub named-zero_blocks : (address n : ℕ) → named address [] (replicate n zero_block) ≡ []
-named-zero_blocks address zero = refl
-named-zero_blocks address (suc n) = rw summary_entries-zero_block refl
+-- the entry of an address rests on the earlier blocks of its segment
+pub entry_at-same : (m n : SegmentMemory) (address : ℕ) → ((a : ℕ) → address / 64 * 64 ≤ a → a < address → block_at n a ≡ block_at m a) → entry_at n address ≡ entry_at m address
+unfolding entry_at
+entry_at-same m n address same =
+    let segment : ℕ = address / 64 in
+    ap next_entry (expected-same (log_block n segment) (log_block m segment) (address - first_of segment) (λ k below. same (first_of segment + k) (omega arith) (omega arith)))
+
+-- the names of addresses whose entries are the same
+pub names_from-same : (m n : SegmentMemory) (first count : ℕ) → ((a : ℕ) → first ≤ a → a < first + count → entry_at n a ≡ entry_at m a) → names_from n first count ≡ names_from m first count
+unfolding names_from
+names_from-same m n first zero same = refl
+names_from-same m n first (suc count) same =
+    rw (names_from-same m n first count (λ a from below. same a from (omega arith)), same (first + count) (omega arith) (omega arith)) refl
+
+-- one address more
+pub names_from-more : (m : SegmentMemory) (first count : ℕ) → names_from m first (count + 1) ≡ names_from m first count ++ named_one (first + count) (entry_at m (first + count))
+unfolding names_from
+names_from-more m first count = let one : count + 1 ≡ suc count = omega arith in rw one refl
+
+-- two runs of addresses
+pub names_from-append : (m : SegmentMemory) (first i j : ℕ) → names_from m first (i + j) ≡ names_from m first i ++ names_from m (first + i) j
+unfolding names_from
+names_from-append m first i zero = let none : i + 0 ≡ i = omega arith in rw none (sym (append-nil (names_from m first i)))
+names_from-append m first i (suc j) =
+    let one : i + suc j ≡ suc (i + j) = omega arith in
+    let at : first + (i + j) ≡ first + i + j = omega arith in
+    rw (one, names_from-append m first i j, at) (append_assoc (names_from m first i) (names_from m (first + i) j) (named_one (first + i + j) (entry_at m (first + i + j))))
+
+-- addresses without an entry
+pub names_from-none : (m : SegmentMemory) (first count : ℕ) → ((a : ℕ) → first ≤ a → a < first + count → entry_at m a ≡ None) → names_from m first count ≡ []
+unfolding names_from
+names_from-none m first zero none = refl
+names_from-none m first (suc count) none =
+    rw (names_from-none m first count (λ a from below. none a from (omega arith)), none (first + count) (omega arith) (omega arith)) refl
+
+-- the log names the blocks that it expects
+pub entry_at-pending : (m : SegmentMemory) (entries : List SummaryEntry) (k : ℕ) → IsLaidOut m → Expects m entries → k < length entries → entry_at m (next_address m + k) ≡ slice_get entries k
+entry_at-pending m entries k laid e inside =
+    let fit = e.fit in let begun = laid.begun in
+    let low = log_start-le m.active in
+    let first : ℕ = first_of m.active in
+    let sum : next_address m + k - first ≡ next_address m - first + k = omega arith in
+    entry_at-in m m.active (next_address m + k) (omega arith)
+    ∙ ap (λ (n : ℕ). next_entry (expected (log_block m m.active) n)) sum
+    ∙ ap next_entry (expected-entries (log_block m m.active) (next_address m - first) k entries e.pending (omega arith))
+    ∙ first-drop entries k
+  where
+    first-drop : (entries : List SummaryEntry) (k : ℕ) → slice_get (drop k entries) 0 ≡ slice_get entries k
+    first-drop entries zero = refl
+    first-drop [] (suc k) = refl
+    first-drop (entry ∷ entries) (suc k) = first-drop entries k
+
+-- and nothing behind its end
+pub entry_at-past : (m : SegmentMemory) (address : ℕ) → IsLaidOut m → Expects m [] → next_address m ≤ address → address < m.active * 64 + 64 → entry_at m address ≡ None
+entry_at-past m address laid e past inside =
+    let begun = laid.begun in
+    let first : ℕ = first_of m.active in
+    let at : first + (next_address m - first) ≡ next_address m = omega arith in
+    entry_at-in m m.active address (omega arith)
+    ∙ next_entry-zeros_from (log_block m m.active) (next_address m - first) (address - first) (omega arith) e.pending
+    (λ below. ap (block_at m) at ∙ e.zeros (next_address m) (omega arith) (omega arith))

@@ -1,11 +1,35 @@
 -- The memory stays laid out.
 use Rattle.std.proofs.Common.{◌≡◌, ℕ, zero, suc, ◌+◌, ◌-◌, ◌*◌, ◌/◌, ◌<◌, ◌≤◌, List, [], ◌∷◌, ◌++◌, All, length, get_or, take, drop, set, replicate, refl, sym, ap, ◌∙◌, arith}
-use Rattle.std.proofs.lemmas.List.{append_assoc, drop_more, length-append, length-drop, length-replicate, length-take, replicate_more, set-append_right}
+use Rattle.std.proofs.lemmas.List.{append_assoc, drop_more, get_or-append_right, get_or-drop, get_or-take, get_or_append_left, length-append, length-drop, length-replicate, length-take, length-take-le, replicate_more, set-append_right}
 use Rattle.std.proofs.lemmas.List.Elements.{All-append, All-cons, All-drop, All-from_get_or, All-replicate, All-take}
-use Rattle.lfs_segments.specs.Memory.{IsLaidOut, label, log_start, seen, written, zero_block}
+use Rattle.lfs_types.specs.Blocks.{zero_block}
+use Rattle.lfs_segments.specs.Memory.{IsLaidOut, label, log_start, seen, written}
 
 pub length-written : (blocks : List (List ℕ)) (place : ℕ) (others : List (List ℕ)) → place + length others ≤ length blocks → length (written blocks place others) ≡ length blocks
 length-written blocks place others fits = simp (length-append, length-take, length-drop) (omega arith)
+
+-- each block where others are written over a run of them
+module _ (blocks : List (List ℕ)) (place : ℕ) (others : List (List ℕ)) (fits : place + length others ≤ length blocks) where
+  front_long : length (take place blocks) ≡ place
+  front_long = length-take-le place blocks (omega arith)
+
+  pub get_or-written_before : (i : ℕ) (d : List ℕ) → i < place → get_or (written blocks place others) i d ≡ get_or blocks i d
+  get_or-written_before i d before =
+      let long = front_long in
+      get_or_append_left (take place blocks) _ d i (omega arith) ∙ get_or-take place blocks i d before
+
+  pub get_or-written_inside : (i : ℕ) (d : List ℕ) → i < length others → get_or (written blocks place others) (place + i) d ≡ get_or others i d
+  get_or-written_inside i d inside =
+      get_or-append_right (take place blocks) (others ++ drop (place + length others) blocks) place (place + i) d front_long (omega arith)
+      ∙ ap (λ (k : ℕ). get_or (others ++ drop (place + length others) blocks) k d) (omega arith)
+      ∙ get_or_append_left others (drop (place + length others) blocks) d i inside
+
+  pub get_or-written_after : (i : ℕ) (d : List ℕ) → place + length others ≤ i → get_or (written blocks place others) i d ≡ get_or blocks i d
+  get_or-written_after i d after =
+      get_or-append_right (take place blocks) (others ++ drop (place + length others) blocks) place i d front_long (omega arith)
+      ∙ get_or-append_right others (drop (place + length others) blocks) (length others) (i - place) d refl (omega arith)
+      ∙ get_or-drop (place + length others) blocks (i - place - length others) d
+      ∙ ap (λ (k : ℕ). get_or blocks k d) (omega arith)
 
 All-written : (P : List ℕ → Type 0) (blocks : List (List ℕ)) (place : ℕ) (others : List (List ℕ)) → All P blocks → All P others → All P (written blocks place others)
 All-written P blocks place others p q =

@@ -3,6 +3,7 @@ use Rattle.std.proofs.Common.{◌≡◌, ℕ, ◌+◌, ◌-◌, ◌*◌, ◌<◌
 use Rattle.std.proofs.lemmas.Bool.{cases_lt, eq-eqb, eqb-true, le-leb, leb-true, lt-ltb, ltb-true}
 use Rattle.std.proofs.lemmas.Option.{none-some}
 use Rattle.std.proofs.lemmas.List.{ext_get_or, get_or-append_right, get_or-take, get_or_append_left, get_or_past, length-append, length-replicate, length-take}
+use Rattle.lfs_types.specs.Blocks.{zero_block}
 use Rattle.lfs_segments.specs.declared.entry.SummaryEntry.{SummaryEntry}
 use Rattle.lfs_segments.specs.declared.summary.Summary.{Summary}
 use Rattle.lfs_segments.specs.Bytes.{half_at, word_at}
@@ -62,10 +63,20 @@ summary_entries-spelled bytes s p =
     ∙ sym (get_or-take s.count s.entries k unused inside)) in
     rw (is_summary-spelled bytes s p) (ap Some entries)
 
--- a block that passes the tests spells a summary
-pub summary_of : (bytes : List ℕ) → length bytes ≡ 512 → is_summary bytes ≡ true → (s : Summary) × IsSummaryBlock bytes s
+-- the tests of a summary, one by one
+record PassesEach (bytes : List ℕ) : Type 0 where
+  mark : word_at bytes 0 ≡ 0x4c46_5353
+  in_volume : word_at bytes 4 < 1024
+  some : 1 ≤ half_at bytes 10
+  at_most : half_at bytes 10 ≤ 40
+  fits : half_at bytes 8 + half_at bytes 10 ≤ 63
+  gap : word_at bytes 12 ≡ 0
+  entries : all_below (entry_passes bytes) (half_at bytes 10) ≡ true
+  zeros : all_below (byte_passes bytes) (512 - (16 + 12 * half_at bytes 10)) ≡ true
+
+passes_each : (bytes : List ℕ) → is_summary bytes ≡ true → PassesEach bytes
 unfolding is_summary entry_passes byte_passes
-summary_of bytes long h =
+passes_each bytes h =
     let n = half_at bytes 10 in
     let is_zero = all_below (byte_passes bytes) (512 - (16 + 12 * n)) in
     let are_entries = all_below (entry_passes bytes) n in
@@ -81,15 +92,40 @@ summary_of bytes long h =
     let p5 = both fits (has_gap && (are_entries && is_zero)) p4.1 in
     let p6 = both has_gap (are_entries && is_zero) p5.1 in
     let p7 = both are_entries is_zero p6.1 in
-    let small : n ≤ 40 = leb-true n 40 p4.0 in
+    record {
+      mark = eqb-true _ _ p1.0;
+      in_volume = ltb-true _ _ p2.0;
+      some = leb-true _ _ p3.0;
+      at_most = leb-true _ _ p4.0;
+      fits = leb-true _ _ p5.0;
+      gap = eqb-true _ _ p6.0;
+      entries = p7.0;
+      zeros = p7.1;
+    }
+
+-- a block that passes names at most 40 blocks, each by an entry
+pub count_of_summary : (bytes : List ℕ) → is_summary bytes ≡ true → half_at bytes 10 ≤ 40
+count_of_summary bytes h = (passes_each bytes h).at_most
+
+pub entries_of_summary : (bytes : List ℕ) → is_summary bytes ≡ true → (k : ℕ) → k < half_at bytes 10 → IsEntry (entry_from bytes (16 + 12 * k))
+unfolding entry_passes
+entries_of_summary bytes h k below =
+    let e = entry_from bytes (16 + 12 * k) in
+    let fact = may_name-true e.block e.number e.version (all_below-each (entry_passes bytes) (half_at bytes 10) (passes_each bytes h).entries k below) in
+    record { block = fact.0; owner = fact.1 }
+
+-- a block that passes the tests spells a summary
+pub summary_of : (bytes : List ℕ) → length bytes ≡ 512 → is_summary bytes ≡ true → (s : Summary) × IsSummaryBlock bytes s
+unfolding byte_passes
+summary_of bytes long h =
+    let n = half_at bytes 10 in
+    let tests = passes_each bytes h in
+    let small = tests.at_most in
     let front = entries_from bytes 16 n in
     let entries = front ++ replicate (40 - n) unused in
     let front_long : length front ≡ n = length-entries_from bytes 16 n in
     let at = λ (k : ℕ) (below : k < n). get_or_append_left front (replicate (40 - n) unused) unused k (omega arith) ∙ get_or-entries_from bytes 16 n k unused below in
-    let named : (k : ℕ) → k < n → IsEntry (get_or entries k unused) = λ k below.
-    let e = entry_from bytes (16 + 12 * k) in
-    let fact = may_name-true e.block e.number e.version (all_below-each (entry_passes bytes) n p7.0 k below) in
-    subst IsEntry (sym (at k below)) (record { block = fact.0; owner = fact.1 }) in
+    let named : (k : ℕ) → k < n → IsEntry (get_or entries k unused) = λ k below. subst IsEntry (sym (at k below)) (entries_of_summary bytes h k below) in
     let rest : (k : ℕ) → n ≤ k → get_or entries k unused ≡ unused = λ k past.
     get_or-append_right front (replicate (40 - n) unused) n k unused front_long past ∙ get_or-replicate_same (40 - n) unused (k - n) in
     let whole : length entries ≡ 40 = simp (length-append, length-replicate) (omega arith) in
@@ -97,7 +133,7 @@ summary_of bytes long h =
     subst (IsEntryAt bytes (16 + 12 * k)) (sym (at k below)) (spelled-entry_from bytes (16 + 12 * k)) in
     let zeros : (i : ℕ) → 16 + 12 * n ≤ i → slice_index bytes i ≡ 0 = λ i past. ⊎_elim
     (λ (inside : i < 512).
-    let byte = eqb-true _ _ (all_below-each (byte_passes bytes) (512 - (16 + 12 * n)) p7.1 (i - (16 + 12 * n)) (omega arith)) in
+    let byte = eqb-true _ _ (all_below-each (byte_passes bytes) (512 - (16 + 12 * n)) tests.zeros (i - (16 + 12 * n)) (omega arith)) in
     let place : i ≡ 16 + 12 * n + (i - (16 + 12 * n)) = omega arith in
     ap (λ (j : ℕ). slice_index bytes j) place ∙ byte)
     (λ (over : 512 ≤ i). get_or_past bytes i 0 (omega arith))
@@ -107,21 +143,21 @@ summary_of bytes long h =
       offset = half_at bytes 8;
       count = n;
       entries = entries;
-      in_volume = ltb-true _ _ p2.0;
-      some = leb-true _ _ p3.0;
+      in_volume = tests.in_volume;
+      some = tests.some;
       at_most = small;
-      in_segment = leb-true _ _ p5.0;
+      in_segment = tests.fits;
       whole = whole;
       named = named;
       rest = rest;
     } in (
       summary,
       record {
-        mark = eqb-true _ _ p1.0;
+        mark = tests.mark;
         segment = refl;
         offset = refl;
         count = refl;
-        gap = eqb-true _ _ p6.0;
+        gap = tests.gap;
         entries = spelled;
         rest = zeros;
       },
@@ -140,3 +176,8 @@ summary_entries-none bytes long none = none_named bytes (is_summary bytes) refl 
 pub entries_read : (bytes : List ℕ) (read : Option Summary) → length bytes ≡ 512 → IfSome read (λ s. IsSummaryBlock bytes s) → ((s : Summary) → IsSummaryBlock bytes s → read ≡ Some s) → option_map named_by read ≡ summary_entries bytes
 entries_read bytes None long found only = sym (summary_entries-none bytes long (λ s p. none-some s (only s p)))
 entries_read bytes (Some s) long found only = sym (summary_entries-spelled bytes s found)
+
+-- a block without data is no summary
+pub summary_entries-zero_block : summary_entries zero_block ≡ None
+unfolding summary_entries is_summary zero_block
+summary_entries-zero_block = refl

@@ -1,5 +1,6 @@
 -- Numbers in bytes, the highest byte first, by their place.
 use Rattle.std.specs.Prelude.{◌≡◌, ℕ, ◌+◌, ◌*◌, ◌<◌, List, length, slice_index}
+use Rattle.lfs_types.specs.declared.block.TheConstants.{BLOCK_SIZE}
 
 -- the number in the four bytes from a place
 abbrev pub word_at : List ℕ → ℕ → ℕ
@@ -13,5 +14,5 @@ half_at bytes place = 256 * slice_index bytes place + slice_index bytes (place +
 
 -- the bytes of a block
 pub record IsBlock (bytes : List ℕ) : Type 0 where
-  pub whole : length bytes ≡ 512
+  pub whole : length bytes ≡ BLOCK_SIZE
   pub bytes_below : (i : ℕ) → slice_index bytes i < 256

@@ -2,20 +2,22 @@
 use Rattle.std.specs.Prelude.{◌≡◌, ◌≢◌, ℕ, ◌+◌, ◌*◌, ◌<◌, ◌≤◌, List, length, slice_index_or, ⊤}
 use Rattle.std.specs.Coded.{Unit-prop, le_prop, ×_prop}
 use Rattle.std.proofs.Math.Nat.{ℕ_set}
+use Rattle.lfs_types.specs.declared.limits.TheConstants.{FILE_BLOCKS, MOST_INODES}
 use Rattle.lfs_segments.specs.declared.entry.LogicalBlock.{LogicalBlock}
 use Rattle.lfs_segments.specs.declared.entry.LogicalBlock.TheVariants.{Data, Single, Inodes}
 use Rattle.lfs_segments.specs.declared.entry.SummaryEntry.{SummaryEntry}
+use Rattle.lfs_segments.specs.declared.summary.TheConstants.{ENTRY_LIMIT}
 use Rattle.lfs_segments.specs.Bytes.{word_at}
 
 -- the number of the root, or of another file: 2, or 4 to 4,095
 pub record IsFileNumber (number : ℕ) : Type 0 where
   pub above : 2 ≤ number
   pub not_three : number ≢ 3
-  pub below : number < 4096
+  pub below : number < MOST_INODES
 
 -- a block that a file can have, or a block of inodes
 abbrev pub IsLogicalBlock : LogicalBlock → Type 0
-IsLogicalBlock (Data index) = index < 140
+IsLogicalBlock (Data index) = index < FILE_BLOCKS
 IsLogicalBlock Single = ⊤
 IsLogicalBlock Inodes = ⊤
 
@@ -48,7 +50,7 @@ pub record IsEntryAt (bytes : List ℕ) (place : ℕ) (e : SummaryEntry) : Type 
 
 -- forty entries, of which so many stand in a summary block, one after the other; those past them are unused
 pub record AreEntriesAt (bytes : List ℕ) (count : ℕ) (entries : List SummaryEntry) : Type 0 where
-  pub whole : length entries ≡ 40
+  pub whole : length entries ≡ ENTRY_LIMIT
   pub named : (k : ℕ) → k < count → IsEntry (slice_index_or entries k unused)
   pub spelled : (k : ℕ) → k < count → IsEntryAt bytes (16 + 12 * k) (slice_index_or entries k unused)
   pub rest : (k : ℕ) → count ≤ k → slice_index_or entries k unused ≡ unused

@@ -1,39 +1,73 @@
 -- The log of a segment, read forward block by block: which blocks it names, and what it expects of the next one.
-use Rattle.std.specs.Prelude.{◌≡◌, ℕ, ◌+◌, ◌-◌, ◌*◌, ◌≤◌, List, [], ◌∷◌, Option, Some, length, option_and_then, option_map, unwrap_or, take, drop, replicate}
+use Rattle.std.specs.Prelude.{◌≡◌, ℕ, zero, suc, ◌+◌, ◌-◌, ◌*◌, ◌/◌, ◌<◌, ◌≤◌, ◌⊎◌, List, [], ◌∷◌, ◌++◌, Option, Some, None, length, option_and_then}
+use Rattle.std.specs.List.{slice_get}
 use Rattle.lfs_segments.specs.declared.entry.SummaryEntry.{SummaryEntry}
-use Rattle.lfs_segments.specs.Memory.{SegmentMemory, log_start, zero_block}
-use Rattle.lfs_segments.specs.Reading.{summary_entries}
+use Rattle.lfs_segments.specs.declared.summary.Summary.{Summary}
+use Rattle.lfs_types.specs.declared.limits.TheConstants.{SEGMENT_BLOCKS}
+use Rattle.lfs_types.specs.Blocks.{zero_block}
+use Rattle.lfs_segments.specs.Memory.{SegmentMemory, block_at, log_start, next_address, room_of}
+use Rattle.lfs_segments.specs.Reading.{named_by, summary_entries}
+use Rattle.lfs_segments.specs.Summary.{IsSummaryBlock}
 
 -- What the log expects behind a block, if it goes on: the blocks of these entries, and then a summary.
 abbrev pub after_block : List SummaryEntry → List ℕ → Option (List SummaryEntry)
 after_block [] block = summary_entries block
 after_block (_ ∷ expected) block = Some expected
 
--- what it expects behind some blocks
-abbrev pub after_blocks : List SummaryEntry → List (List ℕ) → Option (List SummaryEntry)
-after_blocks expected [] = Some expected
-after_blocks expected (block ∷ blocks) = option_and_then (λ rest. after_blocks rest blocks) (after_block expected block)
+-- What it expects behind its first n blocks: at first a summary.
+unfoldable pub expected : (ℕ → List ℕ) → ℕ → Option (List SummaryEntry)
+expected blocks zero = Some []
+expected blocks (suc n) = option_and_then (λ entries. after_block entries (blocks n)) (expected blocks n)
 
--- the blocks that the log names from an address on, each with its address and its entry
-abbrev pub named : ℕ → List SummaryEntry → List (List ℕ) → List (ℕ × SummaryEntry)
-named address expected [] = []
-named address [] (block ∷ blocks) = unwrap_or (option_map (λ entries. named (address + 1) entries blocks) (summary_entries block)) []
-named address (entry ∷ expected) (block ∷ blocks) = (address, entry) ∷ named (address + 1) expected blocks
+-- the address at which the log of a segment begins
+abbrev pub first_of : ℕ → ℕ
+first_of segment = segment * SEGMENT_BLOCKS + log_start segment
 
--- a log that goes on behind its first blocks: these are whole partial segments, and zeros follow
-pub record IsOpen (log : List (List ℕ)) (used : ℕ) : Type 0 where
-  pub inside : used ≤ length log
-  pub whole : after_blocks [] (take used log) ≡ Some []
-  pub zeros : drop used log ≡ replicate (length log - used) zero_block
+-- the blocks of the log of a segment
+abbrev pub log_block : SegmentMemory → ℕ → ℕ → List ℕ
+log_block m segment k = block_at m (first_of segment + k)
 
--- the blocks of a segment from where its log begins
-abbrev pub log_blocks : SegmentMemory → ℕ → List (List ℕ)
-log_blocks m segment = take (64 - log_start segment) (drop (segment * 64 + log_start segment) m.blocks)
+-- what the log of a segment expects at an address of it
+abbrev pub expected_at : SegmentMemory → ℕ → ℕ → Option (List SummaryEntry)
+expected_at m segment address = expected (log_block m segment) (address - first_of segment)
 
--- the blocks that the log of a segment names
-abbrev pub segment_log : SegmentMemory → ℕ → List (ℕ × SummaryEntry)
-segment_log m segment = named (segment * 64 + log_start segment) [] (log_blocks m segment)
+-- what the log of its segment names at an address: none at a summary, behind the log's end, and at the label
+unfoldable pub entry_at : SegmentMemory → ℕ → Option SummaryEntry
+entry_at m address = option_and_then (λ entries. slice_get entries 0) (expected_at m (address / SEGMENT_BLOCKS) address)
 
--- the active segment's log goes on where the next block is put
-abbrev pub IsReady : SegmentMemory → Type 0
-IsReady m = IsOpen (log_blocks m m.active) (m.fill - log_start m.active)
+-- an address with what is named there, as a list of one, or of none
+abbrev pub named_one : ℕ → Option SummaryEntry → List (ℕ × SummaryEntry)
+named_one address None = []
+named_one address (Some entry) = (address, entry) ∷ []
+
+-- the addresses from one on, so many of them, that have an entry, each with it
+unfoldable pub names_from : SegmentMemory → ℕ → ℕ → List (ℕ × SummaryEntry)
+names_from m first zero = []
+names_from m first (suc n) = names_from m first n ++ named_one (first + n) (entry_at m (first + n))
+
+-- The active segment's log goes on where the next block is put, with the blocks of these entries and then a summary.
+-- They fit, and zeros stand there.
+pub record Expects (m : SegmentMemory) (entries : List SummaryEntry) : Type 0 where
+  pub pending : expected_at m m.active (next_address m) ≡ Some entries
+  pub fit : length entries ≤ room_of m
+  pub zeros : (a : ℕ) → next_address m ≤ a → a < m.active * SEGMENT_BLOCKS + SEGMENT_BLOCKS → block_at m a ≡ zero_block
+
+-- an address before the end of the active segment's log, or of another segment
+abbrev pub IsOlder : SegmentMemory → ℕ → Type 0
+IsOlder m address = (address < next_address m) ⊎ (m.active * SEGMENT_BLOCKS + SEGMENT_BLOCKS ≤ address)
+
+-- The memory after more was written behind the active segment's log: what was there stays, with its entries.
+pub record Extends (old new : SegmentMemory) : Type 0 where
+  pub segments : new.segments ≡ old.segments
+  pub active : new.active ≡ old.active
+  pub fill : old.fill ≤ new.fill
+  pub blocks : (a : ℕ) → IsOlder old a → block_at new a ≡ block_at old a
+  pub entries : (a : ℕ) → IsOlder old a → entry_at new a ≡ entry_at old a
+
+-- a block is the summary, at this place of a segment, of blocks that have these entries
+pub record IsSummaryOf (block : List ℕ) (in_segment at_offset : ℕ) (entries : List SummaryEntry) : Type 0 where
+  pub summary : Summary
+  pub spelled : IsSummaryBlock block summary
+  pub segment : summary.segment ≡ in_segment
+  pub offset : summary.offset ≡ at_offset
+  pub named : named_by summary ≡ entries

@@ -1,9 +1,12 @@
 -- The memory of a volume as callers see it, and what each call makes of it.
 use Rattle.std.specs.Prelude.{◌≡◌, ℕ, zero, suc, ◌+◌, ◌-◌, ◌*◌, ◌/◌, ◌<◌, ◌≤◌, List, [], ◌∷◌, ◌++◌, All, length, take, drop, replicate, slice_index_or}
 use Rattle.byteorder.specs.Endian.{big_bytes}
+use Rattle.lfs_types.specs.declared.block.TheConstants.{BLOCK_SIZE}
+use Rattle.lfs_types.specs.declared.limits.TheConstants.{LEAST_SEGMENTS, MOST_SEGMENTS, SEGMENT_BLOCKS}
+use Rattle.lfs_types.specs.Blocks.{zero_block}
 
 -- How many segments there are, the active one, how many of its blocks are used, and every block by its address. The
--- address of a block is 64 times its segment and its place in it.
+-- address of a block is SEGMENT_BLOCKS times its segment and its place in it.
 pub record SegmentMemory : Type 0 where
   pub segments : ℕ
   pub active : ℕ
@@ -12,7 +15,7 @@ pub record SegmentMemory : Type 0 where
 
 -- the memory that these blocks are
 abbrev pub seen : List (List ℕ) → ℕ → ℕ → SegmentMemory
-seen blocks active fill = record { segments = length blocks / 64; active = active; fill = fill; blocks = blocks }
+seen blocks active fill = record { segments = length blocks / SEGMENT_BLOCKS; active = active; fill = fill; blocks = blocks }
 
 -- where the log of a segment begins: behind the label in the first segment
 abbrev pub log_start : ℕ → ℕ
@@ -21,17 +24,13 @@ log_start (suc _) = 0
 
 -- what holds of the memory after every call
 pub record IsLaidOut (m : SegmentMemory) : Type 0 where
-  pub at_least : 6 ≤ m.segments
-  pub at_most : m.segments ≤ 1024
-  pub whole : length m.blocks ≡ m.segments * 64
-  pub each : All (λ block. length block ≡ 512) m.blocks
+  pub at_least : LEAST_SEGMENTS ≤ m.segments
+  pub at_most : m.segments ≤ MOST_SEGMENTS
+  pub whole : length m.blocks ≡ m.segments * SEGMENT_BLOCKS
+  pub each : All (λ block. length block ≡ BLOCK_SIZE) m.blocks
   pub active : m.active < m.segments
   pub begun : log_start m.active ≤ m.fill
-  pub within : m.fill ≤ 64
-
--- a block without data
-unfoldable pub zero_block : List ℕ
-zero_block = replicate 512 0
+  pub within : m.fill ≤ SEGMENT_BLOCKS
 
 -- block 0: the mark LFS1, the number of segments, the number of inode numbers
 unfoldable pub label : ℕ → ℕ → List ℕ
@@ -43,7 +42,7 @@ fresh segments inodes = record {
   segments = segments;
   active = 0;
   fill = 1;
-  blocks = label segments inodes ∷ replicate (segments * 64 - 1) zero_block;
+  blocks = label segments inodes ∷ replicate (segments * SEGMENT_BLOCKS - 1) zero_block;
 }
 
 -- the block at an address
@@ -52,11 +51,11 @@ block_at m address = slice_index_or m.blocks address []
 
 -- the address that the next block gets
 abbrev pub next_address : SegmentMemory → ℕ
-next_address m = m.active * 64 + m.fill
+next_address m = m.active * SEGMENT_BLOCKS + m.fill
 
 -- how many blocks the active segment has left
 abbrev pub room_of : SegmentMemory → ℕ
-room_of m = 64 - m.fill
+room_of m = SEGMENT_BLOCKS - m.fill
 
 -- the blocks, with others written from an address on
 abbrev pub written : List (List ℕ) → ℕ → List (List ℕ) → List (List ℕ)
@@ -71,5 +70,5 @@ abbrev pub opened : SegmentMemory → ℕ → SegmentMemory
 opened m segment = record m {
   active = segment;
   fill = log_start segment;
-  blocks = written m.blocks (segment * 64 + log_start segment) (replicate (64 - log_start segment) zero_block);
+  blocks = written m.blocks (segment * SEGMENT_BLOCKS + log_start segment) (replicate (SEGMENT_BLOCKS - log_start segment) zero_block);
 }

@@ -1,9 +1,11 @@
 -- A summary block, read test by test: the entries that it names, or none where it is no summary.
 use Rattle.std.specs.Prelude.{ℕ, zero, suc, ◌+◌, ◌-◌, ◌*◌, Bool, true, ◌&&◌, not, if◌then◌else◌, ◌==◌, nat_lt, nat_le, List, [], ◌∷◌, Option, Some, None, take, slice_index}
+use Rattle.lfs_types.specs.declared.limits.TheConstants.{FILE_BLOCKS, MOST_INODES, MOST_SEGMENTS}
 use Rattle.lfs_segments.specs.declared.entry.LogicalBlock.{LogicalBlock}
 use Rattle.lfs_segments.specs.declared.entry.LogicalBlock.TheVariants.{Data, Single, Inodes}
 use Rattle.lfs_segments.specs.declared.entry.SummaryEntry.{SummaryEntry}
 use Rattle.lfs_segments.specs.declared.summary.Summary.{Summary}
+use Rattle.lfs_segments.specs.declared.summary.TheConstants.{ENTRY_LIMIT}
 use Rattle.lfs_segments.specs.Bytes.{half_at, word_at}
 
 -- the kind of block whose number it is
@@ -23,11 +25,11 @@ entries_from bytes place (suc n) = entry_from bytes place ∷ entries_from bytes
 
 -- whether it is 2, or 4 to 4,095
 abbrev pub is_file_number : ℕ → Bool
-is_file_number number = nat_le 2 number && (not (number == 3) && nat_lt number 4096)
+is_file_number number = nat_le 2 number && (not (number == 3) && nat_lt number MOST_INODES)
 
 -- whether a block of this kind may stand in an entry with this number and version
 abbrev pub may_name : LogicalBlock → ℕ → ℕ → Bool
-may_name (Data index) number version = nat_lt index 140 && (is_file_number number && nat_le 1 version)
+may_name (Data index) number version = nat_lt index FILE_BLOCKS && (is_file_number number && nat_le 1 version)
 may_name Single number version = is_file_number number && nat_le 1 version
 may_name Inodes number version = (number == 0) && (version == 0)
 
@@ -40,9 +42,9 @@ all_below test (suc n) = all_below test n && test n
 unfoldable pub is_summary : List ℕ → Bool
 is_summary bytes =
     (word_at bytes 0 == 0x4c46_5353)
-    && (nat_lt (word_at bytes 4) 1024
+    && (nat_lt (word_at bytes 4) MOST_SEGMENTS
     && (nat_le 1 (half_at bytes 10)
-    && (nat_le (half_at bytes 10) 40
+    && (nat_le (half_at bytes 10) ENTRY_LIMIT
     && (nat_le (half_at bytes 8 + half_at bytes 10) 63
     && ((word_at bytes 12 == 0)
     && (all_below (λ k. let e = entry_from bytes (16 + 12 * k) in may_name e.block e.number e.version) (half_at bytes 10)

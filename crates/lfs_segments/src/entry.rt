@@ -6,9 +6,7 @@ ghost use Rattle.lfs_segments.specs.Entry.{IsLogicalBlock, IsOwner, IsEntry, IsE
 
 use crate::bytes::{put_word, word};
 use lfs_types::block::Block;
-
-/// The number of data blocks that a file may have.
-const DATA_BLOCKS: u32 = 140;
+use lfs_types::limits::{FILE_BLOCKS, FIRST_INODE, MOST_INODES, ROOT_INODE};
 
 /// The number that spells the single indirect block.
 const SINGLE: u32 = 0x8000_0000;
@@ -49,7 +47,7 @@ impl LogicalBlock {
         match number {
             SINGLE => Some(LogicalBlock::Single),
             INODES => Some(LogicalBlock::Inodes),
-            index if index < DATA_BLOCKS => Some(LogicalBlock::Data(index)),
+            index if index < FILE_BLOCKS => Some(LogicalBlock::Data(index)),
             _ => None,
         }
     }
@@ -81,7 +79,9 @@ impl SummaryEntry {
         match self.block {
             LogicalBlock::Inodes => self.number == 0 && self.version == 0,
             LogicalBlock::Data(_) | LogicalBlock::Single => {
-                self.number >= 2 && self.number != 3 && self.number < 4096 && self.version >= 1
+                (self.number == ROOT_INODE || self.number >= FIRST_INODE)
+                    && self.number < MOST_INODES
+                    && self.version >= 1
             }
         }
     }

@@ -5,6 +5,7 @@
 
 mod bytes;
 pub mod entry;
+pub mod log;
 pub mod segments;
 pub mod summary;
 #[cfg(test)]

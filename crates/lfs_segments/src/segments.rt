@@ -1,28 +1,20 @@
 //! The memory of the volume: segments of blocks, one of them active.
 
-ghost use Rattle.std.specs.Prelude.{◌≡◌, ◌+◌, ◌-◌, ◌*◌, ◌<◌, ◌≤◌, ◌↔◌, IfOk, IsErrOf, length, replicate, vec_len};
-ghost use Rattle.lfs_segments.specs.Memory.{IsLaidOut, appended, block_at, fresh, label, log_start, next_address, opened, room_of, written, zero_block};
+ghost use Rattle.std.specs.Prelude.{◌≡◌, ◌+◌, ◌-◌, ◌*◌, ◌<◌, ◌≤◌, ◌↔◌, IfOk, IsErrOf, [], length, replicate, vec_len};
+ghost use Rattle.lfs_types.specs.Blocks.{zero_block};
+ghost use Rattle.lfs_types.specs.declared.limits.TheConstants.{LEAST_SEGMENTS, MOST_SEGMENTS, SEGMENT_BLOCKS};
+ghost use Rattle.lfs_segments.specs.Log.{Expects};
+ghost use Rattle.lfs_segments.specs.Memory.{IsLaidOut, appended, block_at, fresh, label, log_start, next_address, opened, room_of, written};
 
 use byteorder::{BigEndian, ByteOrder};
-use lfs_types::block::{BLOCK_SIZE, Block};
+use lfs_types::block::{Block, ZERO_BLOCK};
 use lfs_types::fault::FormatFault;
+pub use lfs_types::limits::{LEAST_SEGMENTS, MOST_SEGMENTS, SEGMENT_BLOCKS};
 use std::alloc::{AllocError, Global};
 use std::marker::Model;
 
-/// The number of blocks of a segment (this project's profile).
-pub const SEGMENT_BLOCKS: u32 = 64;
-
-/// The least number of segments of a volume (this project's profile).
-pub const LEAST_SEGMENTS: u32 = 6;
-
-/// The greatest number of segments of a volume (this project's profile).
-pub const MOST_SEGMENTS: u32 = 1024;
-
 /// The first four bytes of the label, `LFS1`.
 const MARK: u32 = 0x4c46_5331;
-
-/// A block without data.
-const ZERO: Block = [0; BLOCK_SIZE];
 
 /// The blocks of a volume in memory. They are written in the order of a log, into one active segment
 /// at a time.
@@ -47,10 +39,12 @@ impl Segments {
     /// Lays out a volume of 6 to 1,024 segments, all zeros but the label in block 0, which names the
     /// number of inode numbers too. Segment 0 is active.
     pub fn format(alloc: Global, segments: u32, inodes: u32) -> Result<Segments, FormatFault>
-        ensures too_few { IsErrOf result FormatFault.TooFew ↔ (segments < 6) }
-        ensures too_many { IsErrOf result FormatFault.TooMany ↔ (1024 < segments) }
+        ensures too_few { IsErrOf result FormatFault.TooFew ↔ (segments < LEAST_SEGMENTS) }
+        ensures too_many { IsErrOf result FormatFault.TooMany ↔ (MOST_SEGMENTS < segments) }
         ensures fresh { IfOk result (λ made. made ≡ fresh segments inodes) }
         ensures laid_out { IfOk result (λ made. IsLaidOut made) }
+        // The log of segment 0 expects a summary.
+        ensures ready { IfOk result (λ made. Expects made []) }
     {
         if segments < LEAST_SEGMENTS {
             return Err(FormatFault::TooFew);
@@ -67,9 +61,34 @@ impl Segments {
         })
     }
 
+    /// The number of segments, 6 to 1,024.
+    pub fn segments(&self) -> u32
+        ensures segments { result ≡ self.now.segments }
+        ensures laid_out { IsLaidOut self.now }
+    {
+        self.blocks.len() as u32 / SEGMENT_BLOCKS
+    }
+
+    /// The segment that is written.
+    pub fn active(&self) -> u32
+        ensures active { result ≡ self.now.active }
+        ensures laid_out { IsLaidOut self.now }
+    {
+        self.active
+    }
+
+    /// The address behind the last block of the active segment: the next block's, where there is
+    /// room for one.
+    pub fn next_address(&self) -> u32
+        ensures address { result ≡ next_address self.now }
+        ensures laid_out { IsLaidOut self.now }
+    {
+        self.active * SEGMENT_BLOCKS + self.fill
+    }
+
     /// The block at an address.
     pub fn block(&self, address: u32) -> &Block
-        requires { address < self.now.segments * 64 }
+        requires { address < self.now.segments * SEGMENT_BLOCKS }
         ensures block { result.now ≡ block_at self.now address }
         ensures laid_out { IsLaidOut self.now }
     {
@@ -90,6 +109,7 @@ impl Segments {
         requires { length blocks.now ≤ room_of self.old }
         ensures address { result ≡ next_address self.old }
         ensures appended { self.new ≡ appended self.old blocks.now }
+        ensures was_laid_out { IsLaidOut self.old }
         ensures laid_out { IsLaidOut self.new }
     {
         let address = self.active * SEGMENT_BLOCKS + self.fill;
@@ -102,6 +122,9 @@ impl Segments {
     pub fn open_next(&mut self, segment: u32)
         requires { segment < self.old.segments }
         ensures opened { self.new ≡ opened self.old segment }
+        // Its log expects a summary.
+        ensures ready { Expects self.new [] }
+        ensures was_laid_out { IsLaidOut self.old }
         ensures laid_out { IsLaidOut self.new }
     {
         self.active = segment;
@@ -115,8 +138,8 @@ impl Segments {
     }
 }
 
-/// The block at which the log of a segment begins.
-fn log_start(segment: u32) -> u32
+/// The block of a segment at which its log begins: behind the label in segment 0.
+pub fn log_start(segment: u32) -> u32
     ensures { result ≡ log_start segment }
 {
     if segment == 0 { 1 } else { 0 }
@@ -126,7 +149,7 @@ fn log_start(segment: u32) -> u32
 fn label(segments: u32, inodes: u32) -> Block
     ensures { result ≡ label segments inodes }
 {
-    let mut block = ZERO;
+    let mut block = ZERO_BLOCK;
     BigEndian::write_u32(&mut block[..4], MARK);
     BigEndian::write_u32(&mut block[4..8], segments);
     BigEndian::write_u32(&mut block[8..12], inodes);
@@ -139,7 +162,7 @@ fn zeros(alloc: Global, count: usize) -> Result<Vec<Block>, AllocError>
 {
     let mut blocks = Vec::with_capacity(alloc, count)?;
     for _ in 0..count {
-        blocks.push(ZERO)?;
+        blocks.push(ZERO_BLOCK)?;
     }
     Ok(blocks)
 }
@@ -159,6 +182,6 @@ fn clear(blocks: &mut Vec<Block>, start: usize, end: usize)
     ensures { blocks.new.items ≡ written blocks.old.items start (replicate (end - start) zero_block) }
 {
     for place in start..end {
-        blocks[place] = ZERO;
+        blocks[place] = ZERO_BLOCK;
     }
 }

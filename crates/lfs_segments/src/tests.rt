@@ -1,9 +1,12 @@
 //! The worked example of a summary block, and each call of the memory at values.
 
-ghost use Rattle.std.specs.Prelude.{◌≤◌, length};
+ghost use Rattle.std.specs.Prelude.{◌≡◌, ◌<◌, ◌≤◌, All, [], length};
+ghost use Rattle.lfs_segments.specs.Entry.{IsEntry};
+ghost use Rattle.lfs_segments.specs.Log.{Expects};
+ghost use Rattle.lfs_segments.specs.Memory.{room_of};
 
 use crate::entry::{LogicalBlock, SummaryEntry};
-use crate::segments::Segments;
+use crate::segments::{Segments, log_start};
 use crate::summary::Summary;
 use lfs_types::block::Block;
 use lfs_types::fault::FormatFault;
@@ -23,20 +26,21 @@ fn block_of(start: &[u8]) -> Block
     block
 }
 
-/// The summary that the example spells.
-fn example() -> Summary {
-    let mut entries = [SummaryEntry::UNUSED; 40];
-    entries[0] = SummaryEntry {
+/// The entry of a data block of file 4 in its first version.
+fn data(index: u32) -> SummaryEntry
+    requires { index < 140 }
+    ensures { IsEntry result }
+{
+    SummaryEntry {
         number: 4,
         version: 1,
-        block: LogicalBlock::Data(0),
-    };
-    Summary {
-        segment: 0,
-        offset: 3,
-        count: 1,
-        entries,
+        block: LogicalBlock::Data(index),
     }
+}
+
+/// The summary that the example spells.
+fn example() -> Summary {
+    Summary::new(0, 3, &[data(0)])
 }
 
 #[test]
@@ -139,4 +143,48 @@ fn memory_is_laid_out_and_written(rt: HostRuntime) -> Result<(), Fail> {
     assert!(rt; *segments.block(2) == [0; 512]);
     assert!(rt; *segments.block(128) == [9; 512]);
     Ok(())
+}
+
+/// Writes a partial segment of two data blocks and begins one of a third, and gives the addresses.
+fn written(segments: &mut Segments) -> [u32; 4]
+    requires ready { Expects segments.old [] }
+    requires room { 5 ≤ room_of segments.old }
+    ensures { segments.new.segments ≡ segments.old.segments }
+{
+    let summary = segments.begin(&[data(0), data(139)]);
+    let first = segments.put(&[7; 512]);
+    let second = segments.put(&[9; 512]);
+    [summary, first, second, segments.begin(&[data(5)])]
+}
+
+#[test]
+fn partial_segments_follow_one_another(rt: HostRuntime) -> Result<(), Fail> {
+    let mut segments = Segments::format(rt.alloc(), 1024, 16)?;
+    assert_eq!(rt; segments.segments(), 1024);
+    assert_eq!(rt; (segments.active(), segments.next_address()), (0, 1));
+    assert_eq!(rt; written(&mut segments), [1, 2, 3, 4]);
+    segments.open_next(1023);
+    assert_eq!(rt;
+        (segments.active(), segments.next_address()),
+        (1023, 65_472)
+    );
+    assert_eq!(rt; written(&mut segments), [65_472, 65_473, 65_474, 65_475]);
+    assert_eq!(rt;
+        &segments.block(65_475)[..28],
+        [
+            0x4c, 0x46, 0x53, 0x53, 0, 0, 0x03, 0xff, 0, 3, 0, 1, 0, 0, 0, 0, 0, 0, 0, 4, 0, 0, 0,
+            1, 0, 0, 0, 5
+        ]
+        .as_slice()
+    );
+    assert!(rt; *segments.block(65_474) == [9; 512]);
+    assert_eq!(rt; (log_start(0), log_start(1)), (1, 0));
+    Ok(())
+}
+
+#[test]
+fn forty_entries_fit_a_summary(rt: HostRuntime) {
+    let full = Summary::new(1023, 23, &[data(139); 40]);
+    assert!(rt; Summary::decode(&full.encode()) == Some(full));
+    assert!(rt; full.entries == [data(139); 40]);
 }

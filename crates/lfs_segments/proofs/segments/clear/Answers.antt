@@ -1,5 +1,6 @@
 use Rattle.std.proofs.Common.{◌≡◌, ℕ, List, ◌+◌, ◌-◌, ◌<◌, length, set, replicate, ap, ◌∙◌, arith}
-use Rattle.lfs_segments.specs.Memory.{written, zero_block}
+use Rattle.lfs_types.specs.Blocks.{zero_block}
+use Rattle.lfs_segments.specs.Memory.{written}
 use Rattle.lfs_segments.proofs.MemoryLemmas.{written_more}
 use Rattle.lfs_segments.proofs.segments.clear.Goals as goal
 

@@ -1,7 +1,7 @@
 use Rattle.std.proofs.Common.{◌∷◌, [], ◌∙◌}
 use Rattle.std.proofs.lemmas.List.{replicate_more}
 use Rattle.std.proofs.lemmas.Slice.{pushed}
-use Rattle.lfs_segments.specs.Memory.{zero_block}
+use Rattle.lfs_types.specs.Blocks.{zero_block}
 use Rattle.lfs_segments.proofs.segments.zeros.Goals as goal
 
 pub loop-preserved : goal.loop-preserved

@@ -1,5 +1,5 @@
 use Rattle.std.proofs.Common.{◌≡◌, replicate}
-use Rattle.lfs_segments.specs.Memory.{zero_block}
+use Rattle.lfs_types.specs.Blocks.{zero_block}
 use Rattle.lfs_segments.proofs.segments.zeros.Given as goal
 
 -- that many so far

@@ -1,5 +1,6 @@
 use Rattle.std.proofs.Common.{replicate, ◌∙◌, arith}
 use Rattle.lfs_segments.proofs.BytesLemmas.{word_kept, half_kept, get_or-replicate_same}
+use Rattle.lfs_segments.proofs.ReadingLemmas.{summary_entries-spelled}
 use Rattle.lfs_segments.proofs.SummaryLemmas.{same_spelling}
 use Rattle.lfs_segments.proofs.summary.Summary.encode.Goals as goal
 
@@ -23,3 +24,6 @@ returns-clause-spelled c =
 pub returns-clause-only : goal.returns-clause-only
 returns-clause-only c = λ bytes block spelled.
     same_spelling bytes c.write_entries.new.block c.args.self.now block c.write_entries.ensures.bytes spelled (returns-clause-spelled c)
+
+pub returns-clause-entries : goal.returns-clause-entries
+returns-clause-entries c = summary_entries-spelled c.write_entries.new.block c.args.self.now (returns-clause-spelled c)

@@ -1,0 +1,199 @@
+-- What each change of the memory leaves, and what the log expects then.
+use Rattle.std.proofs.Common.{◌≡◌, ◌≢◌, ℕ, ◌+◌, ◌-◌, ◌*◌, ◌/◌, ◌<◌, ◌≤◌, ◌⊎◌, inl, inr, List, [], ◌∷◌, Some, None, length, get_or, replicate, refl, ap, ◌∙◌, ⊎_elim, arith}
+use Rattle.std.specs.List.{slice_get}
+use Rattle.std.proofs.lemmas.Bool.{cases_lt}
+use Rattle.std.proofs.lemmas.List.{get_or-append_right, get_or-replicate, length-replicate}
+use Rattle.lfs_types.specs.Blocks.{zero_block}
+use Rattle.lfs_segments.specs.declared.entry.SummaryEntry.{SummaryEntry}
+use Rattle.lfs_segments.specs.Log.{Expects, Extends, IsOlder, after_block, entry_at, expected, first_of, log_block}
+use Rattle.lfs_segments.specs.Memory.{IsLaidOut, SegmentMemory, appended, block_at, fresh, label, log_start, next_address, opened, room_of, seen, written}
+use Rattle.lfs_segments.specs.Reading.{summary_entries}
+use Rattle.lfs_segments.proofs.LogLemmas.{entry_at-in, entry_at-pending, entry_at-same, expected-more, expected-same, next_entry, next_entry-zeros_from}
+use Rattle.lfs_segments.proofs.MemoryLemmas.{get_or-written_after, get_or-written_before, get_or-written_inside, length-written, log_start-le}
+
+-- blocks that are appended
+module _ (m : SegmentMemory) (others : List (List ℕ)) (laid : IsLaidOut m) (fits : length others ≤ room_of m) where
+  room : next_address m + length others ≤ length m.blocks
+  room = let whole = laid.whole in let active = laid.active in let within = laid.within in omega arith
+
+  pub block_at-appended_older : (a : ℕ) → IsOlder m a → block_at (appended m others) a ≡ block_at m a
+  block_at-appended_older a older = ⊎_elim
+      (λ (before : a < next_address m). get_or-written_before m.blocks (next_address m) others room a [] before)
+      (λ (beyond : m.active * 64 + 64 ≤ a). let within = laid.within in get_or-written_after m.blocks (next_address m) others room a [] (omega arith))
+      older
+
+  pub block_at-appended_behind : (a : ℕ) → next_address m + length others ≤ a → block_at (appended m others) a ≡ block_at m a
+  block_at-appended_behind a behind = get_or-written_after m.blocks (next_address m) others room a [] behind
+
+  pub block_at-appended_new : (k : ℕ) → k < length others → block_at (appended m others) (next_address m + k) ≡ get_or others k []
+  block_at-appended_new k inside = get_or-written_inside m.blocks (next_address m) others room k [] inside
+
+  pub entry_at-appended_older : (a : ℕ) → IsOlder m a → entry_at (appended m others) a ≡ entry_at m a
+  entry_at-appended_older a older = entry_at-same m (appended m others) a (λ b from below. block_at-appended_older b (⊎_elim
+      (λ (before : a < next_address m). inl (omega arith))
+      (λ (beyond : m.active * 64 + 64 ≤ a). inr (omega arith))
+      older))
+
+  pub Extends-appended : Extends m (appended m others)
+  Extends-appended = record {
+    segments = refl;
+    active = refl;
+    fill = omega arith;
+    blocks = block_at-appended_older;
+    entries = entry_at-appended_older;
+  }
+
+pub Extends-refl : (m : SegmentMemory) → Extends m m
+Extends-refl m = record { segments = refl; active = refl; fill = omega arith; blocks = λ a older. refl; entries = λ a older. refl }
+
+pub IsOlder-extended : (a b : SegmentMemory) (address : ℕ) → Extends a b → IsOlder a address → IsOlder b address
+IsOlder-extended a b address p older =
+    let active = p.active in let fill = p.fill in
+    ⊎_elim
+    (λ (before : address < next_address a). inl (omega arith))
+    (λ (beyond : a.active * 64 + 64 ≤ address). inr (omega arith))
+    older
+
+pub Extends-trans : (a b c : SegmentMemory) → Extends a b → Extends b c → Extends a c
+Extends-trans a b c p q = record {
+  segments = q.segments ∙ p.segments;
+  active = q.active ∙ p.active;
+  fill = let first = p.fill in let then = q.fill in omega arith;
+  blocks = λ x older. q.blocks x (IsOlder-extended a b x p older) ∙ p.blocks x older;
+  entries = λ x older. q.entries x (IsOlder-extended a b x p older) ∙ p.entries x older;
+}
+
+-- one block of the log
+module _ (m : SegmentMemory) (block : List ℕ) (laid : IsLaidOut m) (some : 1 ≤ room_of m) where
+  pub block_at-put : block_at (appended m (block ∷ [])) (next_address m) ≡ block
+  block_at-put =
+      let same : next_address m ≡ next_address m + 0 = omega arith in
+      ap (block_at (appended m (block ∷ []))) same ∙ block_at-appended_new m (block ∷ []) laid some 0 (omega arith)
+
+  pub Expects-put : (before after : List SummaryEntry) → Expects m before → after_block before block ≡ Some after → length after < room_of m → Expects (appended m (block ∷ [])) after
+  Expects-put before after e step fits =
+      let new = appended m (block ∷ []) in
+      let begun = laid.begun in let within = laid.within in
+      let first : ℕ = first_of m.active in
+      let used : ℕ = next_address m - first in
+      let more : next_address new - first ≡ used + 1 = omega arith in
+      let at : first + used ≡ next_address m = omega arith in
+      let same : expected (log_block new m.active) used ≡ Some before =
+      expected-same (log_block new m.active) (log_block m m.active) used (λ k below. block_at-appended_older m (block ∷ []) laid some (first + k) (inl (omega arith))) ∙ e.pending in
+      record {
+        pending = ap (expected (log_block new m.active)) more
+            ∙ expected-more (log_block new m.active) used before same
+            ∙ ap (after_block before) (ap (block_at new) at ∙ block_at-put)
+            ∙ step;
+        fit = omega arith;
+        zeros = λ a from below. block_at-appended_behind m (block ∷ []) laid some a (omega arith) ∙ e.zeros a (omega arith) below;
+      }
+
+  -- the place of the block is named as it was expected
+  pub entry_at-put : (before : List SummaryEntry) → Expects m before → entry_at (appended m (block ∷ [])) (next_address m) ≡ next_entry (Some before)
+  entry_at-put before e =
+      let new = appended m (block ∷ []) in
+      entry_at-same m new (next_address m) (λ a from below. block_at-appended_older m (block ∷ []) laid some a (inl below))
+      ∙ entry_at-in m m.active (next_address m) (omega arith)
+      ∙ ap next_entry e.pending
+
+-- the summary of a partial segment
+module _ (m : SegmentMemory) (block : List ℕ) (entries : List SummaryEntry) (laid : IsLaidOut m) (ready : Expects m []) (fits : length entries < room_of m) (summary : summary_entries block ≡ Some entries) where
+  pub Expects-begun : Expects (appended m (block ∷ [])) entries
+  Expects-begun = Expects-put m block laid (omega arith) [] entries ready summary fits
+
+  pub entry_at-begun : IsLaidOut (appended m (block ∷ [])) → (k : ℕ) → k < length entries → entry_at (appended m (block ∷ [])) (next_address m + 1 + k) ≡ slice_get entries k
+  entry_at-begun laid_new k below =
+      let new = appended m (block ∷ []) in
+      let same : next_address m + 1 + k ≡ next_address new + k = omega arith in
+      ap (entry_at new) same ∙ entry_at-pending new entries k laid_new Expects-begun below
+
+-- a new volume is as large as it is to be
+pub fresh_is : (segments inodes : ℕ) → 1 ≤ segments → seen (label segments inodes ∷ replicate (segments * 64 - 1) zero_block) 0 1 ≡ fresh segments inodes
+fresh_is segments inodes some =
+    let blocks = label segments inodes ∷ replicate (segments * 64 - 1) zero_block in
+    let rest = length-replicate (segments * 64 - 1) zero_block in
+    let count : length blocks / 64 ≡ segments = omega (arith, rest) in
+    ap (λ (n : ℕ). let m : SegmentMemory = record { segments = n; active = 0; fill = 1; blocks = blocks } in m) count
+
+-- a new volume expects a summary in segment 0
+pub Expects-fresh : (segments inodes : ℕ) → 1 ≤ segments → Expects (fresh segments inodes) []
+unfolding expected
+Expects-fresh segments inodes some = record {
+  pending = refl;
+  fit = omega arith;
+  zeros = λ a from below. block_at-fresh segments inodes a (omega arith) (omega arith);
+}
+  where
+    block_at-fresh : (segments inodes a : ℕ) → 1 ≤ a → a < segments * 64 → block_at (fresh segments inodes) a ≡ zero_block
+    block_at-fresh segments inodes a from below =
+        get_or-append_right (label segments inodes ∷ []) (replicate (segments * 64 - 1) zero_block) 1 a [] refl from
+        ∙ get_or-replicate (segments * 64 - 1) (a - 1) zero_block [] (omega arith)
+
+-- a segment that is opened
+module _ (m : SegmentMemory) (segment : ℕ) (laid : IsLaidOut m) (inside : segment < m.segments) where
+  count : length (replicate (64 - log_start segment) zero_block) ≡ 64 - log_start segment
+  count = length-replicate (64 - log_start segment) zero_block
+
+  reaches : first_of segment + length (replicate (64 - log_start segment) zero_block) ≡ segment * 64 + 64
+  reaches = let low = log_start-le segment in omega (arith, count)
+
+  opens : first_of segment + length (replicate (64 - log_start segment) zero_block) ≤ length m.blocks
+  opens = let whole = laid.whole in omega (arith, reaches)
+
+  pub block_at-opened_other : (a : ℕ) → (a < first_of segment) ⊎ (segment * 64 + 64 ≤ a) → block_at (opened m segment) a ≡ block_at m a
+  block_at-opened_other a apart = ⊎_elim
+      (λ (before : a < first_of segment). get_or-written_before m.blocks (first_of segment) (replicate (64 - log_start segment) zero_block) opens a [] before)
+      (λ (beyond : segment * 64 + 64 ≤ a). get_or-written_after m.blocks (first_of segment) (replicate (64 - log_start segment) zero_block) opens a [] (omega (arith, reaches)))
+      apart
+
+  pub block_at-opened : (a : ℕ) → first_of segment ≤ a → a < segment * 64 + 64 → block_at (opened m segment) a ≡ zero_block
+  block_at-opened a from below =
+      let k : ℕ = a - first_of segment in
+      let at : a ≡ first_of segment + k = omega arith in
+      let within : k < 64 - log_start segment = omega arith in
+      ap (block_at (opened m segment)) at
+      ∙ get_or-written_inside m.blocks (first_of segment) (replicate (64 - log_start segment) zero_block) opens k [] (omega (arith, count))
+      ∙ get_or-replicate (64 - log_start segment) k zero_block [] within
+
+  -- the other segments' blocks and entries stay
+  pub block_at-opened_apart : (a : ℕ) → a / 64 ≢ segment → block_at (opened m segment) a ≡ block_at m a
+  block_at-opened_apart a other = block_at-opened_other a (⊎_elim
+      (λ (before : a / 64 < segment). inl (omega arith))
+      (λ (beyond : segment ≤ a / 64). inr (omega arith))
+      (cases_lt (a / 64) segment))
+
+  pub entry_at-opened_other : (a : ℕ) → a / 64 ≢ segment → entry_at (opened m segment) a ≡ entry_at m a
+  entry_at-opened_other a other = entry_at-same m (opened m segment) a (λ b from below. block_at-opened_other b (⊎_elim
+      (λ (before : a / 64 < segment). inl (omega arith))
+      (λ (beyond : segment ≤ a / 64). inr (omega arith))
+      (cases_lt (a / 64) segment)))
+
+  -- and its own are gone
+  pub entry_at-opened : (a : ℕ) → a / 64 ≡ segment → entry_at (opened m segment) a ≡ None
+  unfolding expected
+  entry_at-opened a here =
+      entry_at-in (opened m segment) segment a here
+      ∙ next_entry-zeros_from (log_block (opened m segment) segment) 0 (a - first_of segment) (omega arith) refl
+      (λ some. block_at-opened (first_of segment + 0) (omega arith) (omega arith))
+
+  -- its log expects a summary
+  pub Expects-opened : Expects (opened m segment) []
+  unfolding expected
+  Expects-opened =
+      let none : first_of segment - first_of segment ≡ 0 = omega arith in
+      record {
+        pending = ap (expected (log_block (opened m segment) segment)) none;
+        fit = omega arith;
+        zeros = λ a from below. block_at-opened a from below;
+      }
+
+-- the memory with a segment opened is as large as it was
+pub opened_is : (blocks : List (List ℕ)) (active fill segment : ℕ) → IsLaidOut (seen blocks active fill) → segment < length blocks / 64
+    → seen (written blocks (first_of segment) (replicate (64 - log_start segment) zero_block)) segment (log_start segment) ≡ opened (seen blocks active fill) segment
+opened_is blocks active fill segment laid inside =
+    let whole = laid.whole in
+    let reach = reaches (seen blocks active fill) segment laid inside in
+    let new = written blocks (first_of segment) (replicate (64 - log_start segment) zero_block) in
+    let long = length-written blocks (first_of segment) (replicate (64 - log_start segment) zero_block) (omega (arith, reach)) in
+    ap (λ (n : ℕ). let m : SegmentMemory = record { segments = n / 64; active = segment; fill = log_start segment; blocks = new } in m) long
