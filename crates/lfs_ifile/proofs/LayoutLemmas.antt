@@ -5,6 +5,7 @@ use Rattle.std.proofs.lemmas.List.{length-take-le, take_all, take_more, drop_mor
 use Rattle.std.proofs.lemmas.List.Concat.{flat_map-append}
 use Rattle.std.proofs.lemmas.Nat.{from_be_bytes-to_be_bytes_4}
 use Rattle.std.proofs.lemmas.Slice.Zip.{length-zip, get_or-zip}
+use Rattle.lfs_ifile.specs.declared.reading.TheConstants.{MAGIC}
 use Rattle.lfs_ifile.specs.declared.segment.SegState.{SegState}
 use Rattle.lfs_ifile.specs.declared.segment.SegState.TheVariants.{Clean, Dirty, Active}
 use Rattle.lfs_ifile.specs.declared.segment.SegUse.{SegUse}
@@ -105,13 +106,13 @@ laid_out-ifile_bytes tables is =
     let segments = length tables.live in
     let inodes = length tables.rows in
     let rest : List ℕ = flat_map segment_bytes (zip tables.live tables.states) ++ flat_map row_bytes tables.rows in
-    let magic : number_at (ifile_bytes tables) 0 ≡ 0x4c464946 =
-    simp append_assoc (number_at-written [] (u32_bytes segments ++ (u32_bytes inodes ++ rest)) 0x4c464946 0 (omega arith) refl) in
+    let magic : number_at (ifile_bytes tables) 0 ≡ MAGIC =
+    simp append_assoc (number_at-written [] (u32_bytes segments ++ (u32_bytes inodes ++ rest)) MAGIC 0 (omega arith) refl) in
     let first : number_at (ifile_bytes tables) 4 ≡ segments =
-    simp append_assoc (number_at-written (u32_bytes 0x4c464946) (u32_bytes inodes ++ rest) segments 4 (omega arith) (length-u32_bytes _)) in
+    simp append_assoc (number_at-written (u32_bytes MAGIC) (u32_bytes inodes ++ rest) segments 4 (omega arith) (length-u32_bytes _)) in
     let second : number_at (ifile_bytes tables) 8 ≡ inodes =
-    let before : length (u32_bytes 0x4c464946 ++ u32_bytes segments) ≡ 8 = grind (arith, length-append, length-u32_bytes) in
-    simp append_assoc (simp append_assoc at (number_at-written (u32_bytes 0x4c464946 ++ u32_bytes segments) rest inodes 8 (omega arith) before)) in
+    let before : length (u32_bytes MAGIC ++ u32_bytes segments) ≡ 8 = grind (arith, length-append, length-u32_bytes) in
+    simp append_assoc (simp append_assoc at (number_at-written (u32_bytes MAGIC ++ u32_bytes segments) rest inodes 8 (omega arith) before)) in
     (record { magic = magic; size = omega (arith, length-ifile_bytes tables is.states_length) }, first)
 
 -- how much stands before a segment's bytes

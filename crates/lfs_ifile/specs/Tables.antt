@@ -1,5 +1,7 @@
 -- what an ifile holds, and its changes at one place
-use Rattle.std.specs.Prelude.{◌≡◌, ℕ, ◌*◌, ◌<◌, ◌≤◌, ◌⊎◌, List, length, replicate, slice_index, slice_index_or, slice_set, true, false, Option, All}
+use Rattle.std.specs.Prelude.{◌≡◌, ◌≢◌, ℕ, ◌*◌, ◌<◌, ◌≤◌, ◌⊎◌, List, length, replicate, slice_index, slice_index_or, slice_set, true, false, Option, All}
+use Rattle.lfs_types.specs.declared.limits.TheConstants.{SEGMENT_BLOCKS, LEAST_SEGMENTS, MOST_SEGMENTS, LEAST_INODES, MOST_INODES, FIRST_INODE}
+use Rattle.lfs_ifile.specs.declared.segment.TheConstants.{SEGMENT_BYTES}
 use Rattle.lfs_ifile.specs.declared.segment.SegState.{SegState}
 use Rattle.lfs_ifile.specs.declared.segment.SegState.TheVariants.{Clean}
 use Rattle.lfs_ifile.specs.declared.segment.SegUse.{SegUse}
@@ -12,6 +14,10 @@ pub record Tables : Type 0 where
   pub live : List ℕ
   pub states : List SegState
   pub rows : List InodeRow
+
+-- the number of blocks of the volume
+abbrev pub blocks_of : Tables → ℕ
+blocks_of tables = SEGMENT_BLOCKS * length tables.live
 
 -- how a segment is used
 abbrev pub usage_of : Tables → ℕ → SegUse
@@ -41,26 +47,46 @@ with_state tables seg state = record tables { states = slice_set tables.states s
 abbrev pub with_row : Tables → ℕ → InodeRow → Tables
 with_row tables ino row = record tables { rows = slice_set tables.rows ino row }
 
+-- everything stays but the live bytes of one segment
+pub record KeepsButLive (seg : ℕ) (old new : Tables) : Type 0 where
+  pub live : (other : ℕ) → other ≢ seg → slice_index new.live other ≡ slice_index old.live other
+  pub segments : length new.live ≡ length old.live
+  pub states : new.states ≡ old.states
+  pub rows : new.rows ≡ old.rows
+
+-- everything stays but the state of one segment
+pub record KeepsButState (seg : ℕ) (old new : Tables) : Type 0 where
+  pub live : new.live ≡ old.live
+  pub states : (other : ℕ) → other ≢ seg → (usage_of new other).state ≡ (usage_of old other).state
+  pub rows : new.rows ≡ old.rows
+
+-- everything stays but the row of one inode number
+pub record KeepsButRow (ino : ℕ) (old new : Tables) : Type 0 where
+  pub live : new.live ≡ old.live
+  pub states : new.states ≡ old.states
+  pub rows : (other : ℕ) → other ≢ ino → row_of new other ≡ row_of old other
+  pub inodes : length new.rows ≡ length old.rows
+
 -- the numbers from `low` up and below `high` are used
 abbrev pub AreUsed : List InodeRow → ℕ → ℕ → Type 0
 AreUsed rows low high = (ino : ℕ) → low ≤ ino → ino < high → (row_at rows ino).used ≡ true
 
--- the least unused number from 4 up
+-- the least unused number of those that a file may get
 pub record IsLeastFree (rows : List InodeRow) (ino : ℕ) : Type 0 where
-  pub from_four : 4 ≤ ino
+  pub from_first : FIRST_INODE ≤ ino
   pub in_range : ino < length rows
   pub unused : (row_at rows ino).used ≡ false
-  pub used_below : AreUsed rows 4 ino
+  pub used_below : AreUsed rows FIRST_INODE ino
 
 -- what holds of every ifile
 pub record IsIfile (tables : Tables) : Type 0 where
-  pub segments_least : 6 ≤ length tables.live
-  pub segments_most : length tables.live ≤ 1024
+  pub segments_least : LEAST_SEGMENTS ≤ length tables.live
+  pub segments_most : length tables.live ≤ MOST_SEGMENTS
   pub states_length : length tables.states ≡ length tables.live
-  pub inodes_least : 16 ≤ length tables.rows
-  pub inodes_most : length tables.rows ≤ 4096
-  pub live_bytes : All (λ live. live ≤ 32768) tables.live
-  pub each_row : All (IsRow (64 * length tables.live)) tables.rows
+  pub inodes_least : LEAST_INODES ≤ length tables.rows
+  pub inodes_most : length tables.rows ≤ MOST_INODES
+  pub live_bytes : All (λ live. live ≤ SEGMENT_BYTES) tables.live
+  pub each_row : All (IsRow (blocks_of tables)) tables.rows
 
 -- a new ifile: every segment clean with no live bytes, no number used
 abbrev pub fresh_tables : ℕ → ℕ → Tables
@@ -69,8 +95,10 @@ fresh_tables segments inodes =
 
 -- too few segments, or, with segments in their range, too few inode numbers
 abbrev pub IsTooFew : ℕ → ℕ → Type 0
-IsTooFew segments inodes = (segments < 6) ⊎ ((segments ≤ 1024) × (inodes < 16))
+IsTooFew segments inodes =
+    (segments < LEAST_SEGMENTS) ⊎ ((segments ≤ MOST_SEGMENTS) × (inodes < LEAST_INODES))
 
 -- too many segments, or, with segments in their range, too many inode numbers
 abbrev pub IsTooMany : ℕ → ℕ → Type 0
-IsTooMany segments inodes = (1024 < segments) ⊎ ((6 ≤ segments) × (4096 < inodes))
+IsTooMany segments inodes =
+    (MOST_SEGMENTS < segments) ⊎ ((LEAST_SEGMENTS ≤ segments) × (MOST_INODES < inodes))

@@ -11,7 +11,7 @@ mod writing;
 
 pub use inode::{InodePlace, InodeRow};
 pub use reading::usage_in;
-pub use segment::{SegState, SegUse};
+pub use segment::{SEGMENT_BYTES, SegState, SegUse};
 pub use tables::Ifile;
 
 #[cfg(test)]

@@ -3,6 +3,12 @@
 ghost use Rattle.std.specs.Prelude.{◌≡◌, ◌<◌, IfNone, IfSome};
 ghost use Rattle.lfs_ifile.specs.Segment.{state_number};
 
+use lfs_types::block::BLOCK_SIZE;
+use lfs_types::limits::SEGMENT_BLOCKS;
+
+/// The number of bytes of a segment, which its live bytes never pass.
+pub const SEGMENT_BYTES: u32 = SEGMENT_BLOCKS * BLOCK_SIZE as u32;
+
 /// What the log does with a segment (the 1993 paper on the log-structured file system for UNIX).
 #[derive(Clone, Copy, PartialEq, Eq, Debug)]
 pub enum SegState {

@@ -1,20 +1,21 @@
 //! The ifile of a volume.
 
 ghost use Rattle.std.specs.Prelude.{◌≡◌, ◌+◌, ◌-◌, ◌*◌, ◌<◌, ◌≤◌, ◌↔◌, ℕ, length, slice_index, true, false, IfOk, IfNone, IfSome, IsErrOf, vec_len};
-ghost use Rattle.lfs_ifile.specs.Inode.{raised_version, given_row, released_row};
-ghost use Rattle.lfs_ifile.specs.Tables.{usage_of, place_of, row_at, row_of, with_live, with_state, with_row, AreUsed, IsLeastFree, IsIfile, IsTooFew, IsTooMany, fresh_tables};
+ghost use Rattle.lfs_ifile.specs.Inode.{raised_version, given_row, placed_row, released_row, IsPlace};
+ghost use Rattle.lfs_ifile.specs.Tables.{blocks_of, usage_of, place_of, row_at, row_of, with_live, with_state, with_row, KeepsButLive, KeepsButState, KeepsButRow, AreUsed, IsLeastFree, IsIfile, IsTooFew, IsTooMany, fresh_tables};
 ghost use Rattle.lfs_ifile.specs.Layout.{ifile_bytes, ReadsUse};
 
 use crate::inode::{InodePlace, InodeRow, raised_version};
 use crate::reading::MAGIC;
-use crate::segment::{SegState, SegUse};
+use crate::segment::{SEGMENT_BYTES, SegState, SegUse};
 use crate::writing::{push_rows, push_segments, push_u32};
 use lfs_types::fault::FormatFault;
+use lfs_types::limits::{FIRST_INODE, LEAST_INODES, LEAST_SEGMENTS, MOST_INODES, MOST_SEGMENTS};
 use std::alloc::{AllocError, Global};
 use std::marker::Model;
 
-/// The least inode number that a new file may get.
-const FIRST_FREE: usize = 4;
+/// The least inode number that `least_free` gives, as an index of the rows.
+const FIRST_FREE: usize = FIRST_INODE as usize;
 
 /// How each segment is used, and where the record of each inode number stands. The numbers of
 /// segments and of inode numbers never change.
@@ -29,6 +30,7 @@ pub struct Ifile {
 
 impl Model for Ifile {
     ghost use Rattle.std.specs.Prelude.{◌≤◌, length};
+    ghost use Rattle.lfs_types.specs.declared.limits.TheConstants.{FIRST_INODE};
     ghost use Rattle.lfs_ifile.specs.Tables.{Tables, IsIfile, AreUsed};
 
     ghost Value = { Tables };
@@ -37,8 +39,8 @@ impl Model for Ifile {
 
     ghost invariant = { λ file.
         IsIfile (record { live = file.live.items; states = file.states.items; rows = file.rows.items })
-        × (4 ≤ file.used_below) × (file.used_below ≤ length file.rows.items)
-        × AreUsed file.rows.items 4 file.used_below };
+        × (FIRST_INODE ≤ file.used_below) × (file.used_below ≤ length file.rows.items)
+        × AreUsed file.rows.items FIRST_INODE file.used_below };
 }
 
 /// The least unused number from `from` up, or the number of rows.
@@ -69,16 +71,16 @@ impl Ifile {
         ensures too_few { IsErrOf result FormatFault.TooFew ↔ IsTooFew segments inodes }
         ensures too_many { IsErrOf result FormatFault.TooMany ↔ IsTooMany segments inodes }
     {
-        if segments < 6 {
+        if segments < LEAST_SEGMENTS {
             return Err(FormatFault::TooFew);
         }
-        if segments > 1024 {
+        if segments > MOST_SEGMENTS {
             return Err(FormatFault::TooMany);
         }
-        if inodes < 16 {
+        if inodes < LEAST_INODES {
             return Err(FormatFault::TooFew);
         }
-        if inodes > 4096 {
+        if inodes > MOST_INODES {
             return Err(FormatFault::TooMany);
         }
         let row = InodeRow {
@@ -93,6 +95,22 @@ impl Ifile {
             rows: vec![in alloc; row; inodes as usize]?,
             used_below: FIRST_FREE,
         })
+    }
+
+    /// The number of segments, 6 to 1,024.
+    pub fn segments(&self) -> u32
+        ensures value { result ≡ length self.now.live }
+        ensures formed { IsIfile self.now }
+    {
+        self.live.len() as u32
+    }
+
+    /// The number of inode numbers, 16 to 4,096.
+    pub fn inodes(&self) -> u32
+        ensures value { result ≡ length self.now.rows }
+        ensures formed { IsIfile self.now }
+    {
+        self.rows.len() as u32
     }
 
     /// How a segment is used.
@@ -111,6 +129,7 @@ impl Ifile {
     pub fn place(&self, ino: u32) -> Option<InodePlace>
         requires { ino < length self.now.rows }
         ensures value { result ≡ place_of self.now ino }
+        ensures bounds { IfSome result (IsPlace (blocks_of self.now)) }
         ensures formed { IsIfile self.now }
     {
         self.rows[ino as usize].place()
@@ -119,7 +138,7 @@ impl Ifile {
     /// The least unused number from 4 up; `None` where all of them are used.
     pub fn least_free(&self) -> Option<u32>
         ensures some { IfSome result (IsLeastFree self.now.rows) }
-        ensures none { IfNone result (AreUsed self.now.rows 4 (length self.now.rows)) }
+        ensures none { IfNone result (AreUsed self.now.rows FIRST_INODE (length self.now.rows)) }
         ensures formed { IsIfile self.now }
     {
         let free = first_unused(&self.rows, self.used_below);
@@ -137,6 +156,9 @@ impl Ifile {
         requires unused { (row_of self.old ino).used ≡ false }
         ensures version { result ≡ raised_version (row_of self.old ino).version }
         ensures after { self.new ≡ with_row self.old ino (given_row result) }
+        ensures row { row_of self.new ino ≡ given_row result }
+        ensures kept { KeepsButRow ino self.old self.new }
+        ensures formed { IsIfile self.new }
     {
         let at = ino as usize;
         let free = first_unused(&self.rows, self.used_below);
@@ -157,9 +179,12 @@ impl Ifile {
     pub fn set_place(&mut self, ino: u32, addr: u32, slot: u16)
         requires in_range { ino < length self.old.rows }
         requires used { (row_of self.old ino).used ≡ true }
-        requires addr_in_volume { addr < 64 * length self.old.live }
+        requires addr_in_volume { addr < blocks_of self.old }
         requires slot_in_block { slot < 4 }
-        ensures { self.new ≡ with_row self.old ino (record (row_of self.old ino) { address = addr; slot = slot }) }
+        ensures after { self.new ≡ with_row self.old ino (placed_row addr slot (row_of self.old ino)) }
+        ensures row { row_of self.new ino ≡ placed_row addr slot (row_of self.old ino) }
+        ensures kept { KeepsButRow ino self.old self.new }
+        ensures formed { IsIfile self.new }
     {
         let at = ino as usize;
         self.rows[at] = InodeRow {
@@ -173,7 +198,10 @@ impl Ifile {
     pub fn release(&mut self, ino: u32)
         requires in_range { ino < length self.old.rows }
         requires used { (row_of self.old ino).used ≡ true }
-        ensures { self.new ≡ with_row self.old ino (released_row (row_of self.old ino)) }
+        ensures after { self.new ≡ with_row self.old ino (released_row (row_of self.old ino)) }
+        ensures row { row_of self.new ino ≡ released_row (row_of self.old ino) }
+        ensures kept { KeepsButRow ino self.old self.new }
+        ensures formed { IsIfile self.new }
     {
         let at = ino as usize;
         self.rows[at] = InodeRow {
@@ -190,8 +218,11 @@ impl Ifile {
     /// Raises a segment's live bytes by `n`, to at most 32,768.
     pub fn add_live(&mut self, seg: u32, n: u32)
         requires in_range { seg < length self.old.live }
-        requires fits { slice_index self.old.live seg + n ≤ 32768 }
-        ensures { self.new ≡ with_live self.old seg (slice_index self.old.live seg + n) }
+        requires fits { slice_index self.old.live seg + n ≤ SEGMENT_BYTES }
+        ensures after { self.new ≡ with_live self.old seg (slice_index self.old.live seg + n) }
+        ensures live { slice_index self.new.live seg ≡ slice_index self.old.live seg + n }
+        ensures kept { KeepsButLive seg self.old self.new }
+        ensures formed { IsIfile self.new }
     {
         self.live[seg as usize] += n;
     }
@@ -200,7 +231,10 @@ impl Ifile {
     pub fn drop_live(&mut self, seg: u32, n: u32)
         requires in_range { seg < length self.old.live }
         requires fits { n ≤ slice_index self.old.live seg }
-        ensures { self.new ≡ with_live self.old seg (slice_index self.old.live seg - n) }
+        ensures after { self.new ≡ with_live self.old seg (slice_index self.old.live seg - n) }
+        ensures live { slice_index self.new.live seg ≡ slice_index self.old.live seg - n }
+        ensures kept { KeepsButLive seg self.old self.new }
+        ensures formed { IsIfile self.new }
     {
         self.live[seg as usize] -= n;
     }
@@ -208,21 +242,27 @@ impl Ifile {
     /// Sets a segment's state.
     pub fn set_state(&mut self, seg: u32, state: SegState)
         requires { seg < length self.old.live }
-        ensures { self.new ≡ with_state self.old seg state }
+        ensures after { self.new ≡ with_state self.old seg state }
+        ensures state { (usage_of self.new seg).state ≡ state }
+        ensures kept { KeepsButState seg self.old self.new }
+        ensures formed { IsIfile self.new }
     {
         self.states[seg as usize] = state;
     }
 
     /// The ifile as bytes: `LFIF`, the numbers of segments and of inode numbers, then 8 bytes for
     /// each segment and 12 for each inode number.
-    pub fn bytes(&self, alloc: Global) -> Result<Vec<u8>, AllocError>
+    pub fn bytes(&self) -> Result<Vec<u8>, AllocError>
         ensures layout { IfOk result (λ bytes. bytes.items ≡ ifile_bytes self.now) }
         ensures len { IfOk result (λ bytes. vec_len bytes ≡ 12 + 8 * length self.now.live + 12 * length self.now.rows) }
         ensures read_back { IfOk result (λ bytes. (seg : ℕ) → seg < length self.now.live → ReadsUse bytes.items seg (usage_of self.now seg)) }
     {
         let segments = self.live.len();
         let inodes = self.rows.len();
-        let mut bytes = Vec::with_capacity(alloc, 12 + 8 * segments + 12 * inodes)?;
+        let mut bytes = Vec::with_capacity(
+            *self.live.allocator(),
+            12 + 8 * segments + 12 * inodes,
+        )?;
         push_u32(&mut bytes, MAGIC)?;
         push_u32(&mut bytes, segments as u32)?;
         push_u32(&mut bytes, inodes as u32)?;

@@ -33,9 +33,9 @@ fn ranges_are_judged_in_order(rt: HostRuntime) {
 fn lengths_of_the_bytes(rt: HostRuntime) -> Result<(), Fail> {
     let small = Ifile::format(rt.alloc(), 6, 16)?;
     assert_eq!(rt; small.least_free(), Some(4));
-    assert_eq!(rt; small.bytes(rt.alloc())?.len(), 252);
+    assert_eq!(rt; small.bytes()?.len(), 252);
     let usual = Ifile::format(rt.alloc(), 64, 256)?;
-    assert_eq!(rt; usual.bytes(rt.alloc())?.len(), 3_596);
+    assert_eq!(rt; usual.bytes()?.len(), 3_596);
     Ok(())
 }
 
@@ -117,7 +117,7 @@ const BYTES: &[u8; 252] = b"LFIF\0\0\0\x06\0\0\0\x10\
 
 #[test]
 fn bytes_by_hand(rt: HostRuntime) -> Result<(), Fail> {
-    let bytes = changed(rt.alloc())?.bytes(rt.alloc())?;
+    let bytes = changed(rt.alloc())?.bytes()?;
     assert_eq!(rt; bytes.as_slice(), BYTES.as_slice());
     Ok(())
 }
@@ -159,11 +159,35 @@ fn usage_and_places(rt: HostRuntime) -> Result<(), Fail> {
 fn usage_in_the_bytes_is_usage(rt: HostRuntime) -> Result<(), Fail> {
     let file = changed(rt.alloc())?;
     assert_eq!(rt; file.least_free(), Some(5));
-    let bytes = file.bytes(rt.alloc())?;
+    let bytes = file.bytes()?;
     for seg in 0..6 {
         assert_eq!(rt; usage_in(&bytes, seg), Some(file.usage(seg)), "at {seg}");
     }
     assert_eq!(rt; usage_in(&bytes, 6), None);
+    Ok(())
+}
+
+#[test]
+fn bytes_of_the_largest(rt: HostRuntime) -> Result<(), Fail> {
+    let mut file = Ifile::format(rt.alloc(), 1_024, 4_096)?;
+    assert_eq!(rt; file.segments(), 1_024);
+    assert_eq!(rt; file.inodes(), 4_096);
+    file.set_state(1_023, SegState::Dirty);
+    file.add_live(1_023, 32_768);
+    file.give_out(4_095);
+    file.set_place(4_095, 65_535, 3);
+    let bytes = file.bytes()?;
+    assert_eq!(rt; bytes.len(), 57_356);
+    let full = SegUse {
+        live: 32_768,
+        state: SegState::Dirty,
+    };
+    assert_eq!(rt; usage_in(&bytes, 1_023), Some(full));
+    assert_eq!(rt; usage_in(&bytes, 1_024), None);
+    assert_eq!(rt;
+        &bytes[57_344..],
+        b"\0\0\xff\xff\0\x03\0\x01\0\0\0\x01".as_slice()
+    );
     Ok(())
 }
 
