@@ -1,21 +1,25 @@
 -- What the tests of a record's fields say.
-use Rattle.std.proofs.Common.{◌≡◌, ℕ, ◌+◌, ◌-◌, ◌*◌, ◌%◌, ◌<◌, ◌≤◌, ◌&&◌, ◌||◌, not, List, length, slice_index, ltb, eqb, refl, arith, inl, inr, Decides, bit_and}
-use Rattle.std.proofs.lemmas.Bool.{cases_lt}
+use Rattle.std.proofs.Common.{◌≡◌, ℕ, ◌+◌, ◌-◌, ◌*◌, ◌%◌, ◌<◌, ◌≤◌, ◌&&◌, ◌||◌, not, List, length, slice_index, ltb, leb, eqb, refl, arith, inl, inr, Decides, bit_and}
+use Rattle.std.proofs.lemmas.Bool.{cases_lt, le-leb, leb-true}
 use Rattle.std.proofs.lemmas.Bool.Decides.{Decides-and, Decides-or, Decides-not, Decides-eqb, Decides-ltb, Decides-like, Decides-below_and}
-use Rattle.lfs_inodes.specs.declared.kind.InodeKind.{InodeKind}
-use Rattle.lfs_inodes.specs.declared.kind.InodeKind.TheVariants.{File, Directory}
+use Rattle.lfs_types.specs.declared.attrs.Kind.{Kind}
+use Rattle.lfs_types.specs.declared.attrs.Kind.TheVariants.{File, Directory}
+use Rattle.lfs_types.specs.FlagNumbers.{IsKnown}
 use Rattle.lfs_inodes.specs.Bytes.{number_at, AreZero}
-use Rattle.lfs_inodes.specs.Facts.{IsInodeNumber, IsFlagSet, IsSizeOf, IsSingle, block_count}
+use Rattle.lfs_inodes.specs.Facts.{IsInodeNumber, IsSizeOf, IsSingle, block_count}
 use Rattle.lfs_inodes.specs.Reading.{is_inode_number, is_size_of, is_direct, are_direct, are_zero, is_record}
 
 number_decides : (n : ℕ) → Decides (is_inode_number n) (IsInodeNumber n)
 number_decides n = Decides-like (is_inode_number n) (λ p. (p.0, p.1.0, p.1.1)) (λ p. (p.0, (p.1, p.2)))
     (Decides-and (ltb 1 n) (not (eqb n 3) && ltb n 4096) (Decides-ltb 1 n) (Decides-and (not (eqb n 3)) (ltb n 4096) (Decides-not (eqb n 3) (Decides-eqb n 3)) (Decides-ltb n 4096)))
 
-size_decides : (kind : InodeKind) (size : ℕ) → Decides (is_size_of kind size) (IsSizeOf kind size)
-size_decides File size = Decides-like (ltb size 71681) (λ p. (omega arith, λ same. absurd cc)) (λ p. omega arith) (Decides-ltb size 71681)
-size_decides Directory size = Decides-like (ltb size 71681 && eqb (size % 512) 0) (λ p. (omega arith, λ same. p.1)) (λ p. (omega arith, p.1 refl))
-    (Decides-and (ltb size 71681) (eqb (size % 512) 0) (Decides-ltb size 71681) (Decides-eqb (size % 512) 0))
+within_decides : (size : ℕ) → Decides (leb size 71680) (size ≤ 71680)
+within_decides size = (leb-true size 71680, le-leb size 71680)
+
+size_decides : (kind : Kind) (size : ℕ) → Decides (is_size_of kind size) (IsSizeOf kind size)
+size_decides File size = Decides-like (leb size 71680) (λ p. (p, λ same. absurd cc)) (λ p. p.0) (within_decides size)
+size_decides Directory size = Decides-like (leb size 71680 && eqb (size % 512) 0) (λ p. (p.0, λ same. p.1)) (λ p. (p.0, p.1 refl))
+    (Decides-and (leb size 71680) (eqb (size % 512) 0) (within_decides size) (Decides-eqb (size % 512) 0))
 
 -- an address, of which none is needed from block `limit` on
 abbrev IsPlace : ℕ → ℕ → ℕ → Type 0
@@ -44,20 +48,20 @@ zero_decides bytes from count = Decides-like (are_zero bytes from count)
     (Decides-below_and (λ k. eqb (slice_index bytes (from + k)) 0) (λ k. slice_index bytes (from + k) ≡ 0) (are_zero bytes from) (λ k. Decides-eqb (slice_index bytes (from + k)) 0) refl (λ _. refl) count)
 
 -- what a record of a kind keeps
-pub record Holds (kind : InodeKind) (bytes : List ℕ) : Type 0 where
+pub record Holds (kind : Kind) (bytes : List ℕ) : Type 0 where
   pub whole : length bytes ≡ 128
   pub record_version : number_at bytes 0 2 ≡ 1
   pub number : IsInodeNumber (number_at bytes 4 4)
   pub version : 1 ≤ number_at bytes 8 4
   pub mode : number_at bytes 20 2 < 4096
   pub after_mode : AreZero bytes 22 24
-  pub flags : IsFlagSet (number_at bytes 24 4)
+  pub flags : IsKnown (number_at bytes 24 4)
   pub size : IsSizeOf kind (number_at bytes 28 8)
   pub direct : (n : ℕ) → n < 12 → IsDirectAt bytes (number_at bytes 28 8) n
   pub single : IsSingle (number_at bytes 28 8) (number_at bytes 84 4)
   pub after_single : AreZero bytes 88 128
 
-pub record_decides : (kind : InodeKind) (bytes : List ℕ) → Decides (is_record kind bytes) (Holds kind bytes)
+pub record_decides : (kind : Kind) (bytes : List ℕ) → Decides (is_record kind bytes) (Holds kind bytes)
 unfolding is_record
 record_decides kind bytes = Decides-like (is_record kind bytes)
     (λ p. record {

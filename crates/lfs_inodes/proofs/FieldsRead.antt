@@ -4,8 +4,9 @@ use Rattle.std.specs.Prelude.{Option, Some, None, IfSome, IfNone, replicate}
 use Rattle.std.specs.Option.{option_map}
 use Rattle.std.proofs.lemmas.Bool.{cases_lt, cases_eq, eq-eqb, ne_eqb, false_from_ne_true}
 use Rattle.std.proofs.lemmas.List.{ext_get_or, length-append, get_or_append_left, get_or_at}
-use Rattle.lfs_inodes.specs.declared.kind.InodeKind.{InodeKind}
-use Rattle.lfs_inodes.specs.declared.kind.InodeKind.TheVariants.{File, Directory}
+use Rattle.lfs_types.specs.declared.attrs.Kind.{Kind}
+use Rattle.lfs_types.specs.declared.attrs.Kind.TheVariants.{File, Directory}
+use Rattle.lfs_types.specs.Blocks.{zero_block}
 use Rattle.lfs_inodes.specs.declared.inode.Inode.{Inode}
 use Rattle.lfs_inodes.specs.Bytes.{number_at}
 use Rattle.lfs_inodes.specs.Addresses.{addresses, numbers}
@@ -36,16 +37,16 @@ Holds-from_record bytes v h = record {
 -- the addresses stand side by side
 addresses-read : (bytes : List ℕ) (v : Inode) → HasAddresses bytes v → numbers bytes 36 13 ≡ addresses v
 addresses-read bytes v h = ext_get_or 0 (numbers bytes 36 13) (addresses v)
-    (length-numbers bytes 36 13 ∙ sym (length-append v.direct (v.single ∷ []) ∙ ap (λ n. n + 1) h.count)) each
+    (length-numbers bytes 36 13 ∙ sym (length-append v.direct (v.single ∷ []) ∙ ap (λ n. n + 1) v.whole)) each
   where
     each : (k : ℕ) → k < length (numbers bytes 36 13) → get_or (numbers bytes 36 13) k 0 ≡ get_or (addresses v) k 0
     each k lt = elim (cases_lt k 12) [
       | inl direct ↦
           slice_index-numbers bytes 36 13 k (omega arith) ∙ h.direct k direct
-          ∙ sym (get_or_append_left v.direct (v.single ∷ []) 0 k (omega (arith, h.count)))
+          ∙ sym (get_or_append_left v.direct (v.single ∷ []) 0 k (omega (arith, v.whole)))
       | inr last ↦
           let same : k ≡ 12 = omega (arith, length-numbers bytes 36 13) in
-          rw same (slice_index-numbers bytes 36 13 12 (omega arith) ∙ h.single ∙ sym (get_or_at v.direct v.single [] 0 12 h.count))
+          rw same (slice_index-numbers bytes 36 13 12 (omega arith) ∙ h.single ∙ sym (get_or_at v.direct v.single [] 0 12 v.whole))
     ]
 
 -- what is read of a record
@@ -68,7 +69,7 @@ read-is bytes v h = λ i. record {
 fields_as-is : (bytes : List ℕ) (v : Inode) → IsRecord bytes v → fields_as v.kind bytes ≡ Some (fields_of v)
 fields_as-is bytes v h = rw ((record_decides v.kind bytes).1 (Holds-from_record bytes v h)) (ap Some (read-is bytes v h))
 
-fields_in-by_kind : (kind : InodeKind) (bytes : List ℕ) → IsKindCode (number_at bytes 2 2) kind → fields_in bytes ≡ fields_as kind bytes
+pub fields_in-by_kind : (kind : Kind) (bytes : List ℕ) → IsKindCode (number_at bytes 2 2) kind → fields_in bytes ≡ fields_as kind bytes
 unfolding fields_in
 fields_in-by_kind File bytes e = rw (eq-eqb (number_at bytes 2 2) 1 e) refl
 fields_in-by_kind Directory bytes e =
@@ -79,7 +80,7 @@ pub fields_in-is : (bytes : List ℕ) (v : Inode) → IsRecord bytes v → field
 fields_in-is bytes v h = fields_in-by_kind v.kind bytes h.identity.kind ∙ fields_as-is bytes v h
 
 -- the inode of bytes that pass the tests
-made : (kind : InodeKind) (bytes : List ℕ) → Holds kind bytes → Inode
+pub made : (kind : Kind) (bytes : List ℕ) → Holds kind bytes → Inode
 made kind bytes h = record {
   kind = kind;
   number = number_at bytes 4 4;
@@ -96,25 +97,25 @@ made kind bytes h = record {
   permitted = h.mode;
   flagged = h.flags;
   sized = h.size;
+  whole = length-numbers bytes 36 12;
   addressed = λ n lt. rw (slice_index-numbers bytes 36 12 n lt) (h.direct n lt);
   indirect = h.single;
 }
 
-made-record : (kind : InodeKind) (bytes : List ℕ) → IsKindCode (number_at bytes 2 2) kind → (h : Holds kind bytes) → IsRecord bytes (made kind bytes h)
+pub made-record : (kind : Kind) (bytes : List ℕ) → IsKindCode (number_at bytes 2 2) kind → (h : Holds kind bytes) → IsRecord bytes (made kind bytes h)
 unfolding made
 made-record kind bytes e h = record {
   whole = h.whole;
   identity = record { record_version = h.record_version; kind = e; number = refl; version = refl };
   attributes = record { owner = refl; group = refl; mode = refl; unnamed = h.after_mode; flags = refl; size = refl };
   addresses = record {
-    count = length-numbers bytes 36 12;
     direct = λ n lt. sym (slice_index-numbers bytes 36 12 n lt);
     single = refl;
     unnamed = h.after_single;
   };
 }
 
-no_fields : (kind : InodeKind) (bytes : List ℕ) → IsKindCode (number_at bytes 2 2) kind → ((v : Inode) → IsRecord bytes v → ⊥) → fields_as kind bytes ≡ None
+no_fields : (kind : Kind) (bytes : List ℕ) → IsKindCode (number_at bytes 2 2) kind → ((v : Inode) → IsRecord bytes v → ⊥) → fields_as kind bytes ≡ None
 no_fields kind bytes e none = rw (false_from_ne_true (is_record kind bytes) (λ passes.
     let h = (record_decides kind bytes).0 passes in none (made kind bytes h) (made-record kind bytes e h))) refl
 
@@ -140,5 +141,5 @@ pub fields_in-zeros : fields_in (replicate 128 0) ≡ None
 fields_in-zeros = fields_in-none (replicate 128 0) (λ v h. zeros_no_record (replicate 128 0) v refl h)
 
 -- nor of a slot of an empty block
-pub fields_in-unused : (block : List ℕ) (k : ℕ) → k < 4 → block ≡ replicate 512 0 → fields_in (slot_of block k) ≡ None
+pub fields_in-unused : (block : List ℕ) (k : ℕ) → k < 4 → block ≡ zero_block → fields_in (slot_of block k) ≡ None
 fields_in-unused block k lt zeros = ap fields_in (slot_of-zeros block k lt zeros) ∙ fields_in-zeros

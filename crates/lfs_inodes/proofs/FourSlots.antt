@@ -4,11 +4,12 @@ use Rattle.std.proofs.lemmas.Bool.{cases_lt, cases_eq}
 use Rattle.std.proofs.lemmas.List.{take-replicate, drop-replicate, drop-take, drop_at, take_at, ext_get_or, length-take-le, length-set, get_or-set_same, get_or-set_other}
 use Rattle.std.proofs.lemmas.Slice.{take-put_mid_below, drop-put_mid}
 use borrow.Rule.Slice.PartMut.{put_mid}
+use Rattle.lfs_types.specs.Blocks.{zero_block}
 use Rattle.lfs_inodes.specs.Slots.{slot_of, slots}
 
 -- the slots of zeros are zeros
-pub slot_of-zeros : (block : List ℕ) (k : ℕ) → k < 4 → block ≡ replicate 512 0 → slot_of block k ≡ replicate 128 0
-unfolding slot_of
+pub slot_of-zeros : (block : List ℕ) (k : ℕ) → k < 4 → block ≡ zero_block → slot_of block k ≡ replicate 128 0
+unfolding slot_of zero_block
 slot_of-zeros block k lt zeros =
     ap (λ (xs : List ℕ). take 128 (drop (128 * k) xs)) zeros
     ∙ ap (take 128) (drop-replicate (128 * k) 512 0)

@@ -3,8 +3,8 @@ use Rattle.std.proofs.Common.{◌≡◌, ℕ, zero, suc, ◌+◌, ◌*◌, ◌<�
 use Rattle.std.specs.Prelude.{Option, Some, None, IfNone, replicate}
 use Rattle.std.proofs.lemmas.Bool.{cases_lt}
 use Rattle.std.proofs.lemmas.List.{ext_get_or}
-use Rattle.lfs_inodes.specs.declared.kind.InodeKind.{InodeKind}
-use Rattle.lfs_inodes.specs.declared.kind.InodeKind.TheVariants.{File, Directory}
+use Rattle.lfs_types.specs.declared.attrs.Kind.{Kind}
+use Rattle.lfs_types.specs.declared.attrs.Kind.TheVariants.{File, Directory}
 use Rattle.lfs_inodes.specs.declared.inode.Inode.{Inode}
 use Rattle.lfs_inodes.specs.Bytes.{number_at, AreBytes, AreZero, SameBetween, Puts}
 use Rattle.lfs_inodes.specs.Record.{IsKindCode, HasIdentity, HasAttributes, IsRecord}
@@ -59,13 +59,13 @@ HasAttributes-same xs ys v same h = record {
 }
 
 -- a number stands for one kind
-one_kind : (code : ℕ) (a b : InodeKind) → IsKindCode code a → IsKindCode code b → a ≡ b
+one_kind : (code : ℕ) (a b : Kind) → IsKindCode code a → IsKindCode code b → a ≡ b
 one_kind code File File p q = refl
 one_kind code File Directory p q = absurd (omega arith)
 one_kind code Directory File p q = absurd (omega arith)
 one_kind code Directory Directory p q = refl
 
-one_code : (a b : ℕ) (kind : InodeKind) → IsKindCode a kind → IsKindCode b kind → a ≡ b
+one_code : (a b : ℕ) (kind : Kind) → IsKindCode a kind → IsKindCode b kind → a ≡ b
 one_code a b File p q = p ∙ sym q
 one_code a b Directory p q = p ∙ sym q
 
@@ -80,8 +80,8 @@ IsRecord-one bytes v w p q = same_inode v w
     (sym p.attributes.mode ∙ q.attributes.mode)
     (sym p.attributes.flags ∙ q.attributes.flags)
     (sym p.attributes.size ∙ q.attributes.size)
-    (ext_get_or 0 v.direct w.direct (p.addresses.count ∙ sym q.addresses.count)
-    (λ n lt. sym (p.addresses.direct n (omega (arith, p.addresses.count))) ∙ q.addresses.direct n (omega (arith, p.addresses.count))))
+    (ext_get_or 0 v.direct w.direct (v.whole ∙ sym w.whole)
+    (λ n lt. sym (p.addresses.direct n (omega (arith, v.whole))) ∙ q.addresses.direct n (omega (arith, v.whole))))
     (sym p.addresses.single ∙ q.addresses.single)
 
 -- an inode has one record
@@ -120,7 +120,7 @@ IsRecord-same xs ys v p q a b = ext_get_or 0 xs ys (a.whole ∙ sym b.whole) (λ
         (SameBetween-zero xs ys 88 128 a.addresses.unnamed b.addresses.unnamed)
 
 -- a kind's number, wherever it stands
-pub IsKindCode-along : (a b : ℕ) (kind : InodeKind) → a ≡ b → IsKindCode b kind → IsKindCode a kind
+pub IsKindCode-along : (a b : ℕ) (kind : Kind) → a ≡ b → IsKindCode b kind → IsKindCode a kind
 IsKindCode-along a b kind e h = rw e h
 
 -- zeros are no record

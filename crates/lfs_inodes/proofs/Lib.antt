@@ -5,3 +5,6 @@ pub mod Cells
 pub mod FieldTests
 pub mod FieldsRead
 pub mod FourSlots
+pub mod ZeroedLemmas
+pub mod AddressLemmas
+pub mod FieldLemmas

@@ -1,4 +1,5 @@
 pub mod Addresses
+pub mod Attributes
 pub mod Bytes
 pub mod Facts
 pub mod Reading

@@ -1,11 +1,16 @@
 -- What a record says, as a function of its bytes.
-use Rattle.std.specs.Prelude.{ℕ, suc, zero, ◌+◌, ◌*◌, ◌%◌, Bool, true, not, ◌&&◌, ◌||◌, ◌==◌, nat_lt, if◌then◌else◌, List, length, slice_index, bit_and, Option, Some, None}
-use Rattle.lfs_inodes.specs.declared.kind.InodeKind.{InodeKind}
-use Rattle.lfs_inodes.specs.declared.kind.InodeKind.TheVariants.{File, Directory}
+use Rattle.std.specs.Prelude.{◌≡◌, ◌≤◌, ◌<◌, ℕ, suc, zero, ◌+◌, ◌*◌, ◌%◌, Bool, true, not, ◌&&◌, ◌||◌, ◌==◌, nat_lt, nat_le, if◌then◌else◌, List, length, slice_index, bit_and, Option, Some, None}
+use Rattle.lfs_types.specs.FlagNumbers.{IsKnown}
+use Rattle.lfs_types.specs.declared.attrs.Kind.{Kind}
+use Rattle.lfs_types.specs.declared.attrs.Kind.TheVariants.{File, Directory}
+use Rattle.lfs_types.specs.declared.block.TheConstants.{BLOCK_SIZE}
+use Rattle.lfs_types.specs.declared.limits.TheConstants.{FILE_BYTES, MOST_INODES}
 use Rattle.lfs_inodes.specs.declared.inode.Inode.{Inode}
+use Rattle.lfs_inodes.specs.declared.inode.TheConstants.{ADDRESS_LIMIT, DIRECT_COUNT}
 use Rattle.lfs_inodes.specs.Bytes.{number_at}
-use Rattle.lfs_inodes.specs.Facts.{block_count}
-use Rattle.lfs_inodes.specs.Addresses.{Attributes, attributes, addresses, numbers}
+use Rattle.lfs_inodes.specs.Facts.{IsInodeNumber, IsSizeOf, block_count}
+use Rattle.lfs_inodes.specs.Addresses.{addresses, numbers}
+use Rattle.lfs_inodes.specs.Attributes.{Attributes, attributes}
 
 -- an inode without the facts that its type keeps
 pub record Fields : Type 0 where
@@ -15,22 +20,34 @@ pub record Fields : Type 0 where
 abbrev pub fields_of : Inode → Fields
 fields_of v = record { attributes = attributes v; addresses = addresses v }
 
+-- what each record keeps: the bounds of its fields
+pub record AreFields (f : Fields) : Type 0 where
+  pub numbered : IsInodeNumber f.attributes.number
+  pub versioned : 1 ≤ f.attributes.version
+  pub permitted : f.attributes.mode < 4096
+  pub flagged : IsKnown f.attributes.flags
+  pub sized : IsSizeOf f.attributes.kind f.attributes.size
+  pub whole : length f.addresses ≡ 13
+  pub in_volume : (n : ℕ) → n < 13 → slice_index f.addresses n < ADDRESS_LIMIT
+  -- only blocks below the size have an address, and an indirect block is there with more than 12
+  pub within : (n : ℕ) → n < 13 → block_count f.attributes.size ≤ n → slice_index f.addresses n ≡ 0
+
 -- The tests of the fields.
 abbrev pub is_inode_number : ℕ → Bool
-is_inode_number n = nat_lt 1 n && (not (n == 3) && nat_lt n 4096)
+is_inode_number n = nat_lt 1 n && (not (n == 3) && nat_lt n MOST_INODES)
 
 abbrev pub is_flag_set : ℕ → Bool
 is_flag_set flags = bit_and flags 0x7_0007 == flags
 
-abbrev pub is_size_of : InodeKind → ℕ → Bool
-is_size_of File size = nat_lt size 71681
-is_size_of Directory size = nat_lt size 71681 && size % 512 == 0
+abbrev pub is_size_of : Kind → ℕ → Bool
+is_size_of File size = nat_le size FILE_BYTES
+is_size_of Directory size = nat_le size FILE_BYTES && size % BLOCK_SIZE == 0
 
 abbrev pub is_direct : ℕ → ℕ → ℕ → Bool
-is_direct size n address = nat_lt address 65536 && (nat_lt n (block_count size) || address == 0)
+is_direct size n address = nat_lt address ADDRESS_LIMIT && (nat_lt n (block_count size) || address == 0)
 
 abbrev pub is_single : ℕ → ℕ → Bool
-is_single size single = nat_lt single 65536 && (nat_lt 12 (block_count size) || single == 0)
+is_single size single = nat_lt single ADDRESS_LIMIT && (nat_lt DIRECT_COUNT (block_count size) || single == 0)
 
 unfoldable pub are_direct : List ℕ → ℕ → ℕ → Bool
 are_direct bytes size zero = true
@@ -41,7 +58,7 @@ are_zero bytes from zero = true
 are_zero bytes from (suc n) = slice_index bytes (from + n) == 0 && are_zero bytes from n
 
 -- the bytes are a record of this kind
-unfoldable pub is_record : InodeKind → List ℕ → Bool
+unfoldable pub is_record : Kind → List ℕ → Bool
 is_record kind bytes =
     length bytes == 128
     && (number_at bytes 0 2 == 1
@@ -51,12 +68,12 @@ is_record kind bytes =
     && (are_zero bytes 22 2
     && (is_flag_set (number_at bytes 24 4)
     && (is_size_of kind (number_at bytes 28 8)
-    && (are_direct bytes (number_at bytes 28 8) 12
+    && (are_direct bytes (number_at bytes 28 8) DIRECT_COUNT
     && (is_single (number_at bytes 28 8) (number_at bytes 84 4)
     && are_zero bytes 88 40)))))))))
 
 -- the fields where they stand
-unfoldable pub read : InodeKind → List ℕ → Fields
+unfoldable pub read : Kind → List ℕ → Fields
 read kind bytes = record {
   attributes = record {
     kind = kind;
@@ -71,7 +88,7 @@ read kind bytes = record {
   addresses = numbers bytes 36 13;
 }
 
-abbrev pub fields_as : InodeKind → List ℕ → Option Fields
+abbrev pub fields_as : Kind → List ℕ → Option Fields
 fields_as kind bytes = if is_record kind bytes then Some (read kind bytes) else None
 
 -- the fields of the record that the bytes are, if they are one

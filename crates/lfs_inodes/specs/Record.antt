@@ -1,11 +1,12 @@
 -- The grammar of an inode record: what each of its 128 bytes holds (this project's profile).
 use Rattle.std.specs.Prelude.{◌≡◌, ◌<◌, ℕ, ◌+◌, ◌*◌, List, length, slice_index}
-use Rattle.lfs_inodes.specs.declared.kind.InodeKind.{InodeKind}
-use Rattle.lfs_inodes.specs.declared.kind.InodeKind.TheVariants.{File, Directory}
+use Rattle.lfs_types.specs.declared.attrs.Kind.{Kind}
+use Rattle.lfs_types.specs.declared.attrs.Kind.TheVariants.{File, Directory}
 use Rattle.lfs_inodes.specs.declared.inode.Inode.{Inode}
+use Rattle.lfs_inodes.specs.declared.inode.TheConstants.{DIRECT_COUNT}
 use Rattle.lfs_inodes.specs.Bytes.{number_at, AreZero}
 
-abbrev pub IsKindCode : ℕ → InodeKind → Type 0
+abbrev pub IsKindCode : ℕ → Kind → Type 0
 IsKindCode code File = code ≡ 1
 IsKindCode code Directory = code ≡ 2
 
@@ -27,8 +28,7 @@ pub record HasAttributes (bytes : List ℕ) (v : Inode) : Type 0 where
 
 -- bytes 36 to 127: the twelve direct addresses, the address of the indirect block, and zeros
 pub record HasAddresses (bytes : List ℕ) (v : Inode) : Type 0 where
-  pub count : length v.direct ≡ 12
-  pub direct : (n : ℕ) → n < 12 → number_at bytes (36 + 4 * n) 4 ≡ slice_index v.direct n
+  pub direct : (n : ℕ) → n < DIRECT_COUNT → number_at bytes (36 + 4 * n) 4 ≡ slice_index v.direct n
   pub single : number_at bytes 84 4 ≡ v.single
   pub unnamed : AreZero bytes 88 128
 

@@ -2,34 +2,38 @@
 
 ghost use Rattle.std.specs.Prelude.{◌≡◌, ◌≤◌, ◌<◌, ◌*◌, ◌+◌, ◌↔◌, ℕ, IsTrue, MatchOption, length, slice_index};
 ghost use Rattle.std.specs.Option.{SomeIff};
+ghost use Rattle.lfs_types.specs.FlagNumbers.{IsKnown};
 ghost use Rattle.lfs_inodes.specs.Bytes.{number_at};
-ghost use Rattle.lfs_inodes.specs.Facts.{IsInodeNumber, IsFlagSet, IsSizeOf, AreDirect, IsSingle, block_count};
+ghost use Rattle.lfs_inodes.specs.Facts.{IsInodeNumber, IsSizeOf, AreDirect, IsSingle, block_count};
 ghost use Rattle.lfs_inodes.specs.Record.{IsKindCode};
 
 use crate::bytes::{u16_at, u32_at, u64_at};
-use crate::inode::{ADDRESS_LIMIT, DIRECT_COUNT, KNOWN_FLAGS, MAX_SIZE, NUMBER_LIMIT};
-use crate::kind::InodeKind;
+use crate::inode::{ADDRESS_LIMIT, DIRECT_COUNT};
+use lfs_types::attrs::Kind;
 use lfs_types::block::BLOCK_SIZE;
+use lfs_types::file_flags::FileFlags;
+use lfs_types::limits::{FILE_BYTES, MOST_INODES};
+use lfs_types::mode::Mode;
 
 /// The number that stands for a kind.
-pub(crate) fn kind_code(kind: InodeKind) -> u16
+pub(crate) fn kind_code(kind: Kind) -> u16
     ensures { IsKindCode result kind }
 {
     match kind {
-        InodeKind::File => 1,
-        InodeKind::Directory => 2,
+        Kind::File => 1,
+        Kind::Directory => 2,
     }
 }
 
 /// The kind, where the record has one.
-pub(crate) fn kind_at(bytes: &[u8; 128]) -> Option<InodeKind>
+pub(crate) fn kind_at(bytes: &[u8; 128]) -> Option<Kind>
     ensures { MatchOption result
-        ((kind : InodeKind) → IsKindCode (number_at bytes.now 2 2) kind → ⊥)
+        ((kind : Kind) → IsKindCode (number_at bytes.now 2 2) kind → ⊥)
         (λ kind. IsKindCode (number_at bytes.now 2 2) kind) }
 {
     match u16_at(bytes, 2) {
-        1 => Some(InodeKind::File),
-        2 => Some(InodeKind::Directory),
+        1 => Some(Kind::File),
+        2 => Some(Kind::Directory),
         _ => None,
     }
 }
@@ -39,7 +43,7 @@ pub(crate) fn inode_number_at(bytes: &[u8; 128]) -> Option<u32>
     ensures { SomeIff result (IsInodeNumber (number_at bytes.now 4 4)) (number_at bytes.now 4 4) }
 {
     let number = u32_at(bytes, 4);
-    (2 <= number && number != 3 && number < NUMBER_LIMIT).then_some(number)
+    (2 <= number && number != 3 && number < MOST_INODES).then_some(number)
 }
 
 /// The version of the file or directory, where it is one.
@@ -51,37 +55,35 @@ pub(crate) fn version_at(bytes: &[u8; 128]) -> Option<u32>
 }
 
 /// The mode, where it has no other bits.
-pub(crate) fn mode_at(bytes: &[u8; 128]) -> Option<u16>
+pub(crate) fn mode_at(bytes: &[u8; 128]) -> Option<Mode>
     ensures { SomeIff result (number_at bytes.now 20 2 < 4096) (number_at bytes.now 20 2) }
 {
-    let mode = u16_at(bytes, 20);
-    (mode <= 0o7777).then_some(mode)
+    Mode::new(u16_at(bytes, 20))
 }
 
 /// The flags, where all are known.
-pub(crate) fn flags_at(bytes: &[u8; 128]) -> Option<u32>
-    ensures { SomeIff result (IsFlagSet (number_at bytes.now 24 4)) (number_at bytes.now 24 4) }
+pub(crate) fn flags_at(bytes: &[u8; 128]) -> Option<FileFlags>
+    ensures { SomeIff result (IsKnown (number_at bytes.now 24 4)) (number_at bytes.now 24 4) }
 {
-    let flags = u32_at(bytes, 24);
-    (flags & KNOWN_FLAGS == flags).then_some(flags)
+    FileFlags::new(u32_at(bytes, 24))
 }
 
 /// The size, where something of this kind may have it.
-pub(crate) fn size_at(bytes: &[u8; 128], kind: InodeKind) -> Option<u64>
+pub(crate) fn size_at(bytes: &[u8; 128], kind: Kind) -> Option<u64>
     ensures { SomeIff result (IsSizeOf kind (number_at bytes.now 28 8)) (number_at bytes.now 28 8) }
 {
     let size = u64_at(bytes, 28);
     let fits = match kind {
-        InodeKind::File => size <= MAX_SIZE,
-        InodeKind::Directory => size <= MAX_SIZE && size % BLOCK_SIZE as u64 == 0,
+        Kind::File => size <= FILE_BYTES,
+        Kind::Directory => size <= FILE_BYTES && size % BLOCK_SIZE as u64 == 0,
     };
     fits.then_some(size)
 }
 
 /// The direct addresses, whatever they are.
 pub(crate) fn direct_at(bytes: &[u8; 128]) -> [u32; DIRECT_COUNT]
-    ensures count { length result ≡ 12 }
-    ensures direct { (n : ℕ) → n < 12 → slice_index result n ≡ number_at bytes.now (36 + 4 * n) 4 }
+    ensures count { length result ≡ DIRECT_COUNT }
+    ensures direct { (n : ℕ) → n < DIRECT_COUNT → slice_index result n ≡ number_at bytes.now (36 + 4 * n) 4 }
 {
     let mut direct = [0; DIRECT_COUNT];
     for n in 0..DIRECT_COUNT {

@@ -1,32 +1,27 @@
 //! Inodes.
 
-ghost use Rattle.std.specs.Prelude.{◌≤◌, ◌<◌};
-ghost use Rattle.lfs_inodes.specs.Facts.{IsInodeNumber, IsFlagSet, IsSizeOf, AreDirect, IsSingle};
+ghost use Rattle.std.specs.Prelude.{◌≡◌, ◌≤◌, ◌<◌, length};
+ghost use Rattle.lfs_types.specs.FlagNumbers.{IsKnown};
+ghost use Rattle.lfs_inodes.specs.declared.inode.TheConstants.{DIRECT_COUNT};
+ghost use Rattle.lfs_inodes.specs.Facts.{IsInodeNumber, IsSizeOf, AreDirect, IsSingle};
 
-use crate::kind::InodeKind;
+use lfs_types::attrs::Kind;
+use lfs_types::file_flags::FileFlags;
+use lfs_types::limits::{MOST_SEGMENTS, SEGMENT_BLOCKS};
+use lfs_types::mode::Mode;
 
 /// The number of blocks whose addresses stand in the record itself (this project's profile).
 pub const DIRECT_COUNT: usize = 12;
 
-/// The greatest size in bytes: 140 blocks, of which 128 are under the indirect block (this project's
-/// profile).
-pub const MAX_SIZE: u64 = 71_680;
-
-/// Inode numbers lie below this number (this project's profile).
-pub const NUMBER_LIMIT: u32 = 4_096;
-
-/// Addresses lie below this number (this project's profile).
-pub const ADDRESS_LIMIT: u32 = 65_536;
-
-/// The bits of UF_NODUMP, UF_IMMUTABLE, UF_APPEND, SF_ARCHIVED, SF_IMMUTABLE and SF_APPEND (4.4BSD).
-pub const KNOWN_FLAGS: u32 = 0x7_0007;
+/// Addresses lie below this number, 65,536: those of the blocks of the largest volume.
+pub const ADDRESS_LIMIT: u32 = MOST_SEGMENTS * SEGMENT_BLOCKS;
 
 /// What the log keeps of a file or a directory beside its blocks: its attributes, and the addresses
 /// of its first blocks. A block without an address reads as zeros (this project's profile).
 #[derive(Clone, Copy, PartialEq, Eq, Debug)]
 pub struct Inode {
     /// File or directory.
-    pub kind: InodeKind,
+    pub kind: Kind,
     /// The inode number: 2 for the root, else 4 to 4,095.
     pub number: u32,
     /// How often the number has been given out, at least 1.
@@ -35,10 +30,10 @@ pub struct Inode {
     pub owner: u32,
     /// The group number.
     pub group: u32,
-    /// The permission, set-id and sticky bits, at most 0o7777.
-    pub mode: u16,
-    /// The file flags of 4.4BSD, of which six are known.
-    pub flags: u32,
+    /// The permission, set-id and sticky bits.
+    pub mode: Mode,
+    /// The file flags.
+    pub flags: FileFlags,
     /// The number of bytes, at most 71,680; for a directory a multiple of 512.
     pub size: u64,
     /// The addresses of data blocks 0 to 11, each below 65,536; 0 is none.
@@ -48,8 +43,9 @@ pub struct Inode {
     ghost numbered: { IsInodeNumber number },
     ghost versioned: { 1 ≤ version },
     ghost permitted: { mode < 4096 },
-    ghost flagged: { IsFlagSet flags },
+    ghost flagged: { IsKnown flags },
     ghost sized: { IsSizeOf kind size },
+    ghost whole: { length direct ≡ DIRECT_COUNT },
     ghost addressed: { AreDirect size direct },
     ghost indirect: { IsSingle size single },
 }

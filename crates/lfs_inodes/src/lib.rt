@@ -2,11 +2,12 @@
 #![tactic(auto)]
 
 pub mod addresses;
+pub mod attributes;
 mod bytes;
 mod fields;
 pub mod inode;
-pub mod kind;
 pub mod record;
+pub mod size;
 pub mod slots;
 #[cfg(test)]
 mod tests;

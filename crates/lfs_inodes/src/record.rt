@@ -3,7 +3,7 @@
 ghost use Rattle.std.specs.Prelude.{◌≡◌, ◌≤◌, ℕ, List, length, replicate, Some, IfSome, IfNone, None};
 ghost use Rattle.std.specs.Option.{option_map};
 ghost use Rattle.lfs_inodes.specs.Bytes.{AreBytes, AreZero, SameBetween};
-ghost use Rattle.lfs_inodes.specs.Reading.{fields_of, fields_in};
+ghost use Rattle.lfs_inodes.specs.Reading.{AreFields, Fields, fields_of, fields_in};
 ghost use Rattle.lfs_inodes.specs.Record.{HasIdentity, HasAttributes, HasAddresses, IsRecord};
 
 use crate::bytes::{are_zero, put_u16, put_u32, put_u64, u16_at, u32_at};
@@ -42,6 +42,7 @@ impl Inode {
         ensures only { (v : Inode) → IsRecord bytes.now v → result ≡ Some v }
         ensures unused { bytes.now ≡ replicate 128 0 → result ≡ None }
         ensures reading { option_map fields_of result ≡ fields_in bytes.now }
+        ensures bounds { (f : Fields) → fields_in bytes.now ≡ Some f → AreFields f }
     {
         let mut inode = attributes_at(bytes)?;
         let direct = direct_at(bytes);
@@ -109,8 +110,8 @@ fn put_attributes(bytes: &mut [u8], inode: &Inode)
 {
     put_u32(bytes, 12, inode.owner);
     put_u32(bytes, 16, inode.group);
-    put_u16(bytes, 20, inode.mode);
-    put_u32(bytes, 24, inode.flags);
+    put_u16(bytes, 20, inode.mode.bits());
+    put_u32(bytes, 24, inode.flags.bits());
     put_u64(bytes, 28, inode.size);
 }
 

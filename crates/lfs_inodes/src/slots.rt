@@ -1,6 +1,7 @@
 //! Inode blocks: four slots of 128 bytes, each a record or, if unused, zeros.
 
 ghost use Rattle.std.specs.Prelude.{◌≡◌, ◌<◌, None, replicate, slice_set};
+ghost use Rattle.lfs_types.specs.Blocks.{zero_block};
 ghost use Rattle.lfs_inodes.specs.Reading.{fields_in};
 ghost use Rattle.lfs_inodes.specs.Slots.{slot_of, slots};
 
@@ -11,8 +12,8 @@ use lfs_types::block::Block;
 pub fn slot(block: &Block, index: usize) -> [u8; 128]
     requires { index < 4 }
     ensures bytes { result ≡ slot_of block.now index }
-    ensures unused { block.now ≡ replicate 512 0 → result ≡ replicate 128 0 }
-    ensures none { block.now ≡ replicate 512 0 → fields_in result ≡ None }
+    ensures unused { block.now ≡ zero_block → result ≡ replicate 128 0 }
+    ensures none { block.now ≡ zero_block → fields_in result ≡ None }
 {
     let mut record = [0; RECORD_SIZE];
     record.copy_from_slice(&block[RECORD_SIZE * index..RECORD_SIZE * (index + 1)]);

@@ -1,10 +1,13 @@
-ghost use Rattle.std.specs.Prelude.{◌≡◌, ◌≤◌, ◌<◌};
+ghost use Rattle.std.specs.Prelude.{◌≡◌, ◌<◌};
+ghost use Rattle.lfs_types.specs.FlagNumbers.{IsKnown};
 
-use crate::addresses::{address, with_address};
+use crate::addresses::{address, cleared_from, entry, single_address, with_address, with_entry};
 use crate::inode::Inode;
-use crate::kind::InodeKind;
 use crate::slots::{slot, with_slot};
-use lfs_types::block::Block;
+use lfs_types::attrs::{Attrs, Kind};
+use lfs_types::block::{Block, ZERO_BLOCK};
+use lfs_types::file_flags::FileFlags;
+use lfs_types::mode::Mode;
 
 /// The fields of the record of file 4, version 1, owner and group 7, mode 0644, no flags, size 3,
 /// first address 9. Zeros follow them.
@@ -27,18 +30,36 @@ fn example_record() -> [u8; 128] {
     bytes
 }
 
+fn mode(bits: u16) -> Mode
+    requires { bits < 4096 }
+{
+    let Some(mode) = Mode::new(bits) else {
+        unreachable!()
+    };
+    mode
+}
+
+fn flags(bits: u32) -> FileFlags
+    requires { IsKnown bits }
+{
+    let Some(flags) = FileFlags::new(bits) else {
+        unreachable!()
+    };
+    flags
+}
+
 fn example() -> Inode
-    ensures file { result.kind ≡ InodeKind.File }
+    ensures file { result.kind ≡ Kind.File }
     ensures size { result.size ≡ 3 }
 {
     Inode {
-        kind: InodeKind::File,
+        kind: Kind::File,
         number: 4,
         version: 1,
         owner: 7,
         group: 7,
-        mode: 0o644,
-        flags: 0,
+        mode: mode(0o644),
+        flags: FileFlags::none(),
         size: 3,
         direct: [9, 0, 0, 0, 0, 0, 0, 0, 0, 0, 0, 0],
         single: 0,
@@ -50,13 +71,13 @@ fn full() -> Inode
     ensures { result.size ≡ 71680 }
 {
     Inode {
-        kind: InodeKind::Directory,
+        kind: Kind::Directory,
         number: 4095,
         version: 2,
         owner: 0,
         group: 0,
-        mode: 0o7777,
-        flags: 0x7_0007,
+        mode: mode(0o7777),
+        flags: flags(0x7_0007),
         size: 71680,
         direct: [1, 2, 3, 4, 5, 6, 7, 8, 9, 10, 11, 65535],
         single: 20,
@@ -152,44 +173,96 @@ fn four_records_in_a_block(rt: HostRuntime) {
     assert_eq!(rt; Inode::decode(&slot(&block, 3)), Some(example()));
 }
 
-/// A file that grows: its addresses keep what the type says of them.
-fn grown(inode: &Inode, size: u64) -> Inode
-    requires file { inode.now.kind ≡ InodeKind.File }
-    requires more { inode.now.size ≤ size }
-    requires within { size ≤ 71680 }
-    ensures { result.size ≡ size }
+/// Attributes of no size: user 7, group 9, mode 4755, the user's append-only flag.
+fn shown(kind: Kind) -> Attrs
+    ensures kind { result.kind ≡ kind }
+    ensures owner { result.uid ≡ 7 }
 {
-    let mut changed = *inode;
-    changed.size = size;
-    changed
-}
-
-/// An indirect block comes in.
-fn with_single(inode: &Inode, address: u32) -> Inode
-    requires large { 6144 < inode.now.size }
-    requires in_volume { address < 65536 }
-    ensures { result.single ≡ address }
-{
-    let mut changed = *inode;
-    changed.single = address;
-    changed
-}
-
-/// The file without bytes: all of its addresses go with them.
-fn emptied(inode: &Inode) -> Inode
-    ensures { result.size ≡ 0 }
-{
-    let mut changed = *inode;
-    changed.direct = [0; 12];
-    changed.single = 0;
-    changed.size = 0;
-    changed
+    Attrs {
+        kind,
+        uid: 7,
+        gid: 9,
+        mode: mode(0o4755),
+        flags: flags(4),
+        size: 0,
+    }
 }
 
 #[test]
-fn a_file_grows_and_is_cut(rt: HostRuntime) {
-    let large = grown(&example(), 6145);
-    let indirect = with_single(&large, 77);
-    assert_eq!(rt; &indirect.encode()[84..88], [0, 0, 0, 77].as_slice());
-    assert_eq!(rt; &emptied(&indirect).encode()[34..88], [0; 54].as_slice());
+fn a_new_inode_shows_its_attributes(rt: HostRuntime) {
+    let inode = Inode::new(4095, 3, &shown(Kind::Directory));
+    let mut record = [0; 128];
+    record[..28].copy_from_slice(&[
+        0, 1, 0, 2, 0, 0, 0x0f, 0xff, 0, 0, 0, 3, 0, 0, 0, 7, 0, 0, 0, 9, 0x09, 0xed, 0, 0, 0, 0,
+        0, 4,
+    ]);
+    assert_eq!(rt; inode.encode(), record);
+    assert_eq!(rt; inode.attrs(), shown(Kind::Directory));
+    let changed = example().with_attrs(&shown(Kind::File));
+    let mut attrs = shown(Kind::File);
+    attrs.size = 3;
+    assert_eq!(rt; changed.attrs(), attrs);
+    assert_eq!(rt; changed.direct, example().direct);
+    assert_eq!(rt; (changed.number, changed.version), (4, 1));
+}
+
+#[test]
+fn the_addresses_of_a_record_are_replaced(rt: HostRuntime) {
+    let inode = full().with_direct(11, 600).with_single(0);
+    assert_eq!(rt; inode.direct, [1, 2, 3, 4, 5, 6, 7, 8, 9, 10, 11, 600]);
+    assert_eq!(rt; single_address(&inode), 0);
+    assert_eq!(rt; single_address(&full()), 20);
+    assert_eq!(rt; single_address(&full().with_single(65535)), 65535);
+}
+
+#[test]
+fn the_entries_of_an_indirect_block(rt: HostRuntime) {
+    let block = full_indirect();
+    assert_eq!(rt;
+        [entry(&block, 0), entry(&block, 1), entry(&block, 127)],
+        [30, 0, 515]
+    );
+    let changed = with_entry(&block, 1, 0x0102_0304);
+    assert_eq!(rt;
+        &changed[..12],
+        [0, 0, 0, 30, 1, 2, 3, 4, 0, 0, 0, 0].as_slice()
+    );
+    assert_eq!(rt; cleared_from(&changed, 128), changed);
+    assert_eq!(rt; &cleared_from(&changed, 127)[504..], [0; 8].as_slice());
+    assert_eq!(rt;
+        &cleared_from(&changed, 1)[..8],
+        [0, 0, 0, 30, 0, 0, 0, 0].as_slice()
+    );
+    assert_eq!(rt; cleared_from(&changed, 0), ZERO_BLOCK);
+}
+
+#[test]
+fn a_size_takes_blocks(rt: HostRuntime) {
+    let empty = Inode::new(4, 1, &shown(Kind::File));
+    assert_eq!(rt; empty.blocks(), 0);
+    for (size, blocks) in [
+        (1, 1),
+        (512, 1),
+        (513, 2),
+        (6144, 12),
+        (6145, 13),
+        (71680, 140),
+    ] {
+        assert_eq!(rt; empty.grown(size).blocks(), blocks, "{size} bytes");
+    }
+}
+
+#[test]
+fn an_inode_is_cut_and_grows(rt: HostRuntime) {
+    let kept = full().cut(6656);
+    assert_eq!(rt; (kept.size, kept.single), (6656, 20));
+    assert_eq!(rt; kept.direct, full().direct);
+    let cut = full().cut(6144);
+    assert_eq!(rt; cut.single, 0);
+    assert_eq!(rt; cut.direct, full().direct);
+    let cut = full().cut(512);
+    assert_eq!(rt; cut.direct, [1, 0, 0, 0, 0, 0, 0, 0, 0, 0, 0, 0]);
+    assert_eq!(rt; cut.grown(71680).direct, cut.direct);
+    assert_eq!(rt; example().cut(1).direct, example().direct);
+    assert_eq!(rt; &example().cut(0).encode()[28..], [0; 100].as_slice());
 }

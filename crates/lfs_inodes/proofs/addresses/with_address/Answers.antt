@@ -7,7 +7,7 @@ returns-then-n-lt-DIRECT_COUNT-clause-only c = λ block whole bytes same. number
 
 pub returns-else-n-lt-DIRECT_COUNT-clause-only : goal.returns-else-n-lt-DIRECT_COUNT-clause-only
 returns-else-n-lt-DIRECT_COUNT-clause-only c = λ block whole bytes same.
-    numbers-one 128 block _ bytes c.with_entry.ensures.bytes whole c.with_entry.ensures.same_length same
+    c.with_entry.ensures.only block whole bytes same
 
 pub returns-else-n-lt-DIRECT_COUNT-clause-reads : goal.returns-else-n-lt-DIRECT_COUNT-clause-reads
 returns-else-n-lt-DIRECT_COUNT-clause-reads c = λ m lt.

@@ -1,4 +1,4 @@
-use Rattle.std.proofs.Common.{◌∙◌, ◌+◌, ◌*◌, arith, rules}
+use Rattle.std.proofs.Common.{◌∙◌, ◌+◌, ◌*◌, arith}
 use borrow.Author.Count.{below_more}
 use Rattle.lfs_inodes.proofs.Grammar.{number_at-before}
 use Rattle.lfs_inodes.proofs.record.put_addresses.Goals as goal
@@ -19,7 +19,6 @@ returns-clause-addresses c =
     let old = c.loop-n.invariant in
     let put = c.put_u32-2.ensures in
     record {
-      count = search rules;
       direct = λ n lt. number_at-before _ _ 84 4 _ (36 + 4 * n) 4 put (omega arith) ∙ old.written n (omega arith);
       single = put.written;
       unnamed = λ k low high. put.above k low (omega arith) ∙ old.after k (omega arith) high ∙ c.requires.unwritten k low high;

@@ -24,7 +24,8 @@ returns-clause-attributes c =
       mode =
           number_at-before _ _ 28 8 _ 20 2 size (omega arith)
           ∙ number_at-before _ _ 24 4 _ 20 2 flags (omega arith)
-          ∙ mode.written;
+          ∙ mode.written
+          ∙ c.bits.ensures.value;
       unnamed = λ k low high.
           size.below k (omega arith) (omega arith)
           ∙ flags.below k (omega arith) (omega arith)
@@ -32,6 +33,6 @@ returns-clause-attributes c =
           ∙ group.above k (omega arith) (omega arith)
           ∙ owner.above k (omega arith) (omega arith)
           ∙ c.requires.unwritten k low high;
-      flags = number_at-before _ _ 28 8 _ 24 4 size (omega arith) ∙ flags.written;
+      flags = number_at-before _ _ 28 8 _ 24 4 size (omega arith) ∙ flags.written ∙ c.bits-2.ensures.value;
       size = size.written;
     }

@@ -3,6 +3,7 @@ use Rattle.lfs_inodes.specs.declared.inode.Inode.{Inode}
 use Rattle.lfs_inodes.specs.Record.{IsRecord}
 use Rattle.lfs_inodes.proofs.Grammar.{IsRecord-one, zeros_no_record, IfNone-always}
 use Rattle.lfs_inodes.proofs.FieldsRead.{fields_in-answer}
+use Rattle.lfs_inodes.proofs.FieldLemmas.{AreFields-fields_in}
 use Rattle.lfs_inodes.proofs.inode.Inode.decode.Goals as goal
 
 -- the first 36 bytes are of no record
@@ -20,12 +21,18 @@ returns-in_err-inode-clause-only c = λ v h. absurd (c.in_err-inode.ensures.none
 pub returns-in_err-inode-clause-reading : goal.returns-in_err-inode-clause-reading
 returns-in_err-inode-clause-reading c = fields_in-answer _ _ (returns-in_err-inode-clause-found c) (returns-in_err-inode-clause-none c)
 
+pub returns-in_err-inode-clause-bounds : goal.returns-in_err-inode-clause-bounds
+returns-in_err-inode-clause-bounds c = AreFields-fields_in _
+
 -- the others are of no record
 pub returns-then-not-fits-clause-none : goal.returns-then-not-fits-clause-none
 returns-then-not-fits-clause-none c = search rules
 
 pub returns-then-not-fits-clause-reading : goal.returns-then-not-fits-clause-reading
 returns-then-not-fits-clause-reading c = fields_in-answer _ None tt (returns-then-not-fits-clause-none c)
+
+pub returns-then-not-fits-clause-bounds : goal.returns-then-not-fits-clause-bounds
+returns-then-not-fits-clause-bounds c = AreFields-fields_in _
 
 -- a record
 pub returns-clause-found : goal.returns-clause-found
@@ -39,3 +46,6 @@ returns-clause-unused c = λ zeros. absurd (zeros_no_record _ _ zeros (returns-c
 
 pub returns-clause-reading : goal.returns-clause-reading
 returns-clause-reading c = fields_in-answer _ (Some _) (returns-clause-found c) tt
+
+pub returns-clause-bounds : goal.returns-clause-bounds
+returns-clause-bounds c = AreFields-fields_in _

@@ -1,0 +1,74 @@
+-- The bounds of what is read of a record.
+use Rattle.std.proofs.Common.{◌≡◌, ℕ, Bool, true, false, cond, List, [], ◌∷◌, ◌++◌, slice_index, take, refl, sym, ap, subst, ◌∙◌, arith, inl, inr}
+use Rattle.std.specs.Prelude.{Some, None}
+use Rattle.std.proofs.lemmas.Bool.{cases_lt, cases_eq, ne_eqb}
+use Rattle.std.proofs.lemmas.List.{take_at}
+use Rattle.lfs_types.specs.declared.attrs.Kind.{Kind}
+use Rattle.lfs_types.specs.declared.attrs.Kind.TheVariants.{File, Directory}
+use Rattle.lfs_inodes.specs.declared.inode.Inode.{Inode}
+use Rattle.lfs_inodes.specs.Bytes.{number_at}
+use Rattle.lfs_inodes.specs.Record.{IsKindCode, IsRecord}
+use Rattle.lfs_inodes.specs.Reading.{AreFields, Fields, fields_as, fields_in, fields_of, is_record, read}
+use Rattle.lfs_inodes.proofs.AddressLemmas.{length-addresses, slice_index-direct, slice_index-single}
+use Rattle.lfs_inodes.proofs.FieldTests.{record_decides}
+use Rattle.lfs_inodes.proofs.FieldsRead.{fields_in-by_kind, fields_in-is, made, made-record}
+use Rattle.lfs_inodes.proofs.SameInode.{same_inode}
+
+-- the facts of an inode's type are those of its fields
+pub AreFields-fields_of : (v : Inode) → AreFields (fields_of v)
+AreFields-fields_of v = record {
+  numbered = v.numbered;
+  versioned = v.versioned;
+  permitted = v.permitted;
+  flagged = v.flagged;
+  sized = v.sized;
+  whole = length-addresses v;
+  in_volume = λ n lt. elim (cases_lt n 12) [
+    | inl direct ↦ rw (slice_index-direct v n direct) (v.addressed n direct).0
+    | inr last ↦ let same : n ≡ 12 = omega arith in rw (same, slice_index-single v) v.indirect.0
+  ];
+  within = λ n lt past. elim (cases_lt n 12) [
+    | inl direct ↦ slice_index-direct v n direct ∙ (v.addressed n direct).1 past
+    | inr last ↦ let same : n ≡ 12 = omega arith in rw (same, slice_index-single v) (v.indirect.1 (omega arith))
+  ];
+}
+
+passes : (kind : Kind) (bytes : List ℕ) (f : Fields) (b : Bool) → is_record kind bytes ≡ b → cond b (Some (read kind bytes)) None ≡ Some f → is_record kind bytes ≡ true
+passes kind bytes f true e h = e
+passes kind bytes f false e h = cc
+
+inode_as : (kind : Kind) (bytes : List ℕ) (f : Fields) → IsKindCode (number_at bytes 2 2) kind → fields_as kind bytes ≡ Some f → (v : Inode) × IsRecord bytes v
+inode_as kind bytes f code e =
+    let h = (record_decides kind bytes).0 (passes kind bytes f (is_record kind bytes) refl e) in
+    (made kind bytes h, made-record kind bytes code h)
+
+-- bytes of which fields are read are the record of an inode
+pub inode_in : (bytes : List ℕ) (f : Fields) → fields_in bytes ≡ Some f → (v : Inode) × IsRecord bytes v
+unfolding fields_in
+inode_in bytes f e = elim (cases_eq (number_at bytes 2 2) 1) [
+  | inl file ↦ inode_as File bytes f file (sym (fields_in-by_kind File bytes file) ∙ e)
+  | inr other ↦ elim (cases_eq (number_at bytes 2 2) 2) [
+    | inl directory ↦ inode_as Directory bytes f directory (sym (fields_in-by_kind Directory bytes directory) ∙ e)
+    | inr neither ↦
+        let none : fields_in bytes ≡ None = rw (ne_eqb (number_at bytes 2 2) 1 other, ne_eqb (number_at bytes 2 2) 2 neither) refl in
+        cc
+  ]
+]
+
+-- what is read keeps the bounds of fields
+pub AreFields-fields_in : (bytes : List ℕ) (f : Fields) → fields_in bytes ≡ Some f → AreFields f
+AreFields-fields_in bytes f e =
+    let v = inode_in bytes f e in
+    let same : fields_of v.0 ≡ f = (let is = fields_in-is bytes v.0 v.1 in cc) in
+    subst AreFields same (AreFields-fields_of v.0)
+
+-- an inode is its fields
+pub fields_of-one : (v w : Inode) → fields_of v ≡ fields_of w → v ≡ w
+fields_of-one v w same =
+    let addresses : v.direct ++ v.single ∷ [] ≡ w.direct ++ w.single ∷ [] = ap (λ f. f.addresses) same in
+    same_inode v w
+    (ap (λ f. f.attributes.kind) same) (ap (λ f. f.attributes.number) same) (ap (λ f. f.attributes.version) same)
+    (ap (λ f. f.attributes.owner) same) (ap (λ f. f.attributes.group) same) (ap (λ f. f.attributes.mode) same)
+    (ap (λ f. f.attributes.flags) same) (ap (λ f. f.attributes.size) same)
+    (sym (take_at v.direct (v.single ∷ []) 12 v.whole) ∙ ap (take 12) addresses ∙ take_at w.direct (w.single ∷ []) 12 w.whole)
+    (sym (slice_index-single v) ∙ ap (λ xs. slice_index xs 12) addresses ∙ slice_index-single w)
