@@ -1,0 +1,10 @@
+pub mod BlockLemmas
+pub mod CountingLemmas
+pub mod LogLemmas
+pub mod MoveLemmas
+pub mod OwnerLemmas
+pub mod PieceLemmas
+pub mod PlaceLemmas
+pub mod ReadingLemmas
+pub mod SegmentLemmas
+pub mod WayLemmas
