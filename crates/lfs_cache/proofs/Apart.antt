@@ -13,10 +13,10 @@ use Rattle.lfs_cache.specs.Held.{name_at, entry_at, held_by, AreHeld}
 use Rattle.lfs_cache.proofs.Entries.{same_is, same_cases}
 use Rattle.lfs_cache.proofs.Cached.{some_is, in_range, once}
 
-times_head : (x : ℕ) (xs : List ℕ) → times x (x ∷ xs) ≡ suc (times x xs)
+pub times_head : (x : ℕ) (xs : List ℕ) → times x (x ∷ xs) ≡ suc (times x xs)
 times_head x xs = let on : (x == x) ≡ true = grind (arith, nat_tests) in ap (λ b. cond b (suc (times x xs)) (times x xs)) on
 
-times_tail : (g x : ℕ) (xs : List ℕ) → times g xs ≤ times g (x ∷ xs)
+pub times_tail : (g x : ℕ) (xs : List ℕ) → times g xs ≤ times g (x ∷ xs)
 times_tail g x xs =
     elim (eqb_tells x g) as (λ _. times g xs ≤ times g (x ∷ xs))
     [ inl t ↦ subst (λ b. times g xs ≤ cond b (suc (times g xs)) (times g xs)) (sym t.0) (omega arith) | inr t ↦ subst (λ b. times g xs ≤ cond b (suc (times g xs)) (times g xs)) (sym t.0) (omega arith) ]

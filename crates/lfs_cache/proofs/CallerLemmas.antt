@@ -6,7 +6,7 @@ use Rattle.lfs_cache.specs.Keys.{same_key}
 use Rattle.lfs_cache.proofs.Entries.{same_is, same_self, same_cases}
 use Rattle.lfs_cache.specs.Contents.{without_key, taken_by, with_frame, filled, written, written_by, settled, settled_by, forgotten, forgotten_by, Contents, block_in, block_of, or_else, used, used_by, keys_of}
 
-none_both : (a b : Option (List ℕ)) → or_else a b ≡ None → (a ≡ None) × (b ≡ None)
+pub none_both : (a b : Option (List ℕ)) → or_else a b ≡ None → (a ≡ None) × (b ≡ None)
 none_both None b h = (refl, h)
 none_both (Some x) b h = absurd (cc)
 
@@ -96,3 +96,8 @@ forgotten_none (Some b) k s e = ap (λ o. or_else o (block_in k (without_key k s
 
 pub forgotten_gone : (k : Key) (s : Contents) → block_of k (forgotten k s) ≡ None
 forgotten_gone k s = forgotten_none (block_of k s) k s refl
+
+-- where no key has a block there is no entry
+pub none_left : (es : List (Key × List ℕ)) → ((k : Key) → block_in k es ≡ None) → es ≡ []
+none_left [] none = refl
+none_left (e ∷ es) none = let bad : None ≡ Some e.1 = sym (none e.0) ∙ block_first e.0 e.1 es in absurd (cc)

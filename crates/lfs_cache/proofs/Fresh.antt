@@ -125,8 +125,8 @@ module _ (l : FrameLists) (keys : List (Option Key)) (f : ℕ) (names : List Key
   other : (g : ℕ) → g ≢ f → key_at new g ≡ key_at keys g
   other g ne = get_or-set_other keys f g (Some k) None ne
 
-  not_locked : times f l.locked ≡ 0
-  not_locked = (fresh_rest keys l.blocks f (Some k) [] l.locked l.lru l.age l.empty (once l h.whole f low) next).1
+  pub not_locked_next : times f l.locked ≡ 0
+  not_locked_next = (fresh_rest keys l.blocks f (Some k) [] l.locked l.lru l.age l.empty (once l h.whole f low) next).1
 
   in_time : (g : ℕ) → 0 < times_in_all g l → g ≢ frame_count l
   in_time g some e = let r = in_range l h.whole g some in omega arith
@@ -142,14 +142,14 @@ module _ (l : FrameLists) (keys : List (Option Key)) (f : ℕ) (names : List Key
       | inl a ↦ elim (cases_eq g' f) as (λ _. g ≡ g') [ inl a' ↦ a ∙ sym a' | inr b' ↦ (let same : Some k ≡ Some k' = sym new_is ∙ (ap (key_at new) (sym a) ∙ e) in absurd (absent g' (sym (other g' b') ∙ (e' ∙ sym same)))) ]
       | inr b ↦ elim (cases_eq g' f) as (λ _. g ≡ g') [ inl a' ↦ (let same : Some k ≡ Some k' = sym new_is ∙ (ap (key_at new) (sym a') ∙ e') in absurd (absent g (sym (other g b) ∙ (e ∙ sym same)))) | inr b' ↦ h.apart g g' k' (sym (other g b) ∙ e) (sym (other g' b') ∙ e') ]
     ];
-    named = h.named ∙ (ap (map (name_at keys)) (sym (without_absent f l.locked not_locked)) ∙ (sym (names_same keys l.blocks f (Some k) [] l.locked) ∙ ap (map (name_at new)) (without_absent f l.locked not_locked)));
+    named = h.named ∙ (ap (map (name_at keys)) (sym (without_absent f l.locked not_locked_next)) ∙ (sym (names_same keys l.blocks f (Some k) [] l.locked) ∙ ap (map (name_at new)) (without_absent f l.locked not_locked_next)));
   }
 
   pub fresh_taken : (b : List ℕ) → held_by (taken f (with_block l f b)) new ≡ with_frame (held_by l keys)
   fresh_taken b = (fresh_rest keys l.blocks f (Some k) b l.locked l.lru l.age l.empty (once l h.whole f low) next).0
 
   pub fresh_length : length (without f l.locked) ≡ length l.locked
-  fresh_length = ap length (without_absent f l.locked not_locked)
+  fresh_length = ap length (without_absent f l.locked not_locked_next)
 
 -- the frame of a key that is forgotten
 module _ (l : FrameLists) (keys : List (Option Key)) (f : ℕ) (names : List Key) (k : Key) (h : AreHeld l keys (frame_count l) names) (is : key_at keys f ≡ Some k) (whole' : (q : Queue) → IsWhole (fronted f q l)) where

@@ -1,7 +1,9 @@
 pub mod Apart
 pub mod Cached
 pub mod CallerLemmas
+pub mod ChangeLemmas
 pub mod Entries
+pub mod FormedLemmas
 pub mod Fresh
 pub mod KeyLists
 pub mod Named

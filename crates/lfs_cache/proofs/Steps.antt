@@ -3,7 +3,9 @@ use Rattle.std.proofs.Common.{◌≡◌, ◌≢◌, ◌⊎◌, ℕ, ◌+◌, ◌
 use Rattle.std.specs.Prelude.{map}
 use Rattle.std.proofs.Math.Nat.{eq-zero-or-pos}
 use Rattle.std.proofs.Math.ListN.{get_or, set, length-set}
-use Rattle.std.proofs.lemmas.List.{get_or-set_same, length-map}
+use Rattle.std.proofs.lemmas.List.{get_or-set_same, get_or-set_other, length-map}
+use Rattle.std.proofs.lemmas.Bool.{cases_eq}
+use Rattle.lfs_types.specs.declared.block.TheConstants.{BLOCK_SIZE}
 use Rattle.lfs_recency.specs.declared.queue.Queue.{Queue}
 use Rattle.lfs_recency.specs.declared.queue.Queue.TheVariants.{Locked, Lru, Age, Empty}
 use Rattle.lfs_recency.specs.FrameLists.{FrameLists, frame_count, listed, without, taken, fronted, times, IsWhole}
@@ -12,17 +14,38 @@ use Rattle.lfs_recency.proofs.Lists.{length-without, times-taken_same, times-tak
 use Rattle.lfs_cache.specs.declared.key.Key.{Key}
 use Rattle.lfs_cache.specs.Keys.{same_key}
 use Rattle.lfs_cache.specs.Index.{key_at}
-use Rattle.lfs_cache.specs.Frames.{name_or, names_without, names_after, next_of, HasRoom}
+use Rattle.lfs_cache.specs.Frames.{name_or, names_without, names_after, next_of, HasRoom, IsListed}
 use Rattle.lfs_cache.specs.Contents.{Contents, block_in, block_of, removed, locked_first, lru_first, used, used_by, filled, written, written_by, settled, settled_by, forgotten, forgotten_by, IsLocked, or_else, keys_of}
-use Rattle.lfs_cache.specs.Held.{name_at, entry_at, held_by, AreHeld, IsCache}
-use Rattle.lfs_cache.proofs.Entries.{same_is, same_cases, block_found, block_absent, block_missing}
-use Rattle.lfs_cache.proofs.Cached.{none_not, some_is, in_range, key_range, not_free, in_one, alone_locked, alone_lru, but_held, rest_removed, rest_left, to_locked, to_lru, names_length, locked_held, lru_held}
-use Rattle.lfs_cache.proofs.Fresh.{next_range, block_held, new_is, fresh_held, fresh_taken, fresh_length, forgotten_held, forgotten_view}
+use Rattle.lfs_cache.specs.Held.{name_at, entry_at, held_by, AreHeld, AreSized, IsCache}
+use Rattle.lfs_cache.proofs.Entries.{same_is, same_cases, without_absent, block_found, block_absent, block_missing}
+use Rattle.lfs_cache.proofs.Cached.{none_not, some_is, in_range, once, key_range, not_free, in_one, alone_locked, alone_lru, but_held, rest_removed, rest_left, to_locked, to_lru, names_left, names_length, locked_held, lru_held}
+use Rattle.lfs_cache.proofs.Fresh.{next_range, block_held, new_is, fresh_held, fresh_taken, fresh_length, not_locked_next, forgotten_held, forgotten_view}
 
 pub whole_fronted : (l : FrameLists) (f : ℕ) → IsWhole l → f < frame_count l → (q : Queue) → IsWhole (fronted f q l)
 whole_fronted l f whole low q g =
     whole-pushed (frame_count l) f (taken f l) q low (λ g ne. times-taken_other f g l ne ∙ whole g) (times-taken_same f l) g
     ∙ ap (λ bs. cond (nat_lt g (length bs)) 1 0) (sym (blocks-pushed f (taken f l) q))
+
+-- each frame with a key has a whole block after a whole block came into the frame f
+sized_at : (keys keys' : List (Option Key)) (blocks : List (List ℕ)) (f : ℕ) (w : List ℕ) → f < length blocks → length w ≡ BLOCK_SIZE → ((g : ℕ) → g ≢ f → key_at keys' g ≡ key_at keys g) → AreSized keys blocks → AreSized keys' (set blocks f w)
+sized_at keys keys' blocks f w low whole agree all = λ g k is.
+    elim (cases_eq g f) as (λ _. length (get_or (set blocks f w) g []) ≡ BLOCK_SIZE) [
+      | inl same ↦ ap (λ z. length (get_or (set blocks f w) z [])) same ∙ (ap length (get_or-set_same blocks f w [] low) ∙ whole)
+      | inr ne ↦ ap length (get_or-set_other blocks f g w [] ne) ∙ all g k (sym (agree g ne) ∙ is)
+    ]
+
+-- and after the frame f has lost its key
+sized_less : (keys : List (Option Key)) (blocks : List (List ℕ)) (f : ℕ) → f < length keys → AreSized keys blocks → AreSized (set keys f None) blocks
+sized_less keys blocks f low all = λ g k is.
+    elim (cases_eq g f) as (λ _. length (get_or blocks g []) ≡ BLOCK_SIZE) [
+      | inl same ↦ absurd (none_not (key_at (set keys f None) f) k (get_or-set_same keys f None None low) (ap (key_at (set keys f None)) (sym same) ∙ is))
+      | inr ne ↦ all g k (sym (get_or-set_other keys f g None None ne) ∙ is)
+    ]
+
+-- the LOCKED keys are without a key whose frame is not in LOCKED
+names_stay : (l : FrameLists) (keys : List (Option Key)) (f : ℕ) (names : List Key) (k : Key) → AreHeld l keys f names → key_at keys f ≡ Some k → ((q : Queue) → IsWhole (fronted f q l)) → times f l.locked ≡ 0 → names_without k names ≡ names
+names_stay l keys f names k h is whole' none =
+    names_left l keys f names k h is whole' ∙ (ap (map (name_at keys)) (without_absent f l.locked none) ∙ sym h.named)
 
 -- a key that is at the frame f
 module _ (l : FrameLists) (keys : List (Option Key)) (names : List Key) (capacity f : ℕ) (k : Key) (h : IsCache l keys names capacity) (is : key_at keys f ≡ Some k) where
@@ -59,7 +82,7 @@ module _ (l : FrameLists) (keys : List (Option Key)) (names : List Key) (capacit
 
   pub lru_step : IsCache (fronted f Lru l) keys (names_after Lru k names) capacity × (held_by (fronted f Lru l) keys ≡ lru_first k b (removed k s))
   lru_step = (
-    record { are = lru_held l keys f names k inner is (whole_fronted l f h.are.whole low); limit = fewer; room = h.room },
+    record { are = lru_held l keys f names k inner is (whole_fronted l f h.are.whole low); limit = fewer; room = h.room; sized = h.sized },
     to_lru l keys f names k h.are is l.blocks ∙ ap (lru_first k b) (rest_left l keys f names k h.are is),
   )
 
@@ -68,9 +91,18 @@ module _ (l : FrameLists) (keys : List (Option Key)) (names : List Key) (capacit
 
   pub locked_step : length (without f l.locked) < 24 → IsCache (fronted f Locked l) keys (names_after Locked k names) capacity × (held_by (fronted f Locked l) keys ≡ locked_first k b (removed k s))
   locked_step less = (
-    record { are = locked_held l keys f names k inner is (whole_fronted l f h.are.whole low); limit = omega arith; room = h.room },
+    record { are = locked_held l keys f names k inner is (whole_fronted l f h.are.whole low); limit = omega arith; room = h.room; sized = h.sized },
     to_locked l keys f names k h.are is l.blocks ∙ ap (locked_first k b) (rest_left l keys f names k h.are is),
   )
+
+  unlisted : times f l.locked ≡ 0 → names_without k names ≡ names
+  unlisted none = names_stay l keys f names k inner is (whole_fronted l f h.are.whole low) none
+
+  pub names_unlisted : (bl : List (List ℕ)) → IsListed f k (record l { blocks = bl }) names
+  names_unlisted bl Locked some ne = absurd (ne refl)
+  names_unlisted bl Lru some ne = unlisted (let one = once l h.are.whole f low in omega arith)
+  names_unlisted bl Age some ne = unlisted (let one = once l h.are.whole f low in omega arith)
+  names_unlisted bl Empty some ne = unlisted (let one = once l h.are.whole f low in omega arith)
 
   less_locked : 0 < times f l.locked → length (without f l.locked) < 24
   less_locked some = let limit = h.limit in omega (arith, length-without f l.locked)
@@ -103,9 +135,9 @@ module _ (l : FrameLists) (keys : List (Option Key)) (names : List Key) (capacit
       elim may as (λ _. length (without f l.locked) < 24)
       [ inl locked ↦ less_locked (locked_is locked) | inr few ↦ (let same = length-map l.locked (entry_at keys l.blocks) in omega (arith, length-without f l.locked, few)) ]
 
-  pub write_step : (w : List ℕ) → IsLocked k s ⊎ (length s.locked < 24)
+  pub write_step : (w : List ℕ) → length w ≡ BLOCK_SIZE → IsLocked k s ⊎ (length s.locked < 24)
       → IsCache (fronted f Locked (with_block l f w)) keys (names_after Locked k names) capacity × (held_by (fronted f Locked (with_block l f w)) keys ≡ written k w s)
-  write_step w may =
+  write_step w whole may =
       let lb : FrameLists = with_block l f w in
       let are = block_held l keys f f names w inner in
       let low' : f < frame_count lb = subst (λ n. f < n) (sym (length-set l.blocks f w)) low in (
@@ -113,6 +145,7 @@ module _ (l : FrameLists) (keys : List (Option Key)) (names : List Key) (capacit
           are = subst (λ n. AreHeld (fronted f Locked lb) keys n (names_after Locked k names)) refl (locked_held lb keys f names k are is (whole_fronted lb f are.whole low'));
           limit = let less = write_less may in omega arith;
           room = h.room;
+          sized = sized_at keys keys l.blocks f w low whole (λ g ne. refl) h.sized;
         },
         to_locked l keys f names k h.are is lb.blocks ∙ (ap (λ c. locked_first k c (held_by (taken f lb) keys)) (get_or-set_same l.blocks f w [] low) ∙ (ap (locked_first k w) (rest_removed l keys f names k h.are is w)
             ∙ ap (λ o. written_by o k w s) (sym block_held_is))),
@@ -120,7 +153,7 @@ module _ (l : FrameLists) (keys : List (Option Key)) (names : List Key) (capacit
 
   pub forget_step : IsCache (fronted f Age l) (set keys f None) (names_after Age k names) capacity × (held_by (fronted f Age l) (set keys f None) ≡ forgotten k s)
   forget_step = (
-    record { are = forgotten_held l keys f names k h.are is (whole_fronted l f h.are.whole low); limit = fewer; room = h.room },
+    record { are = forgotten_held l keys f names k h.are is (whole_fronted l f h.are.whole low); limit = fewer; room = h.room; sized = sized_less keys l.blocks f (subst (λ n. f < n) (sym h.are.sized) low) h.sized },
     forgotten_view l keys f names k h.are is (whole_fronted l f h.are.whole low) ∙ ap (λ o. forgotten_by o k s) (sym block_held_is),
   )
 
@@ -156,7 +189,7 @@ module _ (l : FrameLists) (keys : List (Option Key)) (names : List Key) (capacit
     not_locked locked = let own = some_is (block_in k (held_by l keys).locked) locked in none_not (block_in k (held_by l keys).locked) own.0 none_locked own.1
 
     -- and comes to the frame that is taken next
-    module _ (f : ℕ) (w : List ℕ) (next : next_of l ≡ Some f) where
+    module _ (f : ℕ) (w : List ℕ) (full : length w ≡ BLOCK_SIZE) (next : next_of l ≡ Some f) where
       abbrev new : List (Option Key)
       new = set keys f (Some k)
 
@@ -178,9 +211,15 @@ module _ (l : FrameLists) (keys : List (Option Key)) (names : List Key) (capacit
       same_length : length (without f l.locked) ≡ length l.locked
       same_length = fresh_length l keys f names k h.are next absent
 
+      pub fresh_unlisted : names_without k names ≡ names
+      fresh_unlisted = names_stay lb new f names k are at_f (whole_fronted lb f are.whole range') (not_locked_next l keys f names k h.are next absent)
+
+      sized : AreSized new lb.blocks
+      sized = sized_at keys new l.blocks f w range full (λ g ne. get_or-set_other keys f g (Some k) None ne) h.sized
+
       pub fill_step : IsCache (fronted f Lru lb) new (names_after Lru k names) capacity × (held_by (fronted f Lru lb) new ≡ filled k w (held_by l keys))
       fill_step = (
-        record { are = lru_held lb new f names k are at_f (whole_fronted lb f are.whole range'); limit = let limit = h.limit in omega (arith, same_length); room = h.room },
+        record { are = lru_held lb new f names k are at_f (whole_fronted lb f are.whole range'); limit = let limit = h.limit in omega (arith, same_length); room = h.room; sized = sized },
         ap (λ (z : Key). lru_first z (get_or lb.blocks f []) (held_by (taken f lb) new)) (ap name_or at_f) ∙ (ap (λ c. lru_first k c (held_by (taken f lb) new)) (get_or-set_same l.blocks f w [] range)
             ∙ ap (lru_first k w) (fresh_taken l keys f names k h.are next absent w)),
       )
@@ -196,7 +235,7 @@ module _ (l : FrameLists) (keys : List (Option Key)) (names : List Key) (capacit
       pub write_fresh_step : IsLocked k (held_by l keys) ⊎ (length (held_by l keys).locked < 24)
           → IsCache (fronted f Locked lb) new (names_after Locked k names) capacity × (held_by (fronted f Locked lb) new ≡ written k w (held_by l keys))
       write_fresh_step may = (
-        record { are = locked_held lb new f names k are at_f (whole_fronted lb f are.whole range'); limit = let less = fresh_room may in omega arith; room = h.room },
+        record { are = locked_held lb new f names k are at_f (whole_fronted lb f are.whole range'); limit = let less = fresh_room may in omega arith; room = h.room; sized = sized },
         ap (λ (z : Key). locked_first z (get_or lb.blocks f []) (held_by (taken f lb) new)) (ap name_or at_f) ∙ (ap (λ c. locked_first k c (held_by (taken f lb) new)) (get_or-set_same l.blocks f w [] range)
             ∙ (ap (locked_first k w) (fresh_taken l keys f names k h.are next absent w) ∙ ap (λ o. written_by o k w (held_by l keys)) (sym none_block))),
       )

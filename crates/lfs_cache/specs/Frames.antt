@@ -1,8 +1,8 @@
 -- The frame that is taken next, and the list of LOCKED keys.
-use Rattle.std.specs.Prelude.{ℕ, ◌<◌, cond, List, [], ◌∷◌, Option, Some, None, slice_index_or}
+use Rattle.std.specs.Prelude.{◌≡◌, ◌≢◌, ℕ, ◌<◌, cond, List, [], ◌∷◌, Option, Some, None, slice_index_or}
 use Rattle.lfs_recency.specs.declared.queue.Queue.{Queue}
 use Rattle.lfs_recency.specs.declared.queue.Queue.TheVariants.{Locked, Lru, Age, Empty}
-use Rattle.lfs_recency.specs.FrameLists.{FrameLists, oldest_of}
+use Rattle.lfs_recency.specs.FrameLists.{FrameLists, listed, oldest_of, times}
 use Rattle.lfs_cache.specs.declared.key.Key.{Key}
 use Rattle.lfs_cache.specs.Keys.{same_key}
 
@@ -34,6 +34,11 @@ names_after Locked k ns = k ∷ names_without k ns
 names_after Lru k ns = names_without k ns
 names_after Age k ns = names_without k ns
 names_after Empty k ns = names_without k ns
+
+-- a list of LOCKED keys has not the key of a frame that is in another queue
+abbrev pub IsListed : ℕ → Key → FrameLists → List Key → Type 0
+IsListed frame key l names =
+    (q : Queue) → 0 < times frame (listed q l) → q ≢ Locked → names_without key names ≡ names
 
 -- the list of LOCKED keys has room for one that comes to a queue
 abbrev pub HasRoom : Queue → ℕ → ℕ → Type 0

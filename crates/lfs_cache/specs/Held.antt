@@ -1,6 +1,9 @@
 -- The blocks that the frames of a cache hold.
 use Rattle.std.specs.Prelude.{◌≡◌, ◌≢◌, ℕ, ◌+◌, ◌<◌, ◌≤◌, List, [], length, map, Option, Some, None, IsSome, slice_index_or}
+use Rattle.lfs_types.specs.declared.block.TheConstants.{BLOCK_SIZE}
+use Rattle.lfs_types.specs.declared.limits.TheConstants.{LEAST_FRAMES}
 use Rattle.lfs_recency.specs.FrameLists.{FrameLists, frame_count, times, IsWhole}
+use Rattle.lfs_cache.specs.declared.cache.TheConstants.{LOCKED_LIMIT}
 use Rattle.lfs_cache.specs.declared.key.Key.{Key}
 use Rattle.lfs_cache.specs.Index.{key_at}
 use Rattle.lfs_cache.specs.Contents.{Contents}
@@ -21,13 +24,18 @@ held_by l keys = record { locked = map (entry_at keys l.blocks) l.locked; lru = 
 pub record AreHeld (l : FrameLists) (keys : List (Option Key)) (but : ℕ) (names : List Key) : Type 0 where
   pub whole : IsWhole l
   pub sized : length keys ≡ frame_count l
-  pub many : 32 ≤ frame_count l
+  pub many : LEAST_FRAMES ≤ frame_count l
   pub held : (f : ℕ) → f ≢ but → 0 < times f l.locked + times f l.lru → IsSome (key_at keys f)
   pub free : (f : ℕ) → f ≢ but → 0 < times f l.age + times f l.empty → key_at keys f ≡ None
   pub apart : (f g : ℕ) (k : Key) → key_at keys f ≡ Some k → key_at keys g ≡ Some k → f ≡ g
   pub named : names ≡ map (name_at keys) l.locked
 
+-- each frame that has a key has a whole block
+abbrev pub AreSized : List (Option Key) → List (List ℕ) → Type 0
+AreSized keys blocks = (f : ℕ) (k : Key) → key_at keys f ≡ Some k → length (slice_index_or blocks f []) ≡ BLOCK_SIZE
+
 pub record IsCache (l : FrameLists) (keys : List (Option Key)) (names : List Key) (capacity : ℕ) : Type 0 where
   pub are : AreHeld l keys (frame_count l) names
-  pub limit : length l.locked ≤ 24
-  pub room : 24 ≤ capacity
+  pub limit : length l.locked ≤ LOCKED_LIMIT
+  pub room : LOCKED_LIMIT ≤ capacity
+  pub sized : AreSized keys l.blocks

@@ -1,3 +1,4 @@
+pub mod Changes
 pub mod Contents
 pub mod Ends
 pub mod Frames

@@ -5,16 +5,17 @@ ghost use Rattle.std.specs.Option.{is_some};
 ghost use Rattle.lfs_recency.specs.FrameLists.{fronted, oldest_of, listed, frame_count, IsWhole};
 ghost use Rattle.lfs_recency.specs.declared.queue.Queue.TheVariants.{Locked, Lru, Age, Empty};
 ghost use Rattle.lfs_recency.specs.Lending.{with_block};
-ghost use Rattle.lfs_cache.specs.Keys.{same_key};
 ghost use Rattle.lfs_cache.specs.declared.key.Key.{Key};
-ghost use Rattle.lfs_cache.specs.Frames.{next_of, names_after, names_without, HasRoom};
+ghost use Rattle.lfs_cache.specs.Frames.{next_of, names_after, names_without, HasRoom, IsListed};
 ghost use Rattle.lfs_cache.specs.Contents.{block_in, block_of, used, filled, written, settled, forgotten, IsLocked, keys_of, nothing_in, AreApart};
+ghost use Rattle.lfs_cache.specs.Changes.{KeepsBlocks, KeepsOthers, GainsOnly, IsContents};
 
 use crate::index::Index;
 use crate::key::Key;
 use crate::names::{drop_name, name_first};
 use lfs_recency::{Frames, Queue};
 use lfs_types::block::Block;
+use lfs_types::limits::{LEAST_FRAMES, MOST_FRAMES};
 use std::alloc::{AllocError, Global};
 use std::marker::Model;
 
@@ -43,17 +44,22 @@ impl Model for Cache {
     ghost invariant = { λ c. IsCache c.frames c.index c.locked.items (vec_capacity c.locked) };
 }
 
-// Moves the frame of a key to the front of a queue, and keeps the list of LOCKED keys in step.
+// Moves the frame of a key to the front of a queue, and keeps the list of LOCKED keys in step. That list is
+// searched only where the frame was LOCKED.
 fn move_first(frames: &mut Frames, locked: &mut Vec<Key>, frame: u32, key: Key, queue: Queue)
     requires in_range { frame < frame_count frames.old }
+    requires listed { IsListed frame key frames.old locked.old.items }
     requires room { HasRoom queue (length (names_without key locked.old.items)) (vec_capacity locked.old) }
     ensures frames { frames.new ≡ fronted frame queue frames.old }
     ensures whole { IsWhole frames.new }
     ensures names { locked.new.items ≡ names_after queue key locked.old.items }
     ensures room { vec_capacity locked.new ≡ vec_capacity locked.old }
 {
+    match frames.queue(frame) {
+        Queue::Locked => drop_name(locked, key),
+        Queue::Lru | Queue::Age | Queue::Empty => {}
+    }
     frames.to_front(frame, queue);
-    drop_name(locked, key);
     match queue {
         Queue::Locked => name_first(locked, key),
         Queue::Lru | Queue::Age | Queue::Empty => {}
@@ -90,9 +96,10 @@ impl Cache {
 
     /// A cache of so many frames, which holds no block. All room is taken here.
     pub fn new(alloc: Global, frames: u32) -> Result<Cache, AllocError>
-        requires at_least { 32 ≤ frames }
-        requires at_most { frames ≤ 1024 }
-        ensures { IfOk result (λ s. s ≡ nothing_in frames) }
+        requires at_least { LEAST_FRAMES ≤ frames }
+        requires at_most { frames ≤ MOST_FRAMES }
+        ensures contents { IfOk result (λ s. s ≡ nothing_in frames) }
+        ensures formed { IfOk result IsContents }
     {
         let number = frames;
         let frames = Frames::new(alloc, number)?;
@@ -110,6 +117,8 @@ impl Cache {
         ensures* used { sem 𝓛 (ends_as self.entry (used key self.old)) }
         ensures value { option_copied result ≡ block_of key self.old }
         ensures missing { is_some result ≡ false → block_of key (used key self.old) ≡ None }
+        ensures kept { KeepsBlocks self.old (used key self.old) }
+        ensures formed { IsContents (used key self.old) }
     {
         let frame = self.index.find(key)?;
         let queue = self.frames.queue(frame);
@@ -117,11 +126,23 @@ impl Cache {
         Some(self.frames.bytes(frame))
     }
 
+    /// The block of a key, whose frame stays where it is in its queue. `None` where the key is not held.
+    pub fn peek(&self, key: Key) -> Option<&Block>
+        ensures value { option_copied result ≡ block_of key self.now }
+        ensures formed { IsContents self.now }
+    {
+        let number = self.index.find(key)?;
+        Some(self.frames.bytes(number))
+    }
+
     /// Takes a frame for a clean block whose key is not held.
     pub fn fill(&mut self, key: Key, block: &Block)
         requires { block_of key self.old ≡ None }
         ensures contents { self.new ≡ filled key block.now self.old }
+        ensures there { block_of key self.new ≡ Some block.now }
         ensures none_unlocked { self.new.locked ≡ self.old.locked }
+        ensures others { GainsOnly key self.old self.new }
+        ensures formed { IsContents self.new }
     {
         let taken = next_frame(&self.frames);
         copy_in(&mut self.frames, taken, block);
@@ -131,10 +152,13 @@ impl Cache {
 
     /// Holds a block that is dirty until it is settled: in the frame of its key, or else in a frame that is taken for it.
     pub fn write(&mut self, key: Key, block: &Block)
-        requires { IsLocked key self.old ⊎ (length self.old.locked < 24) }
+        requires { IsLocked key self.old ⊎ (length self.old.locked < LOCKED_LIMIT) }
         ensures contents { self.new ≡ written key block.now self.old }
         ensures dirty { block_in key self.new.locked ≡ Some block.now }
-        ensures none_unlocked { (other : Key) → same_key key other ≡ false → block_in other self.new.locked ≡ block_in other self.old.locked }
+        ensures others { GainsOnly key self.old self.new }
+        ensures one_more { length self.new.locked ≤ length self.old.locked + 1 }
+        ensures none_more { IsLocked key self.old → length self.new.locked ≡ length self.old.locked }
+        ensures formed { IsContents self.new }
     {
         if let Some(frame) = self.index.find(key) {
             copy_in(&mut self.frames, frame, block);
@@ -171,7 +195,7 @@ impl Cache {
     /// How many keys are LOCKED.
     pub fn locked_count(&self) -> usize
         ensures count { result ≡ length self.now.locked }
-        ensures limit { result ≤ 24 }
+        ensures limit { result ≤ LOCKED_LIMIT }
     {
         self.locked.len()
     }
@@ -181,6 +205,10 @@ impl Cache {
         requires { IsLocked key self.old }
         ensures contents { self.new ≡ settled key self.old }
         ensures kept { block_of key self.new ≡ block_of key self.old }
+        ensures clean { block_in key self.new.locked ≡ None }
+        ensures one_less { length self.new.locked + 1 ≡ length self.old.locked }
+        ensures others { KeepsOthers key self.old self.new }
+        ensures formed { IsContents self.new }
     {
         if let Some(frame) = self.index.find(key) {
             move_first(&mut self.frames, &mut self.locked, frame, key, Queue::Lru);
@@ -191,6 +219,11 @@ impl Cache {
     pub fn forget(&mut self, key: Key)
         ensures contents { self.new ≡ forgotten key self.old }
         ensures gone { block_of key self.new ≡ None }
+        ensures unlocked { block_in key self.new.locked ≡ None }
+        ensures one_less { IsLocked key self.old → length self.new.locked + 1 ≡ length self.old.locked }
+        ensures none_less { block_in key self.old.locked ≡ None → self.new.locked ≡ self.old.locked }
+        ensures others { KeepsOthers key self.old self.new }
+        ensures formed { IsContents self.new }
     {
         if let Some(frame) = self.index.find(key) {
             self.index.clear(frame);

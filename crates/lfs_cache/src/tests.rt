@@ -116,6 +116,35 @@ fn settled_block_gives_way_to_the_ninth_fill(rt: HostRuntime) -> Result<(), Fail
     Ok(())
 }
 
+// The oldest clean block is that of key 132.
+#[test]
+fn peek_moves_no_frame(rt: HostRuntime) -> Result<(), Fail> {
+    let mut cache = busy_cache(rt.alloc())?;
+    assert!(rt; cache.peek(key(132)) == Some(&block(132)));
+    assert!(rt; cache.peek(key(0)) == Some(&block(0)));
+    assert!(rt; cache.peek(key(131)).is_none());
+    fill_new(&mut cache, 200);
+    assert!(rt; cache.peek(key(132)).is_none());
+    assert!(rt; holds(&mut cache, 133));
+    fill_new(&mut cache, 201);
+    assert!(rt; holds(&mut cache, 133));
+    assert!(rt; cache.peek(key(134)).is_none());
+    Ok(())
+}
+
+#[test]
+fn largest_cache_holds_a_block_for_each_frame(rt: HostRuntime) -> Result<(), Fail> {
+    let mut cache = Cache::new(rt.alloc(), 1_024)?;
+    for lbn in 0..1_024 {
+        fill_new(&mut cache, lbn);
+    }
+    assert!(rt; holds(&mut cache, 0));
+    fill_new(&mut cache, 1_024);
+    assert!(rt; holds(&mut cache, 0));
+    assert!(rt; !holds(&mut cache, 1));
+    Ok(())
+}
+
 #[test]
 fn forgotten_frame_is_taken_first(rt: HostRuntime) -> Result<(), Fail> {
     let mut cache = busy_cache(rt.alloc())?;
