@@ -9,13 +9,14 @@ use Rattle.lfs_inodes.specs.Slots.{slot_of}
 use Rattle.lfs_inodes.proofs.FieldsRead.{fields_in-is, fields_in-zeros}
 use Rattle.lfs_segments.specs.declared.entry.SummaryEntry.{SummaryEntry}
 use Rattle.lfs_segments.specs.declared.summary.Summary.{Summary}
-use Rattle.lfs_segments.specs.Log.{IsReady, log_blocks, named, segment_log}
+use Rattle.lfs_logstore.specs.SegmentLog.{IsReady, log_blocks, named, segment_log}
 use Rattle.lfs_segments.specs.Memory.{IsLaidOut, SegmentMemory, appended, block_at, log_start, next_address, room_of}
 use Rattle.lfs_segments.specs.Reading.{named_by, summary_entries}
 use Rattle.lfs_segments.specs.Summary.{IsSummaryBlock}
 use Rattle.lfs_segments.proofs.MemoryLemmas.{log_start-le}
-use Rattle.lfs_segments.proofs.SegmentLemmas.{segment_log-appended, segment_log-appended_other}
-use Rattle.lfs_segments.proofs.WindowLemmas.{get_or-written_after, get_or-written_before, get_or-written_inside, length-window, named-open}
+use Rattle.lfs_logstore.proofs.SegmentLemmas.{segment_log-appended, segment_log-appended_other}
+use Rattle.lfs_logstore.proofs.WindowLemmas.{length-window, named-open}
+use Rattle.lfs_segments.proofs.MemoryLemmas.{get_or-written_after, get_or-written_before, get_or-written_inside}
 use Rattle.lfs_logstore.specs.declared.infos.BlockInfo.{BlockInfo}
 use Rattle.lfs_logstore.specs.Infos.{entry_infos, info_of, inode_infos, segment_infos, slot_info}
 use Rattle.lfs_logstore.specs.Packing.{IsInodeBlock, IsSlot, inodes_entry}

@@ -4,6 +4,7 @@ use Rattle.std.specs.List.{slice_get}
 use Rattle.std.proofs.lemmas.Bool.{cases_lt}
 use Rattle.std.proofs.lemmas.List.{get_or-set_other, get_or-set_same}
 use Rattle.std.proofs.lemmas.Option.{slice_get_past}
+use Rattle.lfs_types.specs.Blocks.{zero_block}
 use Rattle.lfs_inodes.specs.declared.inode.Inode.{Inode}
 use Rattle.lfs_inodes.specs.Record.{IsRecord}
 use Rattle.lfs_inodes.specs.Slots.{slot_of, slots}
@@ -22,7 +23,7 @@ pub record IsPackedBelow (k : ℕ) (inodes : List Inode) (block : List ℕ) : Ty
   pub records : (j : ℕ) → j < k → IsSlot (slot_of block j) (slice_get inodes j)
   pub unused : (j : ℕ) → k ≤ j → j < 4 → slot_of block j ≡ replicate 128 0
 
-pub IsPackedBelow-none : (inodes : List Inode) (block : List ℕ) → block ≡ replicate 512 0 → IsPackedBelow 0 inodes block
+pub IsPackedBelow-none : (inodes : List Inode) (block : List ℕ) → block ≡ zero_block → IsPackedBelow 0 inodes block
 IsPackedBelow-none inodes block zeros = record {
   records = λ j below. absurd (omega arith);
   unused = λ j from below. slot_of-zeros block j below zeros;

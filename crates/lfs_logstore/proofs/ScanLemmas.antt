@@ -6,7 +6,7 @@ use Rattle.std.proofs.lemmas.List.Elements.{All-get_or}
 use Rattle.lfs_segments.specs.declared.entry.SummaryEntry.{SummaryEntry}
 use Rattle.lfs_segments.specs.declared.summary.Summary.{Summary}
 use Rattle.lfs_segments.specs.Entry.{unused}
-use Rattle.lfs_segments.specs.Log.{named}
+use Rattle.lfs_logstore.specs.SegmentLog.{named}
 use Rattle.lfs_segments.specs.Memory.{IsLaidOut, SegmentMemory, block_at}
 use Rattle.lfs_segments.specs.Reading.{named_by, summary_entries}
 use Rattle.lfs_logstore.specs.declared.infos.BlockInfo.{BlockInfo}

@@ -8,7 +8,7 @@ use Rattle.lfs_segments.specs.declared.entry.LogicalBlock.{LogicalBlock}
 use Rattle.lfs_segments.specs.declared.entry.LogicalBlock.TheVariants.{Data, Single, Inodes}
 use Rattle.lfs_segments.specs.declared.entry.SummaryEntry.{SummaryEntry}
 use Rattle.lfs_segments.specs.Entry.{block_number}
-use Rattle.lfs_segments.specs.Log.{segment_log}
+use Rattle.lfs_logstore.specs.SegmentLog.{segment_log}
 use Rattle.lfs_segments.specs.Memory.{SegmentMemory, block_at}
 use Rattle.lfs_logstore.specs.declared.infos.BlockInfo.{BlockInfo}
 

@@ -1,2 +1,3 @@
 pub mod Infos
 pub mod Packing
+pub mod SegmentLog

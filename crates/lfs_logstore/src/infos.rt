@@ -1,14 +1,14 @@
 //! Infos: which blocks and inodes the log names, and where they lie.
 
 ghost use Rattle.std.specs.Prelude.{◌≡◌, ◌<◌, ◌++◌, IfOk, OnOk};
-ghost use Rattle.lfs_segments.specs.Memory.{IsLaidOut, log_start};
+ghost use Rattle.lfs_segments.specs.Memory.{IsLaidOut};
 ghost use Rattle.lfs_logstore.specs.Infos.{block_infos, info_of, inode_infos, segment_infos};
 
 use crate::packing::SLOT_COUNT;
 use lfs_inodes::inode::Inode;
 use lfs_inodes::slots::slot;
 use lfs_segments::entry::{LogicalBlock, SummaryEntry};
-use lfs_segments::segments::{SEGMENT_BLOCKS, Segments};
+use lfs_segments::segments::{SEGMENT_BLOCKS, Segments, log_start};
 use lfs_segments::summary::{ENTRY_LIMIT, Summary};
 use lfs_types::block::Block;
 use std::alloc::{AllocError, Global};
@@ -55,13 +55,6 @@ pub fn segment_infos(
         }
     }
     Ok(infos)
-}
-
-/// The block at which the log of a segment begins: behind the label in the first one.
-fn log_start(segment: u32) -> u32
-    ensures { result ≡ log_start segment }
-{
-    if segment == 0 { 1 } else { 0 }
 }
 
 /// Adds the infos of a block that an entry of a summary names.

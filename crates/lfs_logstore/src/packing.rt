@@ -6,7 +6,7 @@ ghost use Rattle.std.specs.Option.{option_map};
 ghost use Rattle.lfs_inodes.specs.declared.inode.Inode.{Inode};
 ghost use Rattle.lfs_inodes.specs.Reading.{fields_in, fields_of};
 ghost use Rattle.lfs_inodes.specs.Slots.{slots};
-ghost use Rattle.lfs_segments.specs.Log.{IsReady, segment_log};
+ghost use Rattle.lfs_logstore.specs.SegmentLog.{IsReady, segment_log};
 ghost use Rattle.lfs_segments.specs.Memory.{IsLaidOut, appended, block_at, next_address, room_of};
 ghost use Rattle.lfs_segments.specs.Reading.{named_by};
 ghost use Rattle.lfs_logstore.specs.Infos.{info_of, segment_infos};

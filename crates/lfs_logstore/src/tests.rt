@@ -1,28 +1,39 @@
 //! Inodes put into the log of a fresh volume, and found again.
 
-ghost use Rattle.std.specs.Prelude.{◌≡◌, ◌≤◌, Some, map};
+ghost use Rattle.std.specs.Prelude.{◌≡◌, ◌≤◌, ◌<◌, Some, map};
 ghost use Rattle.lfs_inodes.specs.Facts.{IsInodeNumber};
-ghost use Rattle.lfs_segments.specs.Log.{IsReady};
+ghost use Rattle.lfs_logstore.specs.SegmentLog.{IsReady};
 ghost use Rattle.lfs_segments.specs.Memory.{room_of};
 
 use crate::infos::{BlockInfo, segment_infos};
 use crate::packing::{append_inodes, inodes_at, packed};
 use lfs_inodes::inode::Inode;
-use lfs_inodes::kind::InodeKind;
 use lfs_segments::segments::Segments;
+use lfs_types::attrs::Kind;
+use lfs_types::file_flags::FileFlags;
+use lfs_types::mode::Mode;
 use std::test::Fail;
+
+fn mode(bits: u16) -> Mode
+    requires { bits < 4096 }
+{
+    let Some(mode) = Mode::new(bits) else {
+        unreachable!()
+    };
+    mode
+}
 
 /// The example of an inode record: file 4, version 1, owner and group 7, mode 0644, size 3, first
 /// address 9.
 fn example() -> Inode {
     Inode {
-        kind: InodeKind::File,
+        kind: Kind::File,
         number: 4,
         version: 1,
         owner: 7,
         group: 7,
-        mode: 0o644,
-        flags: 0,
+        mode: mode(0o644),
+        flags: FileFlags::none(),
         size: 3,
         direct: [9, 0, 0, 0, 0, 0, 0, 0, 0, 0, 0, 0],
         single: 0,
@@ -30,7 +41,7 @@ fn example() -> Inode {
 }
 
 /// An inode without blocks.
-fn empty(kind: InodeKind, number: u32, version: u32) -> Inode
+fn empty(kind: Kind, number: u32, version: u32) -> Inode
     requires number { IsInodeNumber number }
     requires version { 1 ≤ version }
 {
@@ -40,8 +51,8 @@ fn empty(kind: InodeKind, number: u32, version: u32) -> Inode
         version,
         owner: 0,
         group: 0,
-        mode: 0o755,
-        flags: 0,
+        mode: mode(0o755),
+        flags: FileFlags::none(),
         size: 0,
         direct: [0; 12],
         single: 0,
@@ -51,10 +62,10 @@ fn empty(kind: InodeKind, number: u32, version: u32) -> Inode
 /// The root, the example, the last number, and the example's number given out again.
 fn four() -> [Inode; 4] {
     [
-        empty(InodeKind::Directory, 2, 1),
+        empty(Kind::Directory, 2, 1),
         example(),
-        empty(InodeKind::File, 4095, 4_294_967_295),
-        empty(InodeKind::File, 4, 2),
+        empty(Kind::File, 4095, 4_294_967_295),
+        empty(Kind::File, 4, 2),
     ]
 }
 

@@ -1,7 +1,7 @@
 use Rattle.std.proofs.Common.{◌≡◌, ℕ, ◌+◌, ◌-◌, List, [], ◌∷◌, sym, ap, ◌∙◌, subst, arith}
-use Rattle.lfs_segments.specs.Log.{IsReady}
+use Rattle.lfs_logstore.specs.SegmentLog.{IsReady}
 use Rattle.lfs_segments.specs.Memory.{SegmentMemory, appended, block_at, next_address}
-use Rattle.lfs_segments.proofs.SegmentLemmas.{IsReady-appended}
+use Rattle.lfs_logstore.proofs.SegmentLemmas.{IsReady-appended}
 use Rattle.lfs_logstore.specs.Packing.{IsInodeBlock}
 use Rattle.lfs_logstore.proofs.InfosLemmas.{body_at, head_at, segment_infos-appended_other, segment_infos-inodes, segment_log-inodes}
 use Rattle.lfs_logstore.proofs.packing.append_inodes.Goals as goal

@@ -1,9 +1,11 @@
 use Rattle.std.proofs.Common.{length, refl, arith}
 use Rattle.std.proofs.lemmas.Option.{slice_get_read}
+use Rattle.lfs_types.specs.Blocks.{zero_block}
 use Rattle.lfs_logstore.proofs.PackingLemmas.{IsPackedBelow-none, IsPackedBelow-more, IsInodeBlock-packed}
 use Rattle.lfs_logstore.proofs.packing.packed.Goals as goal
 
 pub loop-k-init : goal.loop-k-init
+unfolding zero_block
 loop-k-init c = IsPackedBelow-none c.args.inodes.now _ refl
 
 pub loop-k-preserved : goal.loop-k-preserved
