@@ -1,7 +1,10 @@
 -- An entry written behind the entries of a directory block.
 use Rattle.std.proofs.Common.{◌≡◌, ℕ, ◌+◌, ◌-◌, ◌≤◌, List, [], ◌∷◌, ◌++◌, length, take, drop, replicate, None, refl, sym, ap, ◌∙◌, subst, arith, length-append, append_assoc}
+use Rattle.std.specs.Prelude.{All}
+use Rattle.std.proofs.Math.Seq.{drop-append-add}
 use Rattle.std.proofs.lemmas.Grind.{flat_map-append}
 use Rattle.std.proofs.lemmas.List.{append-nil, take_at, drop_at, take_all, drop_all, drop-replicate, length-replicate}
+use Rattle.std.proofs.lemmas.List.Elements.{All-drop, All-replicate, All-same}
 use Rattle.lfs_dirs.specs.Directory.{Entry, entry_bytes, used_of, number_in, IsEntry, Spells, IsDirectoryBlock}
 use Rattle.lfs_dirs.specs.Laws.{bytes_of, length-bytes_of, Spells-bytes, Spells-from_bytes, zeros_left, used_of-append}
 use Rattle.lfs_dirs.specs.Changes.{AreEntries-added}
@@ -40,6 +43,20 @@ written block front n end e out is_block at_end whole room is_out =
 bytes_of-added : (es : List Entry) (e : Entry) → bytes_of es ++ entry_bytes e ≡ bytes_of (es ++ e ∷ [])
 bytes_of-added es e =
     ap (λ xs. bytes_of es ++ xs) (sym (append-nil (entry_bytes e))) ∙ sym (flat_map-append entry_bytes es (e ∷ []))
+
+-- where an entry of so many bytes fits, as many bytes at the end are zeros
+pub zeros_at_tail : (block : List ℕ) (es : List Entry) (size : ℕ) → IsDirectoryBlock block es → used_of es + size ≤ 512
+    → All (λ b. b ≡ 0) (drop (512 - size) block)
+zeros_at_tail block es size h room =
+    let spelled = Spells-bytes block es h.spelled in
+    let n = spelled.0 in
+    let left = 512 - size - used_of es in
+    let start : 512 - size ≡ length (bytes_of es) + left = omega (arith, length-bytes_of es) in
+    let tail : drop (512 - size) block ≡ drop left (replicate n 0) =
+    ap (drop (512 - size)) spelled.1
+    ∙ ap (λ k. drop k (bytes_of es ++ replicate n 0)) start
+    ∙ drop-append-add (bytes_of es) (replicate n 0) left in
+    All-same (λ b. b ≡ 0) _ _ tail (All-drop (λ b. b ≡ 0) left (replicate n 0) (All-replicate (λ b. b ≡ 0) n 0 (refl {a = 0})))
 
 -- what `push_entry` leaves is a directory block with the entry last
 pub block_added : (block : List ℕ) (es : List Entry) (e : Entry) (end : ℕ) (out : List ℕ)

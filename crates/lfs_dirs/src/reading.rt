@@ -113,7 +113,7 @@ fn is_name(bytes: &[u8]) -> bool
 }
 
 /// Whether all bytes are 0.
-fn are_zeros(bytes: &[u8]) -> bool
+pub(crate) fn are_zeros(bytes: &[u8]) -> bool
     ensures { IsTrue result ↔ All (λ b. b ≡ 0) bytes.now }
 {
     bytes.iter().all(|byte| *byte == 0)

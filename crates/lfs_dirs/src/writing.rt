@@ -4,7 +4,7 @@ ghost use Rattle.std.specs.Prelude.{◌≡◌, ◌+◌, ◌<◌, ◌≤◌, ◌+
 ghost use Rattle.lfs_dirs.specs.Directory.{IsDirectoryBlock, IsEntry, entry_bytes, number_in, used_of, without};
 ghost use Rattle.lfs_dirs.specs.Reading.{entries_of};
 
-use crate::reading::{HEAD_SIZE, entries};
+use crate::reading::{HEAD_SIZE, are_zeros, entries};
 use byteorder::{BigEndian, ByteOrder};
 use lfs_types::block::{BLOCK_SIZE, Block};
 use lfs_types::name::Name;
@@ -20,8 +20,13 @@ pub fn added(block: &Block, name: &Name, number: u32) -> Option<Block>
     ensures listed { IfSome result (λ b. entries_of b ≡ entries_of block.now ++ (number, name.now) ∷ []) }
 {
     let name = name.as_bytes();
+    let size = HEAD_SIZE + name.len();
+    // A block that is nearly full is known by the bytes at its end, with no walk along its entries.
+    if !are_zeros(&block[BLOCK_SIZE - size..]) {
+        return None;
+    }
     let end = used(block);
-    if BLOCK_SIZE - end < HEAD_SIZE + name.len() {
+    if BLOCK_SIZE - end < size {
         return None;
     }
     let mut longer = *block;

@@ -1,0 +1,19 @@
+use Rattle.std.proofs.Common.{◌≡◌, ◌+◌, true, ap, length, arith}
+use Rattle.std.proofs.lemmas.List.Elements.{All-take}
+use Rattle.lfs_dirs.specs.Reading.{entries_of}
+use Rattle.lfs_dirs.proofs.Adding.{zeros_at_tail}
+use Rattle.lfs_dirs.proofs.writing.added.Goals as goal
+
+-- Bytes at the end that are not all zeros leave no room.
+pub returns-then-not-are_zeros-clause-fits : goal.returns-then-not-are_zeros-clause-fits
+returns-then-not-are_zeros-clause-fits c = (
+  λ h. absurd (cc),
+  λ fits.
+      let block = c.args.block.now in
+      let size = 5 + length c.as_bytes-name.result.now in
+      let zeros = zeros_at_tail block (entries_of block) size c.requires.directory
+      (omega (arith, fits, ap length c.as_bytes-name.ensures.value)) in
+      let all : c.are_zeros.result ≡ true = c.are_zeros.ensures.1 (All-take (λ b. b ≡ 0) _ _ zeros) in
+      let some = c.if-not-are_zeros.true in
+      cc,
+)
