@@ -1,0 +1,140 @@
+-- What a call that the rules allow has passed.
+use Rattle.std.proofs.Common.{◌≡◌, ℕ, ◌==◌, ◌||◌, not, Bool, true, false, List, [], ◌∷◌, ◌++◌, length, Option, None, Some, Result, Ok, Err, refl, sym, ap, ◌∙◌, arith, append-nil, ne_eqb}
+use Rattle.std.proofs.lemmas.Bool.{not-true}
+use Rattle.std.specs.Prelude.{is_some, unwrap_or}
+use Rattle.std.specs.FinMap as map
+use Rattle.lfs_types.specs.Caller.{Caller}
+use Rattle.lfs_types.specs.Kinds.{is_directory_kind}
+use Rattle.lfs_types.specs.Tree.{root}
+use Rattle.lfs_types.specs.declared.attrs.Attrs.{Attrs}
+use Rattle.lfs_types.specs.declared.attrs.Bit.TheVariants as bits
+use Rattle.lfs_types.specs.declared.rule.Denial.{Denial}
+use Rattle.lfs_rules.specs.Grants.{grants_of}
+use Rattle.lfs_rules.specs.Locks.{is_immutable, is_append_only}
+use Rattle.lfs_rules.specs.Sticky.{is_barred}
+use Rattle.lfs_model.specs.World.{Rows, child, IsChild}
+use Rattle.lfs_model.specs.Rules.{first_failing, is_directory_row, row_grants, attrs_at, next, reached, front, last, Check, walk, making, removing, reaching, change_tests}
+use Rattle.lfs_model.specs.Walks.{walked}
+use Rattle.lfs_model.proofs.Children.{child-is}
+use Rattle.lfs_model.proofs.Deciding.{after_walk, failing_walk, walked-reached, met_first, passes-append}
+use Rattle.lfs_types.proofs.Somewhere.{not_some}
+
+-- ---- ways
+
+walk_ends : (rows : Rows) (caller : Caller) (path k at : ℕ) (names : List (List ℕ)) (r : Result ℕ Denial) → walked rows caller path k at names ≡ r → after_walk r None ≡ None → walked rows caller path k at names ≡ Ok (reached rows at names)
+walk_ends rows caller path k at names (Ok n) e h = e ∙ ap Ok (sym (walked-reached rows caller path k at names n e))
+walk_ends rows caller path k at names (Err denial) e h = absurd (cc)
+
+-- a walk whose tests are met ends where its names lead
+pub walked_there : (rows : Rows) (caller : Caller) (path k at : ℕ) (names : List (List ℕ)) → first_failing (walk rows caller path k at names) ≡ None → walked rows caller path k at names ≡ Ok (reached rows at names)
+walked_there rows caller path k at names h =
+    let fails = failing_walk rows caller path k at names [] in
+    walk_ends rows caller path k at names _ refl (sym fails ∙ ap first_failing (append-nil (walk rows caller path k at names)) ∙ h)
+
+-- the last name leads on from where those before it lead
+pub reached_last : (rows : Rows) (at : ℕ) (names : List (List ℕ)) → (length names == 0) ≡ false → reached rows at names ≡ next rows (reached rows at (front names)) (last names)
+reached_last rows at [] h = absurd (cc)
+reached_last rows at (name ∷ []) h = refl
+reached_last rows at (name ∷ second ∷ names) h = reached_last rows (next rows at name) (second ∷ names) (ne_eqb (length (second ∷ names)) 0 (omega arith))
+
+-- the names before the last, and the last
+pub split_last : (names : List (List ℕ)) → (length names == 0) ≡ false → front names ++ last names ∷ [] ≡ names
+split_last [] h = absurd (cc)
+split_last (name ∷ []) h = refl
+split_last (name ∷ second ∷ names) h = ap (λ l. name ∷ l) (split_last (second ∷ names) (ne_eqb (length (second ∷ names)) 0 (omega arith)))
+
+-- a name that is there leads to its row
+pub child_there : (o : Option ℕ) (n : ℕ) → is_some o ≡ true → n ≡ unwrap_or o 0 → o ≡ Some n
+child_there None n h e = absurd (cc)
+child_there (Some m) n h e = ap Some (sym e)
+
+-- ---- what the tests of a call say
+
+-- a call may change a file's bytes
+pub record MayChange (rows : Rows) (caller : Caller) (path : List (List ℕ)) (appends : Bool) : Type 0 where
+  pub walks : first_failing (walk rows caller 0 0 root path) ≡ None
+  pub regular : is_directory_kind (attrs_at rows (reached rows root path)).kind ≡ false
+  pub mutable : is_immutable (attrs_at rows (reached rows root path)) ≡ false
+  pub granted : grants_of caller (attrs_at rows (reached rows root path)) bits.Write ≡ true
+  pub keeps : (appends || not (is_append_only (attrs_at rows (reached rows root path)))) ≡ true
+
+-- what the tests of such a change say, where none fails, nor of others behind them
+pub may_change : (rows : Rows) (caller : Caller) (path : List (List ℕ)) (appends : Bool) (more : Attrs → ℕ → List Check)
+    → first_failing (reaching rows caller path (λ attrs k. change_tests caller appends attrs k ++ more attrs k)) ≡ None → MayChange rows caller path appends
+may_change rows caller path appends more h =
+    let walks = passes-append (walk rows caller 0 0 root path) _ h in
+    let a = met_first _ _ _ walks.1 in
+    let b = met_first _ _ _ a.1 in
+    let c = met_first _ _ _ b.1 in
+    let d = met_first _ _ _ c.1 in
+    record { walks = walks.0; regular = not-true _ a.0; mutable = not-true _ b.0; granted = c.0; keeps = d.0 }
+
+-- and none of the others fails
+pub fits_last : (rows : Rows) (caller : Caller) (path : List (List ℕ)) (appends : Bool) (more : Attrs → ℕ → List Check)
+    → first_failing (reaching rows caller path (λ attrs k. change_tests caller appends attrs k ++ more attrs k)) ≡ None
+    → first_failing (more (attrs_at rows (reached rows root path)) (length path)) ≡ None
+fits_last rows caller path appends more h =
+    let behind = (passes-append (walk rows caller 0 0 root path) _ h).1 in
+    let attrs = attrs_at rows (reached rows root path) in
+    (passes-append (change_tests caller appends attrs (length path)) (more attrs (length path)) behind).1
+
+-- a call may give a new name to a row
+pub record MayMake (rows : Rows) (caller : Caller) (path : ℕ) (names : List (List ℕ)) : Type 0 where
+  pub filled : (length names == 0) ≡ false
+  pub walks : first_failing (walk rows caller path 0 root (front names)) ≡ None
+  pub way : walked rows caller path 0 root (front names) ≡ Ok (reached rows root (front names))
+  pub directory : is_directory_row (map.get rows (reached rows root (front names))) ≡ true
+  pub searches : row_grants caller bits.Search (map.get rows (reached rows root (front names))) ≡ true
+  pub mutable : is_immutable (attrs_at rows (reached rows root (front names))) ≡ false
+  pub free : child rows (reached rows root (front names)) (last names) ≡ None
+  pub granted : row_grants caller bits.Write (map.get rows (reached rows root (front names))) ≡ true
+
+-- what the tests of a new name say, where none fails
+pub may_make : (rows : Rows) (caller : Caller) (path : ℕ) (names : List (List ℕ)) → first_failing (making rows caller path names) ≡ None → MayMake rows caller path names
+may_make rows caller path names h =
+    let some = met_first _ _ _ h in
+    let walks = passes-append (walk rows caller path 0 root (front names)) _ some.1 in
+    let a = met_first _ _ _ walks.1 in
+    let b = met_first _ _ _ a.1 in
+    let c = met_first _ _ _ b.1 in
+    let d = met_first _ _ _ c.1 in
+    let e = met_first _ _ _ d.1 in
+    record { filled = not-true _ some.0; way = walked_there rows caller path 0 root (front names) walks.0; walks = walks.0; directory = a.0; searches = b.0; mutable = not-true _ d.0; free = not_some _ (not-true _ c.0); granted = e.0 }
+
+-- a call may take away a name
+pub record MayRemove (rows : Rows) (caller : Caller) (names : List (List ℕ)) : Type 0 where
+  pub walks : first_failing (walk rows caller 0 0 root (front names)) ≡ None
+  pub searches : row_grants caller bits.Search (map.get rows (reached rows root (front names))) ≡ true
+  pub dir_mutable : is_immutable (attrs_at rows (reached rows root (front names))) ≡ false
+  pub dir_rewritable : is_append_only (attrs_at rows (reached rows root (front names))) ≡ false
+  pub hangs : IsChild rows (reached rows root (front names)) (last names) (reached rows root names)
+  pub granted : row_grants caller bits.Write (map.get rows (reached rows root (front names))) ≡ true
+  pub unbarred : is_barred caller (attrs_at rows (reached rows root (front names))) (attrs_at rows (reached rows root names)) ≡ false
+  pub mutable : is_immutable (attrs_at rows (reached rows root names)) ≡ false
+  pub rewritable : is_append_only (attrs_at rows (reached rows root names)) ≡ false
+
+-- what the tests of a removal say, where none fails
+pub may_remove : (rows : Rows) (caller : Caller) (names : List (List ℕ)) → first_failing (removing rows caller names) ≡ None → MayRemove rows caller names
+may_remove rows caller names h =
+    let some = met_first _ _ _ h in
+    let walks = passes-append (walk rows caller 0 0 root (front names)) _ some.1 in
+    let a = met_first _ _ _ walks.1 in
+    let b = met_first _ _ _ a.1 in
+    let c = met_first _ _ _ b.1 in
+    let d = met_first _ _ _ c.1 in
+    let e = met_first _ _ _ d.1 in
+    let f = met_first _ _ _ e.1 in
+    let g = met_first _ _ _ f.1 in
+    let m = met_first _ _ _ g.1 in
+    let n = met_first _ _ _ m.1 in
+    record {
+      walks = walks.0;
+      searches = b.0;
+      dir_mutable = not-true _ d.0;
+      dir_rewritable = not-true _ f.0;
+      hangs = child-is rows _ (last names) (reached rows root names) (child_there _ _ c.0 (reached_last rows root names (not-true _ some.0)));
+      granted = e.0;
+      unbarred = not-true _ g.0;
+      mutable = not-true _ m.0;
+      rewritable = not-true _ n.0;
+    }

@@ -1,0 +1,225 @@
+-- The laws of new rows, of the level, of the tree, and of what is shown.
+use Rattle.std.proofs.Common.{◌≡◌, ◌≢◌, ℕ, ◌+◌, List, [], ◌∷◌, Option, None, Some, refl, sym, ap, subst, ◌∙◌, ⊎_elim, arith, eqb-true}
+use Rattle.std.proofs.lemmas.Bool.{not-true, cases_eq, cases_lt}
+use Rattle.std.specs.Prelude.{min}
+use Rattle.std.specs.FinMap as map
+use Rattle.lfs_types.specs.Caller.{Caller}
+use Rattle.lfs_types.specs.Kinds.{is_directory_kind}
+use Rattle.lfs_types.specs.Stored.{slice_of}
+use Rattle.lfs_types.specs.Tree.{File, Row, World, root, attrs_of}
+use Rattle.lfs_types.specs.declared.answer.Answer.{Answer}
+use Rattle.lfs_types.specs.declared.answer.Answer.TheVariants.{Served, Denied, Refused}
+use Rattle.lfs_types.specs.declared.answer.Served.TheVariants as served
+use Rattle.lfs_types.specs.declared.attrs.Attrs.{Attrs}
+use Rattle.lfs_types.specs.declared.attrs.Bit.TheVariants as bits
+use Rattle.lfs_types.specs.declared.attrs.Kind.{Kind}
+use Rattle.lfs_types.specs.declared.attrs.Kind.TheVariants.{File as Regular, Directory}
+use Rattle.lfs_types.specs.declared.level.Level.{Level}
+use Rattle.lfs_types.specs.declared.request.Request.{Request}
+use Rattle.lfs_types.specs.declared.request.Request.TheVariants.{Stat, Read, Write, List as Names, SetLength, Create, Mkdir, Unlink, Rmdir, Rename, Chmod, Chown, Chflags, SetLevel, Sync}
+use Rattle.lfs_rules.specs.Grants.{grants_of}
+use Rattle.lfs_rules.specs.Securelevel.{is_lower}
+use Rattle.lfs_model.specs.World.{Rows, file_at, IsTree}
+use Rattle.lfs_model.specs.Rules.{decide, first_failing, next, reached, front, last, walk, attrs_at}
+use Rattle.lfs_model.specs.Effects.{effect, least_unused, with_file, with_place, new_file, written, cut, given, read_max}
+use Rattle.lfs_model.specs.LawNew.{Makes, IsLeastUnused, MayMake, New}
+use Rattle.lfs_model.specs.LawLevel.{MayRelevel, Relevelled}
+use Rattle.lfs_model.specs.LawTrees.{LeavesTree}
+use Rattle.lfs_model.specs.LawShown.{IsSeen, MayShow, Shown}
+use Rattle.lfs_model.specs.Rights.{LeadsTo, MayPlace}
+use Rattle.lfs_model.specs.Steps.{IsAnswer, LacksInodes, AllUsed, after_answer}
+use Rattle.lfs_model.proofs.Allowed.{child_there, may_make}
+use Rattle.lfs_model.proofs.Children.{child-is}
+use Rattle.lfs_model.proofs.Deciding.{met_first, passes-append}
+use Rattle.lfs_model.proofs.Fates.{leads_last, placed}
+use Rattle.lfs_model.proofs.LawFlags.{LevelFate, level_fate, by_init}
+use Rattle.lfs_model.proofs.LawFlags.LevelFate.{Same, Set}
+use Rattle.lfs_model.proofs.LawTree.{answer_tree}
+use Rattle.lfs_model.proofs.LawUnused.{new_unused, no_less, used_below}
+use Rattle.lfs_model.proofs.WalkLemmas.{directory_kind, regular_kind}
+use Rattle.lfs_model.proofs.Ways.{reaches_root, walk_reaches}
+use Rattle.lfs_types.proofs.Maps.{get-insert_same, get-insert_other, get-remove_same, get-remove_other}
+use Rattle.lfs_types.proofs.Somewhere.{There, some_and}
+
+-- ---- new rows
+
+none_there : {A : Type 0} (o : Option Row) (s : Row) → o ≡ None → o ≡ Some s → A
+none_there o s e is = absurd (cc)
+
+file_absent : (o : Option Row) (w : World) (n m : ℕ) (change : File → File) → map.get w.rows m ≡ o → map.get w.rows n ≡ None → map.get (with_file o m change w).rows n ≡ None
+file_absent None w n m change e none = none
+file_absent (Some x) w n m change e none = ⊎_elim
+    (λ same. none_there (map.get w.rows m) x (ap (map.get w.rows) (sym same) ∙ none) e)
+    (λ other. get-insert_other w.rows m (record x { file = change x.file }) n other ∙ none)
+    (cases_eq n m)
+
+place_absent : (o : Option Row) (w : World) (n m parent : ℕ) (name : List ℕ) → map.get w.rows m ≡ o → map.get w.rows n ≡ None → map.get (with_place o m parent name w).rows n ≡ None
+place_absent None w n m parent name e none = none
+place_absent (Some x) w n m parent name e none = ⊎_elim
+    (λ same. none_there (map.get w.rows m) x (ap (map.get w.rows) (sym same) ∙ none) e)
+    (λ other. get-insert_other w.rows m (record x { parent = parent; name = name }) n other ∙ none)
+    (cases_eq n m)
+
+removed_absent : (rows : Rows) (n m : ℕ) → map.get rows n ≡ None → map.get (map.remove rows m) n ≡ None
+removed_absent rows n m none = ⊎_elim
+    (λ same. ap (map.get (map.remove rows m)) same ∙ get-remove_same rows m)
+    (λ other. get-remove_other rows m n other ∙ none)
+    (cases_eq n m)
+
+-- the number of a new row is the least that is unused
+least_number : (numbers : ℕ) (rows : Rows) → (AllUsed numbers rows → ⊥) → IsLeastUnused numbers rows (least_unused rows numbers 4)
+least_number numbers rows room =
+    let below = used_below rows numbers 4 in
+    record {
+      first = no_less rows numbers 4 4 (omega arith);
+      within = ⊎_elim (λ low. low) (λ high. absurd (room (λ k low under. below k low (omega (arith, under, high))))) (cases_lt (least_unused rows numbers 4) numbers);
+      unused = new_unused numbers rows room;
+      least = below;
+    }
+
+module _ (numbers : ℕ) (w : World) (caller : Caller) (tree : IsTree w.rows) (n : ℕ) (s : Row) (none : map.get w.rows n ≡ None) where
+  made_row : (request : Request) (path : List (List ℕ)) (kind : Kind) (mode : ℕ) → (AllUsed numbers w.rows → ⊥)
+      → MayPlace w.rows caller (reached w.rows root (front path)) (last path)
+      → ((row : Row) → row ≡ record { parent = reached w.rows root (front path); name = last path; file = new_file caller kind (attrs_at w.rows (reached w.rows root (front path))).gid mode } → Makes w row request)
+      → map.get (map.insert w.rows (least_unused w.rows numbers 4) (record { parent = reached w.rows root (front path); name = last path; file = new_file caller kind (attrs_at w.rows (reached w.rows root (front path))).gid mode })) n ≡ Some s
+      → MayMake numbers w caller request n s
+  made_row request path kind mode room place asked is = ⊎_elim
+      (λ same.
+      let row : Row = record { parent = reached w.rows root (front path); name = last path; file = new_file caller kind (attrs_at w.rows (reached w.rows root (front path))).gid mode } in
+      let new : map.get (map.insert w.rows (least_unused w.rows numbers 4) row) n ≡ Some row = ap (map.get (map.insert w.rows (least_unused w.rows numbers 4) row)) same ∙ get-insert_same w.rows (least_unused w.rows numbers 4) row in
+      let made : row ≡ s = cc in
+      subst (λ (y : Row). MayMake numbers w caller request n y) made (record {
+        placed = place;
+        number = subst (IsLeastUnused numbers w.rows) (sym same) (least_number numbers w.rows room);
+        file = refl;
+        asked = asked row refl;
+      }))
+      (λ other. none_there _ s none (sym (get-insert_other w.rows _ _ n other) ∙ is))
+      (cases_eq n (least_unused w.rows numbers 4))
+
+  made_by : (request : Request) → decide w caller request ≡ None → (LacksInodes numbers w request → ⊥) → map.get (effect numbers w caller request).rows n ≡ Some s → MayMake numbers w caller request n s
+  made_by (Stat path) allowed room is = none_there _ s none is
+  made_by (Read path off len) allowed room is = none_there _ s none is
+  made_by (Names path) allowed room is = none_there _ s none is
+  made_by (Write path place []) allowed room is = none_there _ s none is
+  made_by (Write path place (b ∷ bs)) allowed room is = none_there _ s (file_absent _ w n _ (written caller place (b ∷ bs)) refl none) is
+  made_by (SetLength path len) allowed room is = none_there _ s (file_absent _ w n _ (cut caller len) refl none) is
+  made_by (Create path mode) allowed room is =
+      made_row (Create path mode) path Regular mode room (placed w caller tree 0 path (may_make w.rows caller 0 path allowed))
+      (λ row e. (
+        ap (λ (y : Row). y.file.kind) e,
+        ap (λ (y : Row). y.file.mode) (sym e),
+        subst (λ (y : Row). LeadsTo w.rows path y.parent y.name) (sym e) (leads_last w caller 0 path (may_make w.rows caller 0 path allowed)),
+      )) is
+  made_by (Mkdir path mode) allowed room is =
+      made_row (Mkdir path mode) path Directory mode room (placed w caller tree 0 path (may_make w.rows caller 0 path allowed))
+      (λ row e. (
+        ap (λ (y : Row). y.file.kind) e,
+        ap (λ (y : Row). y.file.mode) (sym e),
+        subst (λ (y : Row). LeadsTo w.rows path y.parent y.name) (sym e) (leads_last w caller 0 path (may_make w.rows caller 0 path allowed)),
+      )) is
+  made_by (Unlink path) allowed room is = none_there _ s (removed_absent w.rows n (reached w.rows root path) none) is
+  made_by (Rmdir path) allowed room is = none_there _ s (removed_absent w.rows n (reached w.rows root path) none) is
+  made_by (Rename from to) allowed room is = none_there _ s (place_absent _ w n (reached w.rows root from) (reached w.rows root (front to)) (last to) refl none) is
+  made_by (Chmod path mode) allowed room is = none_there _ s (file_absent _ w n _ (λ f. record f { mode = mode }) refl none) is
+  made_by (Chown path uid gid) allowed room is = none_there _ s (file_absent _ w n _ (given caller uid gid) refl none) is
+  made_by (Chflags path flags) allowed room is = none_there _ s (file_absent _ w n _ (λ f. record f { flags = flags }) refl none) is
+  made_by (SetLevel level) allowed room is = none_there _ s none is
+  made_by Sync allowed room is = none_there _ s none is
+
+  new_by : (request : Request) (answer : Answer) → IsAnswer numbers w caller request answer → map.get (after_answer numbers w caller request answer).rows n ≡ Some s → MayMake numbers w caller request n s
+  new_by request (Served shown) is after = made_by request is.0 is.1 after
+  new_by request (Denied denial) is after = none_there _ s none after
+  new_by request (Refused resource) is after = none_there _ s none after
+
+pub new_law : New
+new_law numbers w caller request answer tree is n s none after = new_by numbers w caller tree n s none request answer is after
+
+-- ---- the level
+
+relevelled_by : (w : World) (caller : Caller) (request : Request) (after : Level) → LevelFate w caller request after → after ≢ w.level → MayRelevel caller request w.level after
+relevelled_by w caller request after (Same e) differs = absurd (differs e)
+relevelled_by w caller request after (Set is super may) differs = record {
+  superuser = eqb-true caller.uid 0 super;
+  init = by_init (is_lower after w.level) caller.init may;
+  asked = is;
+}
+
+pub relevelled_law : Relevelled
+relevelled_law numbers w caller request (Served shown) tree is differs = relevelled_by w caller request _ (level_fate numbers w caller request is.0) differs
+relevelled_law numbers w caller request (Denied denial) tree is differs = absurd (differs refl)
+relevelled_law numbers w caller request (Refused resource) tree is differs = absurd (differs refl)
+
+-- ---- the tree
+
+pub leaves_tree : LeavesTree
+leaves_tree numbers w caller request answer tree is = answer_tree numbers w caller request answer tree is
+
+-- ---- what is shown
+
+-- a walk whose tests are met ends at a row that is there
+pub walk_there : (rows : Rows) (caller : Caller) (path k at : ℕ) (names : List (List ℕ)) → There (map.get rows at) → first_failing (walk rows caller path k at names) ≡ None
+    → There (map.get rows (reached rows at names))
+walk_there rows caller path k at [] there h = there
+walk_there rows caller path k at (name ∷ names) there h =
+    let c = met_first _ _ _ (met_first _ _ _ (met_first _ _ _ h).1).1 in
+    let hangs = child-is rows at name (next rows at name) (child_there _ _ c.0 refl) in
+    walk_there rows caller path (k + 1) (next rows at name) names (record { value = hangs.row; is = hangs.there }) c.1
+
+module _ (w : World) (caller : Caller) (tree : IsTree w.rows) (path : List (List ℕ)) (walks : first_failing (walk w.rows caller 0 0 root path) ≡ None) where
+  -- the row at the end of a path
+  end_there : There (map.get w.rows (reached w.rows root path))
+  end_there = let top = some_and (map.get w.rows root) _ tree.rooted in walk_there w.rows caller 0 0 root path (record { value = top.value; is = top.is }) walks
+
+  seen : (P : ℕ → Row → Type 0) → ((r : Row) → map.get w.rows (reached w.rows root path) ≡ Some r → P (reached w.rows root path) r) → IsSeen w caller path P
+  seen P holds = record {
+    number = reached w.rows root path;
+    row = end_there.value;
+    there = end_there.is;
+    named = refl;
+    reaches = walk_reaches w.rows caller 0 0 root path (reaches_root w.rows caller tree) walks;
+    holds = holds end_there.value end_there.is;
+  }
+
+-- the attributes at a number are those of its row
+row_attrs : (rows : Rows) (n : ℕ) (r : Row) → map.get rows n ≡ Some r → attrs_at rows n ≡ attrs_of r.file
+row_attrs rows n r is = ap (λ o. attrs_of (file_at o)) is
+
+shown_by : (numbers : ℕ) (w : World) (caller : Caller) (request : Request) (answer : Answer) → IsTree w.rows → IsAnswer numbers w caller request answer → MayShow w caller request answer
+shown_by numbers w caller (Stat path) (Served shown) tree is =
+    let walks = passes-append (walk w.rows caller 0 0 root path) _ is.0 in
+    seen w caller tree path walks.0 _ (λ r at. is.2 ∙ ap (λ a. served.Stat (reached w.rows root path) a) (row_attrs w.rows _ r at))
+shown_by numbers w caller (Read path off len) (Served shown) tree is =
+    let walks = passes-append (walk w.rows caller 0 0 root path) _ is.0 in
+    let a = met_first _ _ _ walks.1 in
+    let b = met_first _ _ _ a.1 in
+    seen w caller tree path walks.0 _ (λ r at. let e = row_attrs w.rows _ r at in (
+      regular_kind r.file.kind (ap (λ (x : Attrs). is_directory_kind x.kind) (sym e) ∙ not-true _ a.0),
+      ap (λ x. grants_of caller x bits.Read) (sym e) ∙ b.0,
+      is.2 ∙ ap (λ o. served.Bytes (slice_of (file_at o).bytes off (min len read_max))) at,
+    ))
+shown_by numbers w caller (Names path) (Served shown) tree is =
+    let walks = passes-append (walk w.rows caller 0 0 root path) _ is.0 in
+    let a = met_first _ _ _ walks.1 in
+    let b = met_first _ _ _ a.1 in
+    seen w caller tree path walks.0 _ (λ r at. let e = row_attrs w.rows _ r at in (
+      directory_kind r.file.kind (ap (λ (x : Attrs). is_directory_kind x.kind) (sym e) ∙ a.0),
+      ap (λ x. grants_of caller x bits.Read) (sym e) ∙ b.0,
+      is.2,
+    ))
+shown_by numbers w caller (Write path place bytes) (Served shown) tree is = is.2
+shown_by numbers w caller (SetLength path len) (Served shown) tree is = is.2
+shown_by numbers w caller (Create path mode) (Served shown) tree is = is.2
+shown_by numbers w caller (Mkdir path mode) (Served shown) tree is = is.2
+shown_by numbers w caller (Unlink path) (Served shown) tree is = is.2
+shown_by numbers w caller (Rmdir path) (Served shown) tree is = is.2
+shown_by numbers w caller (Rename from to) (Served shown) tree is = is.2
+shown_by numbers w caller (Chmod path mode) (Served shown) tree is = is.2
+shown_by numbers w caller (Chown path uid gid) (Served shown) tree is = is.2
+shown_by numbers w caller (Chflags path flags) (Served shown) tree is = is.2
+shown_by numbers w caller (SetLevel level) (Served shown) tree is = is.2
+shown_by numbers w caller Sync (Served shown) tree is = is.2
+shown_by numbers w caller request answer tree is = tt
+
+pub shown_law : Shown
+shown_law numbers w caller request answer tree is = shown_by numbers w caller request answer tree is

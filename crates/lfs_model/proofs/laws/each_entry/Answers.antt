@@ -1,0 +1,5 @@
+use Rattle.lfs_model.proofs.EntryLemmas.{each_entry}
+use Rattle.lfs_model.proofs.laws.each_entry.Goals as goal
+
+pub returns : goal.returns
+returns c = each_entry

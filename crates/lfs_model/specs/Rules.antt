@@ -1,0 +1,261 @@
+-- The rules that a call must pass, in order, and the first that fails.
+use Rattle.std.specs.Prelude.{◌≡◌, ℕ, ◌+◌, ◌==◌, nat_le, not, ◌||◌, Bool, true, false, List, [], ◌∷◌, ◌++◌, length, Option, None, Some, Result, Ok, Err, is_some, is_none, unwrap_or, if◌then◌else◌}
+use Rattle.std.specs.FinMap as map
+use Rattle.std.specs.List.{list_any}
+use Rattle.lfs_types.specs.Caller.{Caller}
+use Rattle.lfs_types.specs.Kinds.{is_directory_kind}
+use Rattle.lfs_types.specs.Tree.{Row, World, root, attrs_of}
+use Rattle.lfs_types.specs.declared.attrs.Attrs.{Attrs}
+use Rattle.lfs_types.specs.declared.attrs.Bit.{Bit}
+use Rattle.lfs_types.specs.declared.attrs.Bit.TheVariants as bits
+use Rattle.lfs_types.specs.declared.level.Level.{Level}
+use Rattle.lfs_types.specs.declared.limits.TheConstants.{FILE_BYTES}
+use Rattle.lfs_types.specs.declared.request.Place.{Place}
+use Rattle.lfs_types.specs.declared.request.Place.TheVariants.{At, End}
+use Rattle.lfs_types.specs.declared.request.Request.{Request}
+use Rattle.lfs_types.specs.declared.request.Request.TheVariants.{Stat, Read, Write, List as Names, SetLength, Create, Mkdir, Unlink, Rmdir, Rename, Chmod, Chown, Chflags, SetLevel, Sync}
+use Rattle.lfs_types.specs.declared.rule.Denial.{Denial}
+use Rattle.lfs_types.specs.declared.rule.Rule.{Rule}
+use Rattle.lfs_types.specs.declared.rule.Rule.TheVariants.{IsDirectory, GrantsSearch, NameThere, NameFree, IsNoDirectory, IsEmpty, IsNotRoot, IsNotBeneathItself, IsMutable, IsNotAppendOnly, GrantsRead, GrantsWrite, PassesSticky, IsOwner, MaySetOwner, IsSuperuser, MaySetFlags, KeepsSystemLocks, MaySetLevel, FitsFile}
+use Rattle.lfs_rules.specs.Grants.{grants_of}
+use Rattle.lfs_rules.specs.Locks.{is_immutable, is_append_only, may_set_flags, keeps_system_locks}
+use Rattle.lfs_rules.specs.Owners.{is_the_superuser, is_owner_or_superuser, may_set_owner}
+use Rattle.lfs_rules.specs.Securelevel.{may_set_level}
+use Rattle.lfs_rules.specs.Sticky.{is_barred}
+use Rattle.lfs_model.specs.World.{Rows, child, children, file_at}
+
+-- a test of a call: whether it is met, and the denial where it isn't
+pub record Check : Type 0 where
+  pub met : Bool
+  pub denial : Denial
+
+-- what asking tests in order comes to
+abbrev pub judged : List Check → Result (Unit {0}) Denial
+judged [] = Ok tt
+judged (check ∷ checks) = if check.met then judged checks else Err check.denial
+
+-- the denial by the first test that isn't met
+abbrev pub first_failing : List Check → Option Denial
+first_failing [] = None
+first_failing (check ∷ checks) = if check.met then first_failing checks else Some check.denial
+
+-- a rule is asked of the object at a component of a path
+abbrev pub asks : Bool → Rule → ℕ → ℕ → Check
+asks met rule path at = record { met = met; denial = record { rule = rule; path = path; at = at } }
+
+abbrev pub is_directory_row : Option Row → Bool
+is_directory_row None = false
+is_directory_row (Some r) = is_directory_kind r.file.kind
+
+abbrev pub row_grants : Caller → Bit → Option Row → Bool
+row_grants caller bit None = false
+row_grants caller bit (Some r) = grants_of caller (attrs_of r.file) bit
+
+-- the attributes of a row
+abbrev pub attrs_at : Rows → ℕ → Attrs
+attrs_at rows n = attrs_of (file_at (map.get rows n))
+
+-- the row that a name leads to from a row, and 0 where it leads nowhere
+abbrev pub next : Rows → ℕ → List ℕ → ℕ
+next rows at name = unwrap_or (child rows at name) 0
+
+-- the row that names lead to from a row
+abbrev pub reached : Rows → ℕ → List (List ℕ) → ℕ
+reached rows at [] = at
+reached rows at (name ∷ names) = reached rows (next rows at name) names
+
+-- the names before the last
+abbrev pub front : List (List ℕ) → List (List ℕ)
+front [] = []
+front (name ∷ []) = []
+front (name ∷ second ∷ names) = name ∷ front (second ∷ names)
+
+-- the last name
+abbrev pub last : List (List ℕ) → List ℕ
+last [] = []
+last (name ∷ []) = name
+last (name ∷ second ∷ names) = last (second ∷ names)
+
+-- the tests of a walk: at each component the directory so far, search in it, and the name
+abbrev pub walk : Rows → Caller → ℕ → ℕ → ℕ → List (List ℕ) → List Check
+walk rows caller path k at [] = []
+walk rows caller path k at (name ∷ names) =
+    asks (is_directory_row (map.get rows at)) IsDirectory path k
+    ∷ asks (row_grants caller bits.Search (map.get rows at)) GrantsSearch path k
+    ∷ asks (is_some (child rows at name)) NameThere path (k + 1)
+    ∷ walk rows caller path (k + 1) (next rows at name) names
+
+-- where a Write's bytes go in a file of this many bytes
+abbrev pub start_of : Place → ℕ → ℕ
+start_of (At start) size = start
+start_of End size = size
+
+-- the most bytes of a file
+abbrev pub file_max : ℕ
+file_max = FILE_BYTES
+
+-- whether a place is the end
+abbrev pub is_end : Place → Bool
+is_end (At start) = false
+is_end End = true
+
+-- the rows that names lead through from a row, the first and the last among them
+abbrev pub visited : Rows → ℕ → List (List ℕ) → List ℕ
+visited rows at [] = at ∷ []
+visited rows at (name ∷ names) = at ∷ visited rows (next rows at name) names
+
+-- where a number first stands in a list, and the list's length where it doesn't
+abbrev pub position : ℕ → List ℕ → ℕ
+position n [] = 0
+position n (m ∷ ms) = if m == n then 0 else 1 + position n ms
+
+-- the tests of a call that gives a new name to a row, in the path of this index
+abbrev pub making : Rows → Caller → ℕ → List (List ℕ) → List Check
+making rows caller path names =
+    let dir = reached rows root (front names) in
+    let k = length (front names) in
+    asks (not (length names == 0)) NameFree path 0
+    ∷ walk rows caller path 0 root (front names) ++
+    (asks (is_directory_row (map.get rows dir)) IsDirectory path k
+    ∷ asks (row_grants caller bits.Search (map.get rows dir)) GrantsSearch path k
+    ∷ asks (is_none (child rows dir (last names))) NameFree path (k + 1)
+    ∷ asks (not (is_immutable (attrs_at rows dir))) IsMutable path k
+    ∷ asks (row_grants caller bits.Write (map.get rows dir)) GrantsWrite path k
+    ∷ [])
+
+-- the tests of a call that takes away a name, up to those that a file and a directory differ in
+abbrev pub removing : Rows → Caller → List (List ℕ) → List Check
+removing rows caller names =
+    let dir = reached rows root (front names) in
+    let file = reached rows root names in
+    let k = length (front names) in
+    asks (not (length names == 0)) IsNotRoot 0 0
+    ∷ walk rows caller 0 0 root (front names) ++
+    (asks (is_directory_row (map.get rows dir)) IsDirectory 0 k
+    ∷ asks (row_grants caller bits.Search (map.get rows dir)) GrantsSearch 0 k
+    ∷ asks (is_some (child rows dir (last names))) NameThere 0 (k + 1)
+    ∷ asks (not (is_immutable (attrs_at rows dir))) IsMutable 0 k
+    ∷ asks (row_grants caller bits.Write (map.get rows dir)) GrantsWrite 0 k
+    ∷ asks (not (is_append_only (attrs_at rows dir))) IsNotAppendOnly 0 k
+    ∷ asks (not (is_barred caller (attrs_at rows dir) (attrs_at rows file))) PassesSticky 0 (k + 1)
+    ∷ asks (not (is_immutable (attrs_at rows file))) IsMutable 0 (k + 1)
+    ∷ asks (not (is_append_only (attrs_at rows file))) IsNotAppendOnly 0 (k + 1)
+    ∷ [])
+
+-- the tests of what a path leads to: the walk, and tests of its attributes at the last component
+abbrev pub reaching : Rows → Caller → List (List ℕ) → (Attrs → ℕ → List Check) → List Check
+reaching rows caller path tests = walk rows caller 0 0 root path ++ tests (attrs_at rows (reached rows root path)) (length path)
+
+-- no tests behind a walk
+abbrev pub stat_tests : Attrs → ℕ → List Check
+stat_tests attrs k = []
+
+-- the tests of reading a file's bytes
+abbrev pub read_tests : Caller → Attrs → ℕ → List Check
+read_tests caller attrs k =
+    asks (not (is_directory_kind attrs.kind)) IsNoDirectory 0 k
+    ∷ asks (grants_of caller attrs bits.Read) GrantsRead 0 k
+    ∷ []
+
+-- the tests of listing a directory
+abbrev pub list_tests : Caller → Attrs → ℕ → List Check
+list_tests caller attrs k =
+    asks (is_directory_kind attrs.kind) IsDirectory 0 k
+    ∷ asks (grants_of caller attrs bits.Read) GrantsRead 0 k
+    ∷ []
+
+-- the tests of a call that changes a file's bytes or its length, up to the length; some only add bytes at the end
+abbrev pub change_tests : Caller → Bool → Attrs → ℕ → List Check
+change_tests caller appends attrs k =
+    asks (not (is_directory_kind attrs.kind)) IsNoDirectory 0 k
+    ∷ asks (not (is_immutable attrs)) IsMutable 0 k
+    ∷ asks (grants_of caller attrs bits.Write) GrantsWrite 0 k
+    ∷ asks (appends || not (is_append_only attrs)) IsNotAppendOnly 0 k
+    ∷ []
+
+-- the tests of putting so many bytes at a place
+abbrev pub write_tests : Caller → Place → ℕ → Attrs → ℕ → List Check
+write_tests caller place count attrs k =
+    change_tests caller (is_end place) attrs k ++
+    (asks (nat_le (start_of place attrs.size + count) file_max) FitsFile 0 k
+    ∷ [])
+
+-- the tests of giving a file this length
+abbrev pub length_tests : Caller → ℕ → Attrs → ℕ → List Check
+length_tests caller len attrs k =
+    change_tests caller false attrs k ++
+    (asks (nat_le len file_max) FitsFile 0 k
+    ∷ [])
+
+-- the tests of setting a mode
+abbrev pub chmod_tests : Caller → Attrs → ℕ → List Check
+chmod_tests caller attrs k =
+    asks (not (is_immutable attrs)) IsMutable 0 k
+    ∷ asks (not (is_append_only attrs)) IsNotAppendOnly 0 k
+    ∷ asks (is_owner_or_superuser caller attrs) IsOwner 0 k
+    ∷ []
+
+-- the tests of giving a file this owner and this group
+abbrev pub chown_tests : Caller → ℕ → ℕ → Attrs → ℕ → List Check
+chown_tests caller uid gid attrs k =
+    asks (not (is_immutable attrs)) IsMutable 0 k
+    ∷ asks (not (is_append_only attrs)) IsNotAppendOnly 0 k
+    ∷ asks (may_set_owner caller attrs uid gid) MaySetOwner 0 k
+    ∷ []
+
+-- the tests of setting these flags at this securelevel
+abbrev pub chflags_tests : Caller → Level → ℕ → Attrs → ℕ → List Check
+chflags_tests caller level flags attrs k =
+    asks (is_owner_or_superuser caller attrs) IsOwner 0 k
+    ∷ asks (may_set_flags caller attrs.flags flags) MaySetFlags 0 k
+    ∷ asks (keeps_system_locks level attrs.flags flags) KeepsSystemLocks 0 k
+    ∷ []
+
+-- the tests of setting the securelevel
+abbrev pub level_tests : Caller → Level → Level → List Check
+level_tests caller old new =
+    asks (is_the_superuser caller) IsSuperuser 0 0
+    ∷ asks (may_set_level caller old new) MaySetLevel 0 0
+    ∷ []
+
+-- the tests of each call, in order
+abbrev pub rule_table : World → Caller → Request → List Check
+rule_table w caller (Stat path) = reaching w.rows caller path stat_tests
+rule_table w caller (Read path off len) = reaching w.rows caller path (read_tests caller)
+rule_table w caller (Names path) = reaching w.rows caller path (list_tests caller)
+rule_table w caller (Write path place bytes) = reaching w.rows caller path (write_tests caller place (length bytes))
+rule_table w caller (SetLength path len) = reaching w.rows caller path (length_tests caller len)
+rule_table w caller (Create path mode) = making w.rows caller 0 path
+rule_table w caller (Mkdir path mode) = making w.rows caller 0 path
+rule_table w caller (Unlink path) =
+    removing w.rows caller path ++
+    (asks (not (is_directory_row (map.get w.rows (reached w.rows root path)))) IsNoDirectory 0 (length path)
+    ∷ [])
+rule_table w caller (Rmdir path) =
+    let dir = reached w.rows root path in
+    removing w.rows caller path ++
+    (asks (is_directory_row (map.get w.rows dir)) IsDirectory 0 (length path)
+    ∷ asks (length (children w.rows dir) == 0) IsEmpty 0 (length path)
+    ∷ [])
+rule_table w caller (Rename from to) =
+    let moved = reached w.rows root from in
+    let way = visited w.rows root (front to) in
+    let stays = reached w.rows root (front from) == reached w.rows root (front to) in
+    removing w.rows caller from ++ (making w.rows caller 1 to ++
+    (asks (not (list_any (λ n. n == moved) way)) IsNotBeneathItself 1 (position moved way)
+    ∷ asks (not (is_directory_row (map.get w.rows moved)) || stays || row_grants caller bits.Write (map.get w.rows moved)) GrantsWrite 0 (length from)
+    ∷ []))
+rule_table w caller (Chmod path mode) = reaching w.rows caller path (chmod_tests caller)
+rule_table w caller (Chown path uid gid) = reaching w.rows caller path (chown_tests caller uid gid)
+rule_table w caller (Chflags path flags) = reaching w.rows caller path (chflags_tests caller w.level flags)
+rule_table w caller (SetLevel level) = level_tests caller w.level level
+rule_table w caller Sync = []
+
+-- the denial of a call, or None where the rules allow it
+abbrev pub decide : World → Caller → Request → Option Denial
+decide w caller request = first_failing (rule_table w caller request)
+
+-- Tests were asked in order: the result is the denial of the first that isn't met, or all are met and more is known.
+abbrev pub Judges : {A : Type 0} → List Check → (A → Type 0) → Result A Denial → Type 0
+Judges checks P (Ok x) = (first_failing checks ≡ None) × P x
+Judges checks P (Err denial) = first_failing checks ≡ Some denial

@@ -1,0 +1,109 @@
+-- What calls and runs of calls leave of the journal.
+use Rattle.std.specs.Prelude.{◌≡◌, ◌↔◌, ℕ, ◌+◌, ◌≤◌, Bool, List, [], ◌∷◌, ◌++◌, length, Option, None, Some, option_map}
+use Rattle.lfs_types.specs.Caller.{Caller}
+use Rattle.lfs_types.specs.declared.answer.Answer.{Answer}
+use Rattle.lfs_types.specs.declared.answer.Answer.TheVariants.{Served, Denied, Refused}
+use Rattle.lfs_types.specs.declared.answer.Resource.TheVariants.{NoMemory, NoSpace, JournalFull}
+use Rattle.lfs_types.specs.declared.request.Request.{Request}
+use Rattle.lfs_types.specs.declared.request.Request.TheVariants.{Sync}
+use Rattle.lfs_model.specs.declared.journal.Call.{Call}
+use Rattle.lfs_model.specs.declared.journal.Entry.{Entry}
+use Rattle.lfs_model.specs.declared.journal.CleanerAnswer.{CleanerAnswer}
+use Rattle.lfs_model.specs.declared.journal.CleanerAnswer.TheVariants as cleaner
+use Rattle.lfs_model.specs.declared.journal.CleanerKind.{CleanerKind}
+use Rattle.lfs_model.specs.declared.journal.CleanerKind.TheVariants.{Segclean}
+use Rattle.lfs_model.specs.declared.journal.CleanerOutcome.{CleanerOutcome}
+use Rattle.lfs_model.specs.declared.journal.CleanerOutcome.TheVariants as outcomes
+use Rattle.lfs_model.specs.declared.journal.Event.{Event}
+use Rattle.lfs_model.specs.declared.journal.Event.TheVariants.{User, Cleaner}
+use Rattle.lfs_model.specs.Memory.{MayLackMemory}
+
+-- the event of a user's call that was answered so: none where memory or the journal's room ran out
+abbrev pub user_event : Request → Answer → Option Event
+user_event request (Refused NoMemory) = None
+user_event request (Refused JournalFull) = None
+user_event request answer = Some (User request answer)
+
+-- what the journal tells of a cleaner's answer: nothing where memory or the journal's room ran out
+abbrev pub outcome_of : CleanerAnswer → Option CleanerOutcome
+outcome_of (cleaner.Refused resource) = None
+outcome_of (cleaner.Denied denial) = Some outcomes.Denied
+outcome_of (cleaner.Fault fault) = Some (outcomes.Fault fault)
+outcome_of (cleaner.Ifile bytes) = Some (outcomes.Done (length bytes))
+outcome_of (cleaner.Infos infos) = Some (outcomes.Done (length infos))
+outcome_of (cleaner.Bmapv infos) = Some (outcomes.Done (length infos))
+outcome_of (cleaner.Marked count) = Some (outcomes.Done count)
+outcome_of cleaner.Cleaned = Some (outcomes.Done 0)
+
+-- the event of a cleaner's call that was answered so
+abbrev pub cleaner_event : CleanerKind → CleanerAnswer → Option Event
+cleaner_event kind answer = option_map (Cleaner kind) (outcome_of answer)
+
+-- the entry of an event of a session, if there is one
+abbrev pub entry_of : ℕ → Caller → Option Event → List Entry
+entry_of session caller None = []
+entry_of session caller (Some event) = record { session = session; cred = caller; event = event } ∷ []
+
+-- the entry of a user's call that was answered so
+abbrev pub kept_entry : ℕ → Caller → Request → Answer → List Entry
+kept_entry session caller request answer = entry_of session caller (user_event request answer)
+
+-- the entries of calls with their answers, in order
+abbrev pub kept : List Call → List Answer → List Entry
+kept [] answers = []
+kept (call ∷ calls) [] = []
+kept (call ∷ calls) (answer ∷ answers) = kept_entry call.session call.cred call.request answer ++ kept calls answers
+
+-- a call wasn't served
+abbrev pub IsUnserved : Answer → Type 0
+IsUnserved (Served shown) = ⊥
+IsUnserved (Denied denial) = Unit {0}
+IsUnserved (Refused resource) = Unit {0}
+
+-- Answers to calls made one after another on a journal: JournalFull exactly where it has its limit by then, and
+-- NoMemory only at a call that may lack memory.
+abbrev pub AreAnswers : ℕ → Bool → List Entry → List Call → List Answer → Type 0
+AreAnswers limit can_lack journal [] [] = Unit {0}
+AreAnswers limit can_lack journal [] (answer ∷ answers) = ⊥
+AreAnswers limit can_lack journal (call ∷ calls) [] = ⊥
+AreAnswers limit can_lack journal (call ∷ calls) (answer ∷ answers) =
+    ((answer ≡ Refused JournalFull) ↔ (length journal ≡ limit))
+    × (answer ≡ Refused NoMemory → MayLackMemory can_lack call.request)
+    × AreAnswers limit can_lack (journal ++ kept_entry call.session call.cred call.request answer) calls answers
+
+-- ---- users alone
+
+-- the events that are left without the cleaner: users' calls but Sync that weren't refused for a resource
+abbrev pub users_event : Event → Option Event
+users_event (User Sync answer) = None
+users_event (User request (Refused resource)) = None
+users_event (User request answer) = Some (User request answer)
+users_event (Cleaner kind outcome) = None
+
+-- the entries without the cleaner's, the Syncs and those refused for a resource
+abbrev pub users_alone : List Entry → List Entry
+users_alone [] = []
+users_alone (entry ∷ entries) = entry_of entry.session entry.cred (users_event entry.event) ++ users_alone entries
+
+-- ---- clean segments
+
+-- how many segments an event makes clean
+abbrev pub cleans : Event → ℕ
+cleans (Cleaner Segclean (outcomes.Done n)) = 1
+cleans event = 0
+
+-- how many segments became clean by the entries
+abbrev pub cleaned : List Entry → ℕ
+cleaned [] = 0
+cleaned (entry ∷ entries) = cleans entry.event + cleaned entries
+
+-- an event is a call refused for want of space
+abbrev pub IsNoSpace : Event → Type 0
+IsNoSpace (User request answer) = answer ≡ Refused NoSpace
+IsNoSpace (Cleaner kind outcome) = ⊥
+
+-- a call refused for want of space stands among the entries of a volume with so many clean segments only where at most
+-- two of them weren't made clean after it
+abbrev pub IsShort : ℕ → List Entry → Type 0
+IsShort clean [] = Unit {0}
+IsShort clean (entry ∷ entries) = (IsNoSpace entry.event → clean ≤ 2 + cleaned entries) × IsShort clean entries

@@ -1,0 +1,6 @@
+//! What a server may answer, what a call does to the tree, and the laws that hold of every run: definitions without a
+//! store.
+#![tactic(auto)]
+
+pub mod journal;
+pub mod laws;
