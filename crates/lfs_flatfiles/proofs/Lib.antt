@@ -1,0 +1,4 @@
+pub mod FirstChanges
+pub mod FlatFilesContent
+pub mod FlatFilesReach
+pub mod FlatFilesSplice
