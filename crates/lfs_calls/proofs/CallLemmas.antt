@@ -1,0 +1,115 @@
+-- What a call comes to that a rule denies, that lacks something, that a store refuses, that shows something, or that
+-- changes files.
+use Rattle.std.proofs.Common.{◌≡◌, None, Some, Ok, Err, inl, sym, subst, ◌∙◌}
+use Rattle.lfs_types.specs.Caller.{Caller}
+use Rattle.lfs_types.specs.StoreStates.{Follows, StoreState}
+use Rattle.lfs_types.specs.Stored.{MayRefuse}
+use Rattle.lfs_types.specs.Tree.{Content, World}
+use Rattle.lfs_types.specs.declared.answer.Answer.TheVariants as answers
+use Rattle.lfs_types.specs.declared.answer.Resource.{Resource}
+use Rattle.lfs_types.specs.declared.answer.Served.{Served}
+use Rattle.lfs_types.specs.declared.answer.Served.TheVariants.{Done}
+use Rattle.lfs_types.specs.declared.level.Level.{Level}
+use Rattle.lfs_types.specs.declared.request.Request.{Request}
+use Rattle.lfs_types.specs.declared.rule.Denial.{Denial}
+use Rattle.lfs_types.specs.declared.store.StoreRefusal.{StoreRefusal}
+use Rattle.lfs_types.specs.declared.store.StoreRefusal.TheVariants.{NoSpace, NoMemory}
+use Rattle.lfs_model.specs.Effects.{answer_of, effect}
+use Rattle.lfs_model.specs.Rules.{decide}
+use Rattle.lfs_model.specs.Steps.{IsChanging, LacksInodes}
+use Rattle.lfs_calls.specs.declared.halt.Halt.TheVariants.{Denied, Refused}
+use Rattle.lfs_calls.specs.Calls.{ChangesTo, IsCallAt, resource_of}
+use Rattle.lfs_calls.specs.Content.{Shows}
+use Rattle.lfs_calls.specs.Outcomes.{FillsDirectory, IsOutcome}
+use Rattle.lfs_calls.specs.Volumes.{InWorld, IsVolume}
+use Rattle.lfs_calls.proofs.StateLemmas.{same_content, follows_itself, follows_same}
+
+-- a call is to be served: the rules allow it, and it lacks neither a number nor room for a name
+pub record IsToServe (s : StoreState) (caller : Caller) (request : Request) (w : World) : Type 0 where
+  pub allowed : decide w caller request ≡ None
+  pub numbered : LacksInodes s.shape.numbers w request → ⊥
+  pub roomy : FillsDirectory s.content w request → ⊥
+
+-- a volume is one still where the same store shows the same world
+pub still : {s new : StoreState} {w : World} → new ≡ s → IsVolume s w → IsVolume new w
+still {w = w} same v = subst (λ (x : StoreState). IsVolume x w) (sym same) v
+
+module _ (level : Level) {s : StoreState} {caller : Caller} {request : Request} where
+  -- a call that a rule denies
+  pub denied : {new : StoreState} → new ≡ s → (denial : Denial) → InWorld s (λ w. w.level ≡ level → decide w caller request ≡ Some denial)
+      → IsCallAt level s new caller request (Err (Denied denial))
+  denied same denial is = record {
+    outcome = is;
+    leaves = λ w v. still same v;
+    halted = same_content same;
+    listed = λ h. absurd h;
+    follows = follows_itself same;
+  }
+
+  -- a call for which a resource ran out, before anything changed
+  pub lacking : {new : StoreState} → new ≡ s → (resource : Resource) → InWorld s (λ w. w.level ≡ level → IsOutcome s w caller request (answers.Refused resource))
+      → IsCallAt level s new caller request (Err (Refused resource))
+  lacking same resource is = record {
+    outcome = is;
+    leaves = λ w v. still same v;
+    halted = same_content same;
+    listed = λ h. absurd h;
+    follows = follows_itself same;
+  }
+
+  refused_as : (refusal : StoreRefusal) → MayRefuse s.clean s.shape.can_lack_memory refusal → IsChanging request → (w : World) → IsToServe s caller request w
+      → IsOutcome s w caller request (answers.Refused (resource_of refusal))
+  refused_as NoSpace may changing w serve = ((serve.allowed, (serve.numbered, changing)), serve.roomy, may)
+  refused_as NoMemory may changing w serve = (serve.allowed, serve.numbered, serve.roomy, inl (may, changing))
+
+  -- a call whose changes the store refused, with what it may be answered
+  pub refused_so : {mid new : StoreState} {P : Content → Type 0} → mid ≡ s → (refusal : StoreRefusal)
+      → InWorld s (λ w. w.level ≡ level → IsOutcome s w caller request (answers.Refused (resource_of refusal)))
+      → ChangesTo mid P (Err refusal) new → IsCallAt level s new caller request (Err (Refused (resource_of refusal)))
+  refused_so same refusal is change =
+      let kept = change.err ∙ same_content same in
+      record {
+        outcome = is;
+        leaves = λ w v. record { shows = subst (λ (c : Content). Shows c w) (sym kept) v.shows; tree = v.tree };
+        halted = kept;
+        listed = λ h. absurd h;
+        follows = follows_same same change.follows;
+      }
+
+  -- a call whose changes the store refused
+  pub refused : {mid new : StoreState} {P : Content → Type 0} → mid ≡ s → (refusal : StoreRefusal) → IsChanging request
+      → InWorld s (λ w. w.level ≡ level → IsToServe s caller request w)
+      → ChangesTo mid P (Err refusal) new → IsCallAt level s new caller request (Err (Refused (resource_of refusal)))
+  refused same refusal changing serve change =
+      let may = subst (λ (x : StoreState). MayRefuse x.clean x.shape.can_lack_memory refusal) same change.refused in
+      refused_so same refusal (λ w v at. refused_as refusal may changing w (serve w v at)) change
+
+  -- a call that changes nothing and shows something
+  pub shown : {new : StoreState} → new ≡ s → (shows : Served) → InWorld s (λ w. w.level ≡ level → IsToServe s caller request w)
+      → InWorld s (λ w. shows ≡ answer_of w request) → ((w : World) → effect s.shape.numbers w caller request ≡ w)
+      → IsCallAt level s new caller request (Ok shows)
+  shown {new = new} same shows serve is stays = record {
+    outcome = λ w v at. let x = serve w v at in ((x.allowed, x.numbered, is w v), x.roomy);
+    leaves = λ w v. subst (IsVolume new) (sym (stays w)) (still same v);
+    halted = tt;
+    listed = λ h. same_content same;
+    follows = follows_itself same;
+  }
+
+  -- a call that changes files, with what it may be answered
+  pub done_so : {mid new : StoreState} → mid ≡ s → InWorld s (λ w. w.level ≡ level → IsOutcome s w caller request (answers.Served Done))
+      → InWorld s (λ w. IsVolume new (effect s.shape.numbers w caller request)) → Follows mid new
+      → IsCallAt level s new caller request (Ok Done)
+  done_so same is leaves follows = record {
+    outcome = is;
+    leaves = leaves;
+    halted = tt;
+    listed = λ h. absurd h;
+    follows = follows_same same follows;
+  }
+
+  -- a call that changes files
+  pub done : {mid new : StoreState} → mid ≡ s → InWorld s (λ w. w.level ≡ level → IsToServe s caller request w)
+      → ((w : World) → Done ≡ answer_of w request) → InWorld s (λ w. IsVolume new (effect s.shape.numbers w caller request)) → Follows mid new
+      → IsCallAt level s new caller request (Ok Done)
+  done same serve is = done_so same (λ w v at. let x = serve w v at in ((x.allowed, x.numbered, is w), x.roomy))

@@ -1,0 +1,43 @@
+-- What a store has of a directory whose attributes it shows.
+use Rattle.std.proofs.Common.{◌≡◌, ℕ, ◌%◌, ◌≤◌, true, length, Some, sym, ap, subst, ◌∙◌}
+use Rattle.lfs_types.specs.Changes.{IsLength}
+use Rattle.lfs_types.specs.Kinds.{is_directory_kind}
+use Rattle.lfs_types.specs.Stored.{shown_attrs, bytes_of, bytes_of_file}
+use Rattle.lfs_types.specs.Tree.{World, Content}
+use Rattle.lfs_types.specs.declared.attrs.Attrs.{Attrs}
+use Rattle.lfs_types.specs.declared.attrs.Kind.TheVariants.{Directory}
+use Rattle.lfs_calls.specs.Content.{Shows, IsListing}
+use Rattle.lfs_calls.proofs.StepLemmas.{ShownFile, shown_file, stored_directory}
+
+module _ {c : Content} {w : World} (shows : Shows c w) (n : ℕ) (a : Attrs) (shown : Some a ≡ shown_attrs c n) (directory : is_directory_kind a.kind ≡ true) where
+  -- the stored file
+  abbrev pub dir_file : ShownFile c n a
+  dir_file = shown_file c n a shown
+
+  -- it is a directory
+  pub file_kind : dir_file.file.kind ≡ Directory
+  file_kind = stored_directory c n a shown directory
+
+  -- it has a length that a directory may have
+  pub file_length : IsLength Directory (length dir_file.file.bytes)
+  file_length = subst (λ k. IsLength k (length dir_file.file.bytes)) file_kind (shows.sizes n dir_file.file dir_file.stored)
+
+  -- its bytes are those of its number
+  pub file_bytes : bytes_of c n ≡ dir_file.file.bytes
+  file_bytes = ap bytes_of_file dir_file.stored
+
+  -- its size is one of whole blocks
+  pub size_whole : a.size % 512 ≡ 0
+  size_whole = ap (λ (x : Attrs). x.size % 512) dir_file.same ∙ file_length.1
+
+  -- its size is within a file's limit
+  pub size_bounded : a.size ≤ 71680
+  size_bounded = subst (λ (x : Attrs). x.size ≤ 71680) (sym dir_file.same) file_length.0
+
+  -- its bytes are as many as a directory may have
+  pub bytes_length : IsLength Directory (length (bytes_of c n))
+  bytes_length = subst (λ bs. IsLength Directory (length bs)) (sym file_bytes) file_length
+
+  -- its bytes list the rows that hang in it
+  pub bytes_listing : IsListing w.rows n (bytes_of c n)
+  bytes_listing = subst (IsListing w.rows n) (sym file_bytes) (shows.listings n dir_file.file dir_file.stored file_kind)

@@ -1,0 +1,247 @@
+-- What a call that makes a row may be answered, and what it leaves.
+use Rattle.std.proofs.Common.{◌≡◌, ◌≢◌, ℕ, zero, suc, ◌+◌, ◌-◌, ◌%◌, ◌<◌, ◌≤◌, ◌==◌, true, false, List, [], ◌∷◌, ◌++◌, length, drop, Option, None, Some, Ok, Err, refl, sym, ap, subst, ◌∙◌, ⊎_elim, arith}
+use Rattle.std.specs.Prelude.{not, is_some, is_none, IsSome}
+use Rattle.std.specs.Borrow.{Bor}
+use Rattle.std.proofs.lemmas.Bool.{cond-true, cond-false, ne_eqb, cases_Bool, cases_eq}
+use Rattle.std.specs.FinMap as map
+use Rattle.lfs_types.specs.Caller.{Caller}
+use Rattle.lfs_types.specs.Changes.{IsLength, CanApply, changed_at}
+use Rattle.lfs_types.specs.Kinds.{is_directory_kind}
+use Rattle.lfs_types.specs.Splicing.{splice}
+use Rattle.lfs_types.specs.Stored.{shown_attrs, bytes_of, IsUsedBelow}
+use Rattle.lfs_types.specs.Tree.{File, World, Content, root, file_of}
+use Rattle.lfs_types.specs.declared.attrs.Attrs.{Attrs}
+use Rattle.lfs_types.specs.declared.attrs.Bit.{Bit}
+use Rattle.lfs_types.specs.declared.attrs.Bit.TheVariants as bits
+use Rattle.lfs_types.specs.declared.attrs.Kind.{Kind}
+use Rattle.lfs_types.specs.declared.attrs.Kind.TheVariants.{Directory}
+use Rattle.lfs_types.specs.declared.rule.Denial.{Denial}
+use Rattle.lfs_types.specs.declared.rule.Rule.{Rule}
+use Rattle.lfs_types.specs.declared.rule.Rule.TheVariants.{IsDirectory, GrantsSearch, NameFree, IsMutable, GrantsWrite}
+use Rattle.lfs_types.specs.declared.store.Change.TheVariants.{Make, Put}
+use Rattle.lfs_dirs.specs.Directory.{number_in}
+use Rattle.lfs_rules.specs.Grants.{grants_of}
+use Rattle.lfs_rules.specs.Locks.{is_immutable}
+use Rattle.lfs_model.specs.World.{Rows, child}
+use Rattle.lfs_model.specs.Rules.{Check, asks, first_failing, is_directory_row, row_grants, attrs_at, reached, walk, making, front, last}
+use Rattle.lfs_model.specs.Effects.{least_unused}
+use Rattle.lfs_calls.specs.Content.{Shows, listed}
+use Rattle.lfs_calls.specs.Makes.{MakesFile}
+use Rattle.lfs_model.specs.Steps.{AllUsed}
+use Rattle.lfs_model.specs.Walks.{walked}
+use Rattle.lfs_model.proofs.Deciding.{walk_denied, walk_passed, walked-reached}
+use Rattle.lfs_types.proofs.Maps.{get-insert_same, get-insert_other}
+use Rattle.lfs_types.proofs.Pieces.{splice-put_over, length-put_over}
+use Rattle.lfs_types.proofs.Somewhere.{present, is_some_and, there_of}
+use Rattle.lfs_calls.proofs.StepLemmas.{directory_reads, attrs_reads, grants_reads, child_listed}
+use Rattle.lfs_calls.proofs.Visible.{shown_of}
+
+-- ---- the last name of a path
+
+-- the names before the last
+pub front-last : (xs : List (List ℕ)) (x : List ℕ) → front (xs ++ x ∷ []) ≡ xs
+front-last [] x = refl
+front-last (y ∷ []) x = refl
+front-last (y ∷ z ∷ zs) x = ap (λ ys. y ∷ ys) (front-last (z ∷ zs) x)
+
+-- the last name
+pub last-last : (xs : List (List ℕ)) (x : List ℕ) → last (xs ++ x ∷ []) ≡ x
+last-last [] x = refl
+last-last (y ∷ []) x = refl
+last-last (y ∷ z ∷ zs) x = last-last (z ∷ zs) x
+
+-- the last of names that end in one
+pub last_of : (names parents : List (List ℕ)) (name : List ℕ) → names ≡ parents ++ name ∷ [] → last names ≡ name
+last_of names parents name e = ap last e ∙ last-last parents name
+
+-- the tests behind the first, by the names before the last and the last
+abbrev in_parent : Rows → Caller → ℕ → List (List ℕ) → List ℕ → List Check
+in_parent rows caller path parents name =
+    (asks (is_directory_row (map.get rows (reached rows root parents))) IsDirectory path (length parents)
+    ∷ asks (row_grants caller bits.Search (map.get rows (reached rows root parents))) GrantsSearch path (length parents)
+    ∷ asks (is_none (child rows (reached rows root parents) name)) NameFree path (length parents + 1)
+    ∷ asks (not (is_immutable (attrs_at rows (reached rows root parents)))) IsMutable path (length parents)
+    ∷ asks (row_grants caller bits.Write (map.get rows (reached rows root parents))) GrantsWrite path (length parents)
+    ∷ [])
+
+-- no name may be given to the root
+pub make_root : (rows : Rows) (caller : Caller) (path : ℕ) (names : List (List ℕ)) → length names ≡ 0 → first_failing (making rows caller path names) ≡ Some (record { rule = NameFree; path = path; at = 0 })
+make_root rows caller path [] h = refl
+make_root rows caller path (x ∷ xs) h = absurd (omega arith)
+
+-- a path of names before the last, and a last
+making_in : (rows : Rows) (caller : Caller) (path : ℕ) (names parents : List (List ℕ)) (name : List ℕ) → names ≡ parents ++ name ∷ [] → (length names == 0) ≡ false
+    → first_failing (making rows caller path names) ≡ first_failing (walk rows caller path 0 root parents ++ in_parent rows caller path parents name)
+making_in rows caller path names parents name e some =
+    cond-true _ _ _ (ap not some)
+    ∙ ap (λ ys. first_failing (walk rows caller path 0 root (front ys) ++ in_parent rows caller path (front ys) (last ys))) e
+    ∙ ap (λ ps. first_failing (walk rows caller path 0 root ps ++ in_parent rows caller path ps (last (parents ++ name ∷ [])))) (front-last parents name)
+    ∙ ap (λ n. first_failing (walk rows caller path 0 root parents ++ in_parent rows caller path parents n)) (last-last parents name)
+
+module _ (rows : Rows) (caller : Caller) (path : ℕ) (names parents : List (List ℕ)) (name : List ℕ) (e : names ≡ parents ++ name ∷ []) (count : length parents + 1 ≡ length names) where
+  -- the tests are those of the walk to the directory, and those behind it
+  pub to_walk : first_failing (making rows caller path names) ≡ first_failing (walk rows caller path 0 root parents ++ in_parent rows caller path parents name)
+  to_walk = making_in rows caller path names parents name e (ne_eqb (length names) 0 (λ z. absurd (omega arith)))
+
+  -- where the walk is denied, the call is
+  pub make_denied : (denial : Denial) → walked rows caller path 0 root parents ≡ Err denial → first_failing (making rows caller path names) ≡ Some denial
+  make_denied denial h = to_walk ∙ walk_denied rows caller path parents _ denial h
+
+-- the directory to which the names before the last of a path lead
+pub record Way (c : Content) (w : World) (caller : Caller) (path : ℕ) (names parents : List (List ℕ)) (name : List ℕ) (n : ℕ) (a : Attrs) : Type 0 where
+  pub shows : Shows c w
+  pub names_are : names ≡ parents ++ name ∷ []
+  pub count : length parents + 1 ≡ length names
+  pub leads : walked w.rows caller path 0 root parents ≡ Ok n
+  pub shown : Some a ≡ shown_attrs c n
+
+module _ {c : Content} {w : World} {caller : Caller} {path : ℕ} {names parents : List (List ℕ)} {name : List ℕ} {n : ℕ} {a : Attrs} (way : Way c w caller path names parents name n a) where
+  abbrev failing : Option Denial
+  failing = first_failing (making w.rows caller path names)
+
+  abbrev fails_by : Rule → ℕ → Type 0
+  fails_by rule at = failing ≡ Some (record { rule = rule; path = path; at = at })
+
+  parent_is : reached w.rows root parents ≡ n
+  parent_is = walked-reached w.rows caller path 0 root parents n way.leads
+
+  -- the names before the last lead to the directory
+  pub make_object : reached w.rows root (front names) ≡ n
+  make_object = ap (λ ys. reached w.rows root (front ys)) way.names_are ∙ ap (reached w.rows root) (front-last parents name) ∙ parent_is
+
+  -- the last name of the path
+  pub last_is : last names ≡ name
+  last_is = last_of names parents name way.names_are
+
+  to_tests : failing ≡ first_failing (in_parent w.rows caller path parents name)
+  to_tests = to_walk w.rows caller path names parents name way.names_are way.count ∙ walk_passed w.rows caller path parents _ n way.leads
+
+  kind_test : is_directory_row (map.get w.rows (reached w.rows root parents)) ≡ is_directory_kind a.kind
+  kind_test = ap (λ m. is_directory_row (map.get w.rows m)) parent_is ∙ directory_reads c w way.shows n a way.shown
+
+  grants_test : (bit : Bit) → row_grants caller bit (map.get w.rows (reached w.rows root parents)) ≡ grants_of caller a bit
+  grants_test bit = ap (λ m. row_grants caller bit (map.get w.rows m)) parent_is ∙ grants_reads c w way.shows n a way.shown caller bit
+
+  mutable_test : not (is_immutable (attrs_at w.rows (reached w.rows root parents))) ≡ not (is_immutable a)
+  mutable_test = ap (λ m. not (is_immutable (attrs_at w.rows m))) parent_is ∙ ap (λ x. not (is_immutable x)) (attrs_reads c w way.shows n a way.shown)
+
+  -- a new name in a file is denied
+  pub make_not_directory : is_directory_kind a.kind ≡ false → fails_by IsDirectory (length parents)
+  make_not_directory h = to_tests ∙ cond-false _ _ _ (kind_test ∙ h)
+
+  module _ (h : is_directory_kind a.kind ≡ true) where
+    -- and in a directory that the caller may not search
+    pub make_no_search : grants_of caller a bits.Search ≡ false → fails_by GrantsSearch (length parents)
+    make_no_search s = to_tests ∙ cond-true _ _ _ (kind_test ∙ h) ∙ cond-false _ _ _ (grants_test bits.Search ∙ s)
+
+    module _ (s : grants_of caller a bits.Search ≡ true) (found : Option ℕ) (f : found ≡ number_in name (listed (bytes_of c n))) where
+      -- what the look-up found is the directory's child
+      pub child_found : child w.rows n name ≡ found
+      child_found = sym (f ∙ child_listed c w way.shows n a way.shown h name)
+
+      free_test : is_none (child w.rows (reached w.rows root parents) name) ≡ is_none found
+      free_test = ap (λ m. is_none (child w.rows m name)) parent_is ∙ ap is_none child_found
+
+      to_free : failing ≡ first_failing (drop 2 (in_parent w.rows caller path parents name))
+      to_free = to_tests ∙ cond-true _ _ _ (kind_test ∙ h) ∙ cond-true _ _ _ (grants_test bits.Search ∙ s)
+
+      -- a name that is there is denied
+      pub make_taken : is_some found ≡ true → fails_by NameFree (length parents + 1)
+      make_taken t = to_free ∙ cond-false _ _ _ (free_test ∙ ap not t)
+
+      module _ (t : is_some found ≡ false) where
+        to_mutable : failing ≡ first_failing (drop 3 (in_parent w.rows caller path parents name))
+        to_mutable = to_free ∙ cond-true _ _ _ (free_test ∙ ap not t)
+
+        -- a name in an immutable directory is
+        pub make_immutable : is_immutable a ≡ true → fails_by IsMutable (length parents)
+        make_immutable i = to_mutable ∙ cond-false _ _ _ (mutable_test ∙ ap not i)
+
+        -- a name in a directory that the caller may not write is
+        pub make_not_granted : is_immutable a ≡ false → grants_of caller a bits.Write ≡ false → fails_by GrantsWrite (length parents)
+        make_not_granted i g = to_mutable ∙ cond-true _ _ _ (mutable_test ∙ ap not i) ∙ cond-false _ _ _ (grants_test bits.Write ∙ g)
+
+        -- another is allowed
+        pub make_allowed : is_immutable a ≡ false → grants_of caller a bits.Write ≡ true → failing ≡ None
+        make_allowed i g = to_mutable ∙ cond-true _ _ _ (mutable_test ∙ ap not i) ∙ cond-true _ _ _ (grants_test bits.Write ∙ g)
+
+-- ---- what the store is asked
+
+module _ (c : Content) (number : ℕ) (attrs : Attrs) (dir off : ℕ) (block : List ℕ) (f : File) (unused : map.get c number ≡ None) (stored : map.get c dir ≡ Some f) where
+  abbrev made_file : File
+  made_file = file_of attrs []
+
+  apart : dir ≢ number
+  apart same = let none : map.get c dir ≡ None = subst (λ q. map.get c q ≡ None) (sym same) unused in absurd (cc)
+
+  abbrev made : Content
+  made = map.insert c number made_file
+
+  abbrev put_dir : File
+  put_dir = record f { bytes = splice f.bytes off block }
+
+  there : map.get made dir ≡ Some f
+  there = get-insert_other c number made_file dir apart ∙ stored
+
+  -- the content with the new file and the written block
+  abbrev pub after_changes : Content
+  after_changes = changed_at (map.get made dir) dir (λ x. record x { bytes = splice x.bytes off block }) made
+
+  after : after_changes ≡ map.insert made dir put_dir
+  after = ap (λ o. changed_at o dir (λ x. record x { bytes = splice x.bytes off block }) made) there
+
+  -- it has the new file and the block, and is otherwise what it was
+  pub makes_file : (new : Content) → new ≡ after_changes → MakesFile c new number made_file dir off block
+  makes_file new is = record {
+    made = ap (λ x. map.get x number) (is ∙ after) ∙ get-insert_other made dir put_dir number (λ same. apart (sym same)) ∙ get-insert_same c number made_file;
+    listed = λ g e.
+        let same : f ≡ g = cc in
+        subst (λ (x : File). map.get new dir ≡ Some (record x { bytes = splice x.bytes off block })) same (ap (λ x. map.get x dir) (is ∙ after) ∙ get-insert_same made dir put_dir);
+    others = λ q a b. ap (λ x. map.get x q) (is ∙ after) ∙ get-insert_other made dir put_dir q b ∙ get-insert_other c number made_file q a;
+  }
+
+  -- a store may be asked for it
+  pub can_make : (numbers : ℕ) (pointed : Bor (List ℕ)) → pointed.now ≡ block → 4 ≤ number → number < numbers → length block ≡ 512 → IsLength f.kind (length (splice f.bytes off block)) → CanApply numbers (Make number attrs ∷ Put dir off pointed ∷ []) c
+  can_make numbers pointed same low high size long = record {
+    few = omega arith;
+    few_puts = omega arith;
+    few_lengths = omega arith;
+    few_bytes = let n = ap (λ (bs : List ℕ). length bs) same in omega arith;
+    each = ((low, high, unused), (is_some_and _ there (subst (λ bs. IsLength f.kind (length (splice f.bytes off bs))) (sym same) long), tt));
+  }
+
+-- ---- numbers
+
+-- the number that is found is the least unused one
+pub least_unused-is : (rows : Rows) (count n m : ℕ) → n ≤ m → m ≤ n + count → map.get rows m ≡ None → ((k : ℕ) → n ≤ k → k < m → IsSome (map.get rows k)) → least_unused rows count n ≡ m
+unfolding least_unused
+least_unused-is rows zero n m low high free used = omega arith
+least_unused-is rows (suc count) n m low high free used = ⊎_elim
+    (λ t. cond-true _ _ _ t ∙ least_unused-is rows count (n + 1) m (above t) (omega arith) free (λ k h. used k (omega arith)))
+    (λ t. cond-false _ _ _ t ∙ at_end t)
+    (cases_Bool (is_some (map.get rows n))) where
+      above : is_some (map.get rows n) ≡ true → n + 1 ≤ m
+      above t = ⊎_elim
+          (λ e. let none : is_some (map.get rows n) ≡ false = ap (λ k. is_some (map.get rows k)) e ∙ ap is_some free in absurd (cc))
+          (λ (apart : n ≢ m). omega arith)
+          (cases_eq n m)
+
+      at_end : is_some (map.get rows n) ≡ false → n ≡ m
+      at_end t = ⊎_elim
+          (λ e. e)
+          (λ (apart : n ≢ m). let some : is_some (map.get rows n) ≡ true = used n (omega arith) (omega arith) in absurd (cc))
+          (cases_eq n m)
+
+-- where the store has no number left, the tree has none
+pub all_used : (c : Content) (w : World) → Shows c w → (numbers : ℕ) → IsUsedBelow c numbers → AllUsed numbers w.rows
+all_used c w shows numbers used n low high =
+    let f = there_of (map.get c n) (used n low high) in
+    present (shown_of c w shows n f.value f.is).there
+
+-- a directory with a block written has a length that it may have
+pub grown_length : (k : Kind) (bytes : List ℕ) (off : ℕ) (block : List ℕ) → k ≡ Directory → length bytes % 512 ≡ 0 → off ≤ length bytes → off % 512 ≡ 0 → off < 71680 → length block ≡ 512 → length bytes ≤ 71680
+    → IsLength k (length (splice bytes off block))
+grown_length k bytes off block kind whole within aligned fits size bounded =
+    let is : length (splice bytes off block) ≡ off + length block + (length bytes - (off + length block)) =
+    ap (λ (bs : List ℕ). length bs) (splice-put_over bytes off block (omega arith) within) ∙ length-put_over bytes off block within in
+    subst (λ x. IsLength x (length (splice bytes off block))) (sym kind) (omega arith, omega arith)

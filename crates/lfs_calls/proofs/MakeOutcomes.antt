@@ -1,0 +1,61 @@
+-- What a call that makes an empty file of a kind may be answered, by what its kinds have in common.
+use Rattle.std.proofs.Common.{◌≡◌, ℕ, ◌≤◌, List, length, None, Some, refl}
+use Rattle.lfs_types.specs.Caller.{Caller}
+use Rattle.lfs_types.specs.Stored.{bytes_of, MayRefuse}
+use Rattle.lfs_types.specs.StoreStates.{StoreState}
+use Rattle.lfs_types.specs.Tree.{World, root}
+use Rattle.lfs_types.specs.declared.answer.Answer.{Answer}
+use Rattle.lfs_types.specs.declared.answer.Answer.TheVariants.{Served, Denied, Refused}
+use Rattle.lfs_types.specs.declared.answer.Resource.TheVariants.{NoInodes, DirectoryFull}
+use Rattle.lfs_types.specs.declared.answer.Served.TheVariants.{Done}
+use Rattle.lfs_types.specs.declared.attrs.Kind.{Kind}
+use Rattle.lfs_types.specs.declared.attrs.Kind.TheVariants.{File as Regular, Directory}
+use Rattle.lfs_types.specs.declared.rule.Denial.{Denial}
+use Rattle.lfs_types.specs.declared.store.StoreRefusal.{StoreRefusal}
+use Rattle.lfs_model.specs.World.{children}
+use Rattle.lfs_model.specs.Rules.{first_failing, making, front, last, reached}
+use Rattle.lfs_model.specs.Effects.{with_new}
+use Rattle.lfs_calls.specs.Content.{FitsNowhere}
+use Rattle.lfs_calls.specs.Makes.{request_for}
+use Rattle.lfs_calls.specs.Outcomes.{IsOutcome}
+use Rattle.lfs_model.specs.Steps.{AllUsed, after_answer}
+use Rattle.lfs_calls.specs.Calls.{resource_of}
+use Rattle.lfs_calls.proofs.WriteLemmas.{refused_outcome}
+
+module _ (s : StoreState) (w : World) (caller : Caller) (path : List (List ℕ)) (mode : ℕ) where
+  abbrev may_be : Kind → Answer → Type 0
+  may_be kind answer = IsOutcome s w caller (request_for kind path mode) answer
+
+  -- a call that the rules deny
+  pub make_denial : (kind : Kind) (denial : Denial) → first_failing (making w.rows caller 0 path) ≡ Some denial → may_be kind (Denied denial)
+  make_denial Regular denial h = h
+  make_denial Directory denial h = h
+
+  -- the world after one that is served
+  pub make_after : (kind : Kind) → after_answer s.shape.numbers w caller (request_for kind path mode) (Served Done) ≡ with_new s.shape.numbers w caller path kind mode
+  make_after Regular = refl
+  make_after Directory = refl
+
+  module _ (allowed : first_failing (making w.rows caller 0 path) ≡ None) where
+    -- a call where no number is free
+    pub make_no_inodes : (kind : Kind) → AllUsed s.shape.numbers w.rows → may_be kind (Refused NoInodes)
+    make_no_inodes Regular used = (allowed, used)
+    make_no_inodes Directory used = (allowed, used)
+
+    module _ (numbered : AllUsed s.shape.numbers w.rows → ⊥) where
+      -- a call in a directory that is full
+      pub make_full : (kind : Kind) → 140 ≤ length (children w.rows (reached w.rows root (front path))) → FitsNowhere (bytes_of s.content (reached w.rows root (front path))) None (last path)
+          → may_be kind (Refused DirectoryFull)
+      make_full Regular crowded full = ((allowed, (numbered, crowded)), full)
+      make_full Directory crowded full = ((allowed, (numbered, crowded)), full)
+
+      module _ (roomy : FitsNowhere (bytes_of s.content (reached w.rows root (front path))) None (last path) → ⊥) where
+        -- a call that is served
+        pub make_done : (kind : Kind) → may_be kind (Served Done)
+        make_done Regular = ((allowed, numbered, refl), roomy)
+        make_done Directory = ((allowed, numbered, refl), roomy)
+
+        -- a call whose changes the store refused
+        pub make_refused : (kind : Kind) (refusal : StoreRefusal) → MayRefuse s.clean s.shape.can_lack_memory refusal → may_be kind (Refused (resource_of refusal))
+        make_refused Regular refusal may = refused_outcome s w caller (request_for Regular path mode) refusal may allowed numbered tt roomy
+        make_refused Directory refusal may = refused_outcome s w caller (request_for Directory path mode) refusal may allowed numbered tt roomy

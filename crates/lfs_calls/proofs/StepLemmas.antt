@@ -1,0 +1,133 @@
+-- What the store says of a row, and what a step of a walk finds.
+use Rattle.std.proofs.Common.{◌≡◌, ℕ, ◌+◌, true, false, List, [], ◌∷◌, length, Option, None, Some, Ok, Err, refl, sym, ap, ◌∙◌, subst}
+use Rattle.std.specs.Prelude.{option_map, IsSome, ok_or}
+use Rattle.std.proofs.lemmas.Bool.{cond-true, cond-false}
+use Rattle.std.specs.FinMap as map
+use Rattle.lfs_types.specs.Caller.{Caller}
+use Rattle.lfs_types.specs.Kinds.{is_directory_kind}
+use Rattle.lfs_types.specs.Stored.{shown_attrs, bytes_of, bytes_of_file}
+use Rattle.lfs_types.specs.Tree.{File, World, Content, root, attrs_of}
+use Rattle.lfs_types.specs.declared.attrs.Attrs.{Attrs}
+use Rattle.lfs_types.specs.declared.attrs.Bit.{Bit}
+use Rattle.lfs_types.specs.declared.attrs.Bit.TheVariants as bits
+use Rattle.lfs_types.specs.declared.attrs.Kind.TheVariants.{File as Regular, Directory}
+use Rattle.lfs_types.specs.declared.rule.Rule.TheVariants.{IsDirectory, GrantsSearch, NameThere}
+use Rattle.lfs_dirs.specs.Directory.{number_in}
+use Rattle.lfs_rules.specs.Grants.{grants_of}
+use Rattle.lfs_model.specs.World.{child, file_at, IsTree}
+use Rattle.lfs_model.specs.Rules.{is_directory_row, row_grants, attrs_at}
+use Rattle.lfs_calls.specs.Content.{visible, Shows, listed}
+use Rattle.lfs_model.specs.Walks.{stepped, walked}
+use Rattle.lfs_calls.proofs.Visible.{Stored, shown_of, stored_of}
+use Rattle.lfs_model.proofs.Children.{child-is}
+use Rattle.lfs_types.proofs.Somewhere.{present, some_and, there_of}
+use Rattle.lfs_model.proofs.Deciding.{walked_taken}
+use Rattle.lfs_model.proofs.WalkLemmas.{directory_kind, regular_kind, ok_found}
+
+-- the file whose attributes a store shows
+pub record ShownFile (c : Content) (n : ℕ) (a : Attrs) : Type 0 where
+  pub file : File
+  pub stored : map.get c n ≡ Some file
+  pub same : a ≡ attrs_of file
+
+shown_file_as : (c : Content) (n : ℕ) (a : Attrs) (o : Option File) → map.get c n ≡ o → Some a ≡ option_map attrs_of o → ShownFile c n a
+shown_file_as c n a None e h = absurd (cc)
+shown_file_as c n a (Some f) e h = record { file = f; stored = e; same = cc }
+
+-- what shows attributes has a file
+pub shown_file : (c : Content) (n : ℕ) (a : Attrs) → Some a ≡ shown_attrs c n → ShownFile c n a
+shown_file c n a h = shown_file_as c n a (map.get c n) refl h
+
+-- the shown kind is the stored file's
+module _ (c : Content) (n : ℕ) (a : Attrs) (shown : Some a ≡ shown_attrs c n) where
+  -- it is a directory
+  pub stored_directory : is_directory_kind a.kind ≡ true → (shown_file c n a shown).file.kind ≡ Directory
+  stored_directory h = ap (λ (x : Attrs). x.kind) (sym (shown_file c n a shown).same) ∙ directory_kind a.kind h
+
+  -- or it is none
+  pub stored_regular : is_directory_kind a.kind ≡ false → (shown_file c n a shown).file.kind ≡ Regular
+  stored_regular h = ap (λ (x : Attrs). x.kind) (sym (shown_file c n a shown).same) ∙ regular_kind a.kind h
+
+-- what the attributes that a store shows of a number say of its row
+module _ (c : Content) (w : World) (shows : Shows c w) (n : ℕ) (a : Attrs) (shown : Some a ≡ shown_attrs c n) where
+  abbrev the_file : ShownFile c n a
+  the_file = shown_file c n a shown
+
+  abbrev the_row : Stored w n the_file.file
+  the_row = shown_of c w shows n the_file.file the_file.stored
+
+  -- the row is a directory's where they say so
+  pub directory_reads : is_directory_row (map.get w.rows n) ≡ is_directory_kind a.kind
+  directory_reads =
+      ap is_directory_row the_row.there ∙ ap (λ (x : File). is_directory_kind x.kind) (sym the_row.same) ∙ ap (λ (x : Attrs). is_directory_kind x.kind) (sym the_file.same)
+
+  -- it grants what they do
+  pub grants_reads : (caller : Caller) (bit : Bit) → row_grants caller bit (map.get w.rows n) ≡ grants_of caller a bit
+  grants_reads caller bit =
+      ap (row_grants caller bit) the_row.there ∙ ap (λ (x : File). grants_of caller (attrs_of x) bit) (sym the_row.same) ∙ ap (λ (x : Attrs). grants_of caller x bit) (sym the_file.same)
+
+  -- the attributes that users see of the row, all but the size
+  pub attrs_reads : attrs_at w.rows n ≡ record a { size = length (visible the_file.file).bytes }
+  attrs_reads =
+      ap (λ o. attrs_of (file_at o)) the_row.there ∙ ap attrs_of (sym the_row.same)
+      ∙ ap (λ (x : Attrs). record x { size = length (visible the_file.file).bytes }) (sym the_file.same)
+
+  -- what the directory lists under a name is its child
+  pub child_listed : is_directory_kind a.kind ≡ true → (name : List ℕ) → number_in name (listed (bytes_of c n)) ≡ child w.rows n name
+  child_listed h name = ap (λ o. number_in name (listed (bytes_of_file o))) the_file.stored ∙ (shows.listings n the_file.file the_file.stored (stored_directory c n a shown h)).names name
+
+module _ (c : Content) (w : World) (shows : Shows c w) (caller : Caller) (path k n : ℕ) (name : List ℕ) (a : Attrs) (shown : Some a ≡ shown_attrs c n) where
+  -- a step from a file is denied
+  pub steps_not_directory : is_directory_kind a.kind ≡ false → stepped w.rows caller path k n name ≡ Err (record { rule = IsDirectory; path = path; at = k })
+  steps_not_directory h = cond-false _ _ _ (directory_reads c w shows n a shown ∙ h)
+
+  -- and one from a directory that the caller may not search
+  pub steps_no_search : is_directory_kind a.kind ≡ true → grants_of caller a bits.Search ≡ false → stepped w.rows caller path k n name ≡ Err (record { rule = GrantsSearch; path = path; at = k })
+  steps_no_search h g = cond-true _ _ _ (directory_reads c w shows n a shown ∙ h) ∙ cond-false _ _ _ (grants_reads c w shows n a shown caller bits.Search ∙ g)
+
+  -- another goes to the child, or is denied where there is none
+  pub steps_on : is_directory_kind a.kind ≡ true → grants_of caller a bits.Search ≡ true → (o : Option ℕ) → o ≡ number_in name (listed (bytes_of c n))
+      → ok_or o (record { rule = NameThere; path = path; at = k + 1 }) ≡ stepped w.rows caller path k n name
+  steps_on h g o e =
+      ap (λ x. ok_or x (record { rule = NameThere; path = path; at = k + 1 })) (e ∙ child_listed c w shows n a shown h name)
+      ∙ ok_found path (k + 1) (child w.rows n name)
+      ∙ sym (cond-true _ _ _ (directory_reads c w shows n a shown ∙ h) ∙ cond-true _ _ _ (grants_reads c w shows n a shown caller bits.Search ∙ g))
+
+-- ---- a walk goes on
+
+-- a child is stored
+pub child-stored : (c : Content) (w : World) → Shows c w → (parent : ℕ) (name : List ℕ) (n : ℕ) → child w.rows parent name ≡ Some n → IsSome (map.get c n)
+child-stored c w shows parent name n h =
+    let is = child-is w.rows parent name n h in
+    present (stored_of c w shows n is.row is.there).stored
+
+-- the root is stored
+pub root_stored : (c : Content) (w : World) → Shows c w → IsTree w.rows → IsSome (map.get c root)
+root_stored c w shows tree =
+    let r = some_and (map.get w.rows root) _ tree.rooted in
+    present (stored_of c w shows root r.value r.is).stored
+
+-- a number that is in use has attributes
+pub not_shown : (c : Content) (n : ℕ) → IsSome (map.get c n) → None ≡ shown_attrs c n → ⊥
+not_shown c n used h =
+    let f = there_of (map.get c n) used in
+    let some : shown_attrs c n ≡ Some (attrs_of f.value) = ap (option_map attrs_of) f.is in
+    absurd (cc)
+
+-- a number whose attributes a store shows is in use, and has as many bytes as they say
+pub shown_stored : (c : Content) (n : ℕ) (a : Attrs) → Some a ≡ shown_attrs c n → IsSome (map.get c n)
+shown_stored c n a h = present (shown_file c n a h).stored
+
+-- such a number has as many bytes as they say
+pub size_stored : (c : Content) (n : ℕ) (a : Attrs) → Some a ≡ shown_attrs c n → a.size ≡ length (bytes_of c n)
+size_stored c n a h =
+    let f = shown_file c n a h in
+    ap (λ (x : Attrs). x.size) f.same ∙ ap (λ o. length (bytes_of_file o)) (sym f.stored)
+
+-- a walk ends at a row
+pub walked-stored : (c : Content) (w : World) → Shows c w → (caller : Caller) (path k at : ℕ) (names : List (List ℕ)) (n : ℕ) → IsSome (map.get c at) → walked w.rows caller path k at names ≡ Ok n → IsSome (map.get c n)
+unfolding walked
+walked-stored c w shows caller path k at [] n here h = let same : at ≡ n = cc in subst (λ m. IsSome (map.get c m)) same here
+walked-stored c w shows caller path k at (name ∷ names) n here h =
+    let t = walked_taken w.rows caller path k at name names n h in
+    walked-stored c w shows caller path (k + 1) t.to names n (child-stored c w shows at name t.to t.child) t.rest

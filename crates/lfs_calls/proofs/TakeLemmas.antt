@@ -1,0 +1,102 @@
+-- What a store is asked where a row is taken away, and what it shows without it.
+use Rattle.std.proofs.Common.{◌≡◌, ◌≢◌, ℕ, List, [], ◌∷◌, length, Some, refl, sym, ap, subst, ◌∙◌, arith}
+use Rattle.std.specs.Prelude.{IsSome}
+use Rattle.std.specs.Borrow.{Bor}
+use Rattle.std.specs.FinMap as map
+use Rattle.lfs_types.specs.Changes.{IsLength, CanApply, changed_at}
+use Rattle.lfs_types.specs.Splicing.{splice}
+use Rattle.lfs_types.specs.Stored.{bytes_of}
+use Rattle.lfs_types.specs.Tree.{File, World, Content}
+use Rattle.lfs_types.specs.declared.attrs.Kind.TheVariants.{Directory}
+use Rattle.lfs_types.specs.declared.store.Change.TheVariants.{Put, Remove}
+use Rattle.lfs_dirs.specs.Directory.{number_in}
+use Rattle.lfs_calls.specs.declared.making.Room.{Room}
+use Rattle.lfs_calls.specs.declared.removing.Removal.{Removal}
+use Rattle.lfs_model.specs.World.{IsChild, IsTree}
+use Rattle.lfs_model.specs.Effects.{without_row}
+use Rattle.lfs_calls.specs.Content.{Shows, listed}
+use Rattle.lfs_calls.specs.Removes.{HangsAs, IsTaking, TakesFile}
+use Rattle.lfs_model.proofs.Children.{child-is}
+use Rattle.lfs_calls.proofs.Directories.{dir_file, file_kind, file_length, file_bytes}
+use Rattle.lfs_calls.proofs.ListingsTaken.{taken_length, IsListing-taken}
+use Rattle.lfs_types.proofs.Maps.{get-insert_same, get-insert_other, get-remove_same, get-remove_other}
+use Rattle.lfs_calls.proofs.ShrunkStore.{Shows-shrunk}
+use Rattle.lfs_types.proofs.Somewhere.{present, is_some_and}
+use Rattle.lfs_calls.proofs.StepLemmas.{ShownFile, shown_file, child_listed}
+use Rattle.lfs_model.proofs.Trees.{not_in_itself}
+
+module _ (c : Content) (w : World) (shows : Shows c w) (tree : IsTree w.rows) (removal : Removal) (name : List ℕ) (is : HangsAs c w.rows removal name) where
+  abbrev number : ℕ
+  number = removal.file.number
+
+  abbrev dir : ℕ
+  dir = removal.dir.number
+
+  abbrev f : ShownFile c dir removal.dir.attrs
+  f = dir_file shows dir removal.dir.attrs is.shown_dir is.directory
+
+  kind : f.file.kind ≡ Directory
+  kind = file_kind shows dir removal.dir.attrs is.shown_dir is.directory
+
+  size : IsLength Directory (length f.file.bytes)
+  size = file_length shows dir removal.dir.attrs is.shown_dir is.directory
+
+  -- the directory lists the name
+  pub taking_listed : IsSome (number_in name (listed (bytes_of c dir)))
+  taking_listed = present (child_listed c w shows dir removal.dir.attrs is.shown_dir is.directory name ∙ is.hangs)
+
+  hung : IsChild w.rows dir name number
+  hung = child-is w.rows dir name number is.hangs
+
+  unlike : dir ≢ number
+  unlike = not_in_itself w.rows tree dir name number hung
+
+  module _ (room : Room) (k : ℕ) (taking : IsTaking (bytes_of c dir) name room k) where
+    at_file : IsTaking f.file.bytes name room k
+    at_file = subst (λ bs. IsTaking bs name room k) (file_bytes shows dir removal.dir.attrs is.shown_dir is.directory) taking
+
+    abbrev put_file : File
+    put_file = record f.file { bytes = splice f.file.bytes room.off room.block }
+
+    put_length : IsLength Directory (length put_file.bytes)
+    put_length = subst (IsLength Directory) (sym (taken_length f.file.bytes name room k at_file)) size
+
+    -- the content with the block written
+    abbrev pub put_over_dir : List ℕ → Content
+    put_over_dir block = changed_at (map.get c dir) dir (λ x. record x { bytes = splice x.bytes room.off block }) c
+
+    after_put : (block : List ℕ) → block ≡ room.block → put_over_dir block ≡ map.insert c dir put_file
+    after_put block same = ap (λ o. changed_at o dir (λ x. record x { bytes = splice x.bytes room.off block }) c) f.stored
+        ∙ ap (λ bs. map.insert c dir (record f.file { bytes = splice f.file.bytes room.off bs })) same
+
+    -- a store may be asked for the block and the removal
+    pub can_take : (numbers : ℕ) (pointed : Bor (List ℕ)) → pointed.now ≡ room.block → CanApply numbers (Put dir room.off pointed ∷ Remove number ∷ []) c
+    can_take numbers pointed same = record {
+      few = omega arith;
+      few_puts = omega arith;
+      few_lengths = omega arith;
+      few_bytes = let n = ap (λ (bs : List ℕ). length bs) same in omega (arith, taking.block.size);
+      each = (
+        is_some_and _ f.stored (subst (λ bs. IsLength f.file.kind (length (splice f.file.bytes room.off bs))) (sym same) (subst (λ k. IsLength k (length put_file.bytes)) (sym kind) put_length)),
+        (present (ap (λ x. map.get x number) (after_put pointed.now same) ∙ get-insert_other c dir put_file number (λ e. unlike (sym e)) ∙ (shown_file c number removal.file.attrs is.shown_file).stored), tt),
+      );
+    }
+
+    -- it takes the file away and writes the block, and is otherwise what it was
+    pub takes_file : (new : Content) → new ≡ map.remove (put_over_dir room.block) number → TakesFile c new number dir room.off room.block
+    takes_file new made =
+        let made_by : new ≡ map.remove (map.insert c dir put_file) number = made ∙ ap (λ x. map.remove x number) (after_put room.block refl) in
+        record {
+          gone = ap (λ x. map.get x number) made_by ∙ get-remove_same (map.insert c dir put_file) number;
+          listed = λ g e.
+              let one : f.file ≡ g = let there = f.stored in cc in
+              subst (λ (x : File). map.get new dir ≡ Some (record x { bytes = splice x.bytes room.off room.block })) one
+              (ap (λ x. map.get x dir) made_by ∙ get-remove_other (map.insert c dir put_file) number dir unlike ∙ get-insert_same c dir put_file);
+          others = λ q a b. ap (λ x. map.get x q) made_by ∙ get-remove_other (map.insert c dir put_file) number q a ∙ get-insert_other c dir put_file q b;
+        }
+
+    -- the store shows the tree without the row
+    pub shows_without : (after : Content) → TakesFile c after number dir room.off room.block → Shows after (without_row number w)
+    shows_without after takes =
+        Shows-shrunk c after w shows tree number dir name hung f.file put_file.bytes f.stored kind unlike takes.gone (takes.listed f.file f.stored) takes.others put_length
+        (IsListing-taken w.rows tree.unique dir number name hung f.file.bytes (shows.listings dir f.file f.stored kind) size.1 room k at_file)

@@ -1,0 +1,11 @@
+use Rattle.lfs_calls.proofs.AttributeLemmas.{sets_attrs}
+use Rattle.std.proofs.lemmas.Result.{IfOk-weaker}
+use Rattle.lfs_calls.proofs.attributes.set_attrs.Goals as goal
+
+pub returns : goal.returns
+returns g c = record {
+  ok = IfOk-weaker c.apply.result _ _ (λ _ h. sets_attrs (g.F.FileStore.state c.args.store.now).content c.args.number c.args.attrs c.requires.kind (g.F.FileStore.state c.apply.new.self).content h) c.apply.ensures.ok;
+  err = c.apply.ensures.err;
+  refused = c.apply.ensures.refused;
+  follows = c.apply.ensures.follows;
+}

@@ -1,0 +1,11 @@
+use Rattle.std.proofs.Common.{◌≡◌, map}
+use Rattle.lfs_types.specs.Stored.{bytes_of}
+use Rattle.lfs_dirs.specs.Directory.{Entry}
+use Rattle.lfs_calls.specs.Content.{entries_below}
+use Rattle.lfs_calls.proofs.listing.names_of_directory.Given as goal
+
+abbrev pub invariant-loop-k : goal.invariant-loop-k
+invariant-loop-k g l = record {
+  names : l.names.items ≡ map (λ (e : Entry). e.1) (entries_below (bytes_of (g.F.FileStore.state l.fn.store).content l.dir) l.k);
+  state : g.F.FileStore.state l.store ≡ g.F.FileStore.state l.fn.store;
+}

@@ -1,0 +1,52 @@
+-- What a user's call of a store comes to.
+use Rattle.std.specs.Prelude.{◌≡◌, Result, Ok, Err, IfErr, OnOk, OnErr}
+use Rattle.lfs_types.specs.Caller.{Caller}
+use Rattle.lfs_types.specs.Shown.{ServesList}
+use Rattle.lfs_types.specs.StoreStates.{Follows, StoreState}
+use Rattle.lfs_types.specs.Stored.{MayRefuse}
+use Rattle.lfs_types.specs.Tree.{Content}
+use Rattle.lfs_types.specs.declared.answer.Answer.{Answer}
+use Rattle.lfs_types.specs.declared.answer.Answer.TheVariants as answers
+use Rattle.lfs_types.specs.declared.answer.Resource.{Resource}
+use Rattle.lfs_types.specs.declared.answer.Resource.TheVariants as resources
+use Rattle.lfs_types.specs.declared.answer.Served.{Served}
+use Rattle.lfs_types.specs.declared.level.Level.{Level}
+use Rattle.lfs_types.specs.declared.request.Request.{Request}
+use Rattle.lfs_types.specs.declared.store.StoreRefusal.{StoreRefusal}
+use Rattle.lfs_types.specs.declared.store.StoreRefusal.TheVariants.{NoSpace, NoMemory}
+use Rattle.lfs_model.specs.Steps.{after_answer}
+use Rattle.lfs_calls.specs.declared.halt.Halt.{Halt}
+use Rattle.lfs_calls.specs.declared.halt.Halt.TheVariants.{Denied, Refused}
+use Rattle.lfs_calls.specs.Outcomes.{IsOutcome}
+use Rattle.lfs_calls.specs.Volumes.{InWorld, IsVolume}
+
+-- the resource that ran out where a store refused changes
+abbrev pub resource_of : StoreRefusal → Resource
+resource_of NoSpace = resources.NoSpace
+resource_of NoMemory = resources.NoMemory
+
+-- the answer to a call that came to this
+abbrev pub answered : Result Served Halt → Answer
+answered (Ok shown) = answers.Served shown
+answered (Err (Denied denial)) = answers.Denied denial
+answered (Err (Refused resource)) = answers.Refused resource
+
+-- a store is changed to a content of which P holds, or not at all; a refusal has its cause
+pub record ChangesTo (old : StoreState) (P : Content → Type 0) (result : Result (Unit {0}) StoreRefusal) (new : StoreState) : Type 0 where
+  pub ok : OnOk result (P new.content)
+  pub err : OnErr result (new.content ≡ old.content)
+  pub refused : IfErr result (MayRefuse old.clean old.shape.can_lack_memory)
+  pub follows : Follows old new
+
+-- A caller made a call of a store at this securelevel, and it came to this: the answer has its cause, the store shows
+-- the world that the answer leaves, a call that halts or lists changes no content, and no more segments are clean.
+pub record IsCallAt (level : Level) (old new : StoreState) (caller : Caller) (request : Request) (result : Result Served Halt) : Type 0 where
+  pub outcome : InWorld old (λ w. w.level ≡ level → IsOutcome old w caller request (answered result))
+  pub leaves : InWorld old (λ w. IsVolume new (after_answer old.shape.numbers w caller request (answered result)))
+  pub halted : OnErr result (new.content ≡ old.content)
+  pub listed : ServesList (answered result) → new.content ≡ old.content
+  pub follows : Follows old new
+
+-- so at any securelevel
+abbrev pub IsCall : StoreState → StoreState → Caller → Request → Result Served Halt → Type 0
+IsCall old new caller request result = (level : Level) → IsCallAt level old new caller request result

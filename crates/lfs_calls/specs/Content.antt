@@ -1,0 +1,61 @@
+-- What a store's content shows as a world.
+use Rattle.std.specs.Prelude.{◌≡◌, ℕ, zero, suc, ◌+◌, ◌*◌, ◌/◌, ◌<◌, List, [], ◌++◌, length, take, drop, Option, None, Some, option_map}
+use Rattle.std.specs.FinMap as map
+use Rattle.lfs_types.specs.Changes.{IsLength}
+use Rattle.lfs_types.specs.Tree.{File, Row, World, Content}
+use Rattle.lfs_types.specs.declared.attrs.Kind.{Kind}
+use Rattle.lfs_types.specs.declared.attrs.Kind.TheVariants.{File as Regular, Directory}
+use Rattle.lfs_dirs.specs.Directory.{Entry, IsDirectoryBlock, AreEntries, number_in, used_of, without}
+use Rattle.lfs_dirs.specs.Reading.{entries_of}
+use Rattle.lfs_model.specs.World.{Rows, child}
+
+-- a block of a directory's bytes
+abbrev pub block_at : List ℕ → ℕ → List ℕ
+block_at bytes k = take 512 (drop (512 * k) bytes)
+
+-- the entries of the first blocks of a directory's bytes, so many of them
+unfoldable pub entries_below : List ℕ → ℕ → List Entry
+entries_below bytes zero = []
+entries_below bytes (suc k) = entries_below bytes k ++ entries_of (block_at bytes k)
+
+-- the entries of a directory's bytes
+abbrev pub listed : List ℕ → List Entry
+listed bytes = entries_below bytes (length bytes / 512)
+
+-- each block of a directory's bytes is a directory block
+abbrev pub AreBlocks : List ℕ → Type 0
+AreBlocks bytes = (k : ℕ) → k < length bytes / 512 → IsDirectoryBlock (block_at bytes k) (entries_of (block_at bytes k))
+
+-- A directory's bytes list the rows that hang in it: each block is a directory block, no name stands twice, and
+-- a name's entry has the number of the row that hangs there under that name.
+pub record IsListing (rows : Rows) (parent : ℕ) (bytes : List ℕ) : Type 0 where
+  pub blocks : AreBlocks bytes
+  pub distinct : AreEntries (listed bytes)
+  pub names : (name : List ℕ) → number_in name (listed bytes) ≡ child rows parent name
+
+-- what users see of a file's bytes: of a directory none
+abbrev pub visible_bytes : Kind → List ℕ → List ℕ
+visible_bytes Regular bytes = bytes
+visible_bytes Directory bytes = []
+
+-- what users see of a file
+abbrev pub visible : File → File
+visible f = record f { bytes = visible_bytes f.kind f.bytes }
+
+-- A store's content shows a world: numbers and attributes agree, a file's bytes are its row's, each file has a
+-- length that its kind may have, and the bytes of each directory list the rows that hang in it.
+pub record Shows (c : Content) (w : World) : Type 0 where
+  pub files : (n : ℕ) → option_map visible (map.get c n) ≡ option_map (λ (r : Row). r.file) (map.get w.rows n)
+  pub sizes : (n : ℕ) (f : File) → map.get c n ≡ Some f → IsLength f.kind (length f.bytes)
+  pub listings : (n : ℕ) (f : File) → map.get c n ≡ Some f → f.kind ≡ Directory → IsListing w.rows n f.bytes
+
+-- entries without that of a name, if one is given
+abbrev pub left_of : Option (List ℕ) → List Entry → List Entry
+left_of None es = es
+left_of (Some name) es = without name es
+
+-- a new name fits in no block of a directory, from which a name was taken away or none, and which has all the blocks
+-- that it may have
+pub record FitsNowhere (bytes : List ℕ) (taken : Option (List ℕ)) (name : List ℕ) : Type 0 where
+  pub whole : length bytes ≡ 71680
+  pub full : (k : ℕ) → k < 140 → 512 < used_of (left_of taken (entries_of (block_at bytes k))) + 5 + length name

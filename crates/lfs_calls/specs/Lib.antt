@@ -1,0 +1,10 @@
+pub mod Attributes
+pub mod Calls
+pub mod Content
+pub mod Makes
+pub mod Outcomes
+pub mod Reaches
+pub mod Removes
+pub mod Renames
+pub mod Volumes
+pub mod Writes

@@ -1,0 +1,61 @@
+-- What judging and making a Rename come to, over a store.
+use Rattle.std.specs.Prelude.{◌≡◌, ◌==◌, ℕ, ◌%◌, ◌<◌, ◌≤◌, true, List, length, Option, None, Some, Result, Ok, Err, IsSomeAnd, if◌then◌else◌}
+use Rattle.std.specs.FinMap as map
+use Rattle.lfs_types.specs.Caller.{Caller}
+use Rattle.lfs_types.specs.Changes.{changed_at}
+use Rattle.lfs_types.specs.Kinds.{is_directory_kind}
+use Rattle.lfs_types.specs.Splicing.{splice}
+use Rattle.lfs_types.specs.Stored.{shown_attrs, bytes_of}
+use Rattle.lfs_types.specs.Tree.{World, Content}
+use Rattle.lfs_types.specs.declared.attrs.Kind.TheVariants.{Directory}
+use Rattle.lfs_types.specs.declared.request.Request.TheVariants.{Rename}
+use Rattle.lfs_types.specs.declared.rule.Denial.{Denial}
+use Rattle.lfs_calls.specs.declared.making.Room.{Room}
+use Rattle.lfs_calls.specs.declared.renaming.Move.{Move}
+use Rattle.lfs_calls.specs.declared.renaming.Places.{Places}
+use Rattle.lfs_model.specs.World.{Rows, child}
+use Rattle.lfs_model.specs.Rules.{decide}
+use Rattle.lfs_calls.specs.Makes.{IsParent, IsRoom}
+use Rattle.lfs_calls.specs.Removes.{IsRemoval, HangsAs, IsTaking}
+
+-- a row that may get another place, and the directory of that place, as the store shows them
+pub record IsMove (c : Content) (w : World) (caller : Caller) (from to : List (List ℕ)) (move : Move) : Type 0 where
+  pub allowed : decide w caller (Rename from to) ≡ None
+  pub removal : IsRemoval c w.rows caller from move.removal
+  pub parent : IsParent c w.rows caller 1 to move.dir
+
+-- the row that may get another place, or the denial
+abbrev pub JudgesMove : Content → World → Caller → List (List ℕ) → List (List ℕ) → Result Move Denial → Type 0
+JudgesMove c w caller from to (Ok move) = IsMove c w caller from to move
+JudgesMove c w caller from to (Err denial) = decide w caller (Rename from to) ≡ Some denial
+
+-- the content after a block of a directory was written
+abbrev pub block_put : ℕ → Room → Content → Content
+block_put dir room c = changed_at (map.get c dir) dir (λ f. record f { bytes = splice f.bytes room.off room.block }) c
+
+-- a block of a directory's bytes, or one at their end
+pub record IsBlockOf (c : Content) (dir : ℕ) (room : Room) : Type 0 where
+  pub directory : IsSomeAnd (map.get c dir) (λ f. (f.kind ≡ Directory) × (length f.bytes % 512 ≡ 0) × (length f.bytes ≤ 71680) × (room.off ≤ length f.bytes))
+  pub aligned : room.off % 512 ≡ 0
+  pub fits : room.off < 71680
+  pub size : length room.block ≡ 512
+
+-- the content after blocks of two directories, or of one, were written, one after the other
+abbrev pub WritesBlocks : Content → Content → ℕ → Room → ℕ → Room → Type 0
+WritesBlocks old new first taken second room = (q : ℕ) → map.get new q ≡ map.get (block_put second room (block_put first taken old)) q
+
+-- a row hangs in a directory under a name, and another name is free in a directory, or in the same
+pub record GoesTo (c : Content) (rows : Rows) (move : Move) (old new : List ℕ) : Type 0 where
+  pub hangs : HangsAs c rows move.removal old
+  pub free : child rows move.dir.number new ≡ None
+  pub shown : Some move.dir.attrs ≡ shown_attrs c move.dir.number
+  pub directory : is_directory_kind move.dir.attrs.kind ≡ true
+
+-- the name that is taken away from the directory of the new one, if it is there
+abbrev pub name_left : Move → List ℕ → Option (List ℕ)
+name_left move old = if move.removal.dir.number == move.dir.number then Some old else None
+
+-- the block that lists the old name, without it, and after that was written a block, or one at the end, with the new one
+pub record ArePlaces (c : Content) (move : Move) (old new : List ℕ) (places : Places) : Type 0 where
+  pub taking : (k : ℕ) × IsTaking (bytes_of c move.removal.dir.number) old places.taken k
+  pub room : (k : ℕ) × IsRoom (bytes_of (block_put move.removal.dir.number places.taken c) move.dir.number) move.removal.file.number new places.room k

@@ -1,0 +1,74 @@
+//! The call that cuts a file or adds zeros to it.
+
+ghost use Rattle.std.specs.Prelude.{◌≡◌, ◌≤◌, Some, false};
+ghost use Rattle.lfs_types.specs.Kinds.{is_directory_kind};
+ghost use Rattle.lfs_types.specs.Splicing.{resized};
+ghost use Rattle.lfs_types.specs.Stored.{shown_attrs};
+ghost use Rattle.lfs_model.specs.Rules.{judged, length_tests};
+ghost use Rattle.lfs_calls.specs.Calls.{ChangesTo, IsCall};
+ghost use Rattle.lfs_calls.specs.Volumes.{HasWorld};
+ghost use Rattle.lfs_calls.specs.Writes.{ChangesBytes};
+
+use crate::attributes::mode_after;
+use crate::halt::Halt;
+use crate::walking::{Reached, ask, depth, find};
+use crate::writing::may_change;
+use lfs_types::answer::Served;
+use lfs_types::attrs::Attrs;
+use lfs_types::cred::Cred;
+use lfs_types::limits::FILE_BYTES;
+use lfs_types::path::Path;
+use lfs_types::request::Request;
+use lfs_types::rule::{Denial, Rule};
+use lfs_types::store::{Change, FileStore, StoreRefusal};
+
+/// Cuts a file, or adds zeros to it.
+pub fn set_length<F: FileStore>(
+    store: &mut F,
+    cred: &Cred,
+    path: &Path,
+    len: u64,
+) -> Result<Served, Halt>
+    requires { HasWorld (F.state store.old) }
+    ensures { IsCall (F.state store.old) (F.state store.new) cred.now (Request.SetLength path.now len)
+        result }
+{
+    let file = find(store, cred, path)?;
+    may_set_length(&file.attrs, cred, len, depth(path))?;
+    cut(store, cred, &file, len)?;
+    Ok(Served::Done)
+}
+
+/// Whether a caller may give a file, which stands at component `at`, so many bytes, or the first rule that fails.
+fn may_set_length(attrs: &Attrs, cred: &Cred, len: u64, at: u32) -> Result<(), Denial>
+    ensures { result ≡ judged (length_tests cred.now len attrs.now at) }
+{
+    may_change(attrs, cred, false, at)?;
+    ask(len <= FILE_BYTES, Rule::FitsFile, 0, at)
+}
+
+/// Gives a file so many bytes, as it may have; a caller who isn't the superuser clears its set-id bits.
+fn cut<F: FileStore>(
+    store: &mut F,
+    cred: &Cred,
+    file: &Reached,
+    len: u64,
+) -> Result<(), StoreRefusal>
+    requires shown { Some file.now.attrs ≡ shown_attrs (F.state store.old).content file.now.number }
+    requires regular { is_directory_kind file.now.attrs.kind ≡ false }
+    requires fits { len ≤ 71680 }
+    ensures { ChangesTo (F.state store.old)
+        (λ after. ChangesBytes (F.state store.old).content after
+        file.now.number cred.now (λ old. resized old len))
+        result (F.state store.new) }
+{
+    let Reached { number, attrs } = *file;
+    let mode = mode_after(cred, attrs.mode);
+    store.apply(&[
+        Change::SetLength { ino: number, len },
+        Change::SetAttrs {
+            ino: number,
+            attrs: Attrs { mode, ..attrs },
+        },
+    ])
+}

@@ -1,0 +1,15 @@
+//! Each user's call over any file store answers as the rules say, and changes the store as the call changes the tree.
+#![tactic(auto)]
+
+pub mod attributes;
+pub mod cutting;
+mod directory;
+pub mod halt;
+pub mod listing;
+pub mod making;
+pub mod reading;
+pub mod removing;
+pub mod renaming;
+pub mod serving;
+pub mod walking;
+pub mod writing;

@@ -1,0 +1,245 @@
+//! The calls that make a row.
+
+ghost use Rattle.std.specs.Prelude.{◌≡◌, ℕ, [], ◌∷◌, IsSomeAnd, ◌≤◌, ◌+◌, ◌%◌, ◌<◌, IsSome, IfSome, Some, None, length, take, drop, MatchOption};
+ghost use Rattle.std.specs.FinMap.{get};
+ghost use Rattle.lfs_types.specs.declared.attrs.Kind.TheVariants.{Directory};
+ghost use Rattle.lfs_types.specs.Stored.{bytes_of};
+ghost use Rattle.lfs_types.specs.Tree.{file_of};
+ghost use Rattle.lfs_dirs.specs.Directory.{IsDirectoryBlock, number_in};
+ghost use Rattle.lfs_dirs.specs.Reading.{entries_of};
+ghost use Rattle.lfs_calls.specs.Calls.{ChangesTo, IsCall};
+ghost use Rattle.lfs_calls.specs.Volumes.{HasWorld, InWorld};
+ghost use Rattle.lfs_calls.specs.Content.{listed, FitsNowhere, AreBlocks};
+ghost use Rattle.lfs_calls.specs.Makes.{JudgesMaking, request_for, IsRoom, StandsIn, with_block, MakesFile};
+
+use crate::directory::{look_up, read_block};
+use crate::halt::Halt;
+use crate::walking::{Reached, component, denial, reach};
+use lfs_dirs::added;
+use lfs_rules::access::grants;
+use lfs_rules::flags::immutable;
+use lfs_types::answer::{Resource, Served};
+use lfs_types::attrs::{Attrs, Bit, Kind};
+use lfs_types::block::{BLOCK_SIZE, Block};
+use lfs_types::cred::Cred;
+use lfs_types::file_flags::FileFlags;
+use lfs_types::limits::FILE_BYTES;
+use lfs_types::mode::Mode;
+use lfs_types::name::{NAME_MAX, Name};
+use lfs_types::path::Path;
+use lfs_types::request::Request;
+use lfs_types::rule::{Denial, Rule};
+use lfs_types::store::{Change, FileStore, StoreRefusal};
+
+/// A block of a directory with an entry more or less than the stored one, and where it goes.
+#[derive(Clone, Copy)]
+pub(crate) struct Room {
+    /// Where the block begins in the directory's bytes.
+    pub(crate) off: u64,
+    /// The block.
+    pub(crate) block: Block,
+}
+
+/// The directory in which a new name may be put, or the first rule that fails.
+pub(crate) fn judge_make<F: FileStore>(
+    store: &mut F,
+    cred: &Cred,
+    path: u8,
+    names: &[Name],
+) -> Result<Reached, Denial>
+    requires world { HasWorld (F.state store.old) }
+    requires short { length names.now ≤ 1024 }
+    ensures judge { InWorld (F.state store.old)
+        (λ w. JudgesMaking (F.state store.old).content w.rows cred.now path names.now result) }
+    ensures state { F.state store.new ≡ F.state store.old }
+{
+    let Some((name, parents)) = names.split_last() else {
+        return Err(denial(Rule::NameFree, path, 0));
+    };
+    let at = component(parents);
+    let dir = reach(store, cred, path, parents)?;
+    if !dir.attrs.kind.is_directory() {
+        return Err(denial(Rule::IsDirectory, path, at));
+    }
+    if !grants(&dir.attrs, cred, Bit::Search) {
+        return Err(denial(Rule::GrantsSearch, path, at));
+    }
+    if look_up(store, dir.number, dir.attrs.size, name).is_some() {
+        return Err(denial(Rule::NameFree, path, at + 1));
+    }
+    if immutable(&dir.attrs) {
+        return Err(denial(Rule::IsMutable, path, at));
+    }
+    if !grants(&dir.attrs, cred, Bit::Write) {
+        return Err(denial(Rule::GrantsWrite, path, at));
+    }
+    Ok(dir)
+}
+
+/// The first block of a directory that has room for a new entry, with that entry, else a new block at the end; None
+/// where the directory has all the blocks that it may have. The block `taken`, if there is one, is read in place of
+/// the stored one.
+pub(crate) fn find_room<F: FileStore>(
+    store: &mut F,
+    dir: u32,
+    size: u64,
+    taken: Option<&Room>,
+    name: &Name,
+    number: u32,
+) -> Option<Room>
+    requires used { IsSome (get (F.state store.old).content dir) }
+    requires size { size ≡ length (bytes_of (F.state store.old).content dir) }
+    requires whole { size % 512 ≡ 0 }
+    requires bounded { size ≤ 71680 }
+    requires taken { IfSome taken (λ room. StandsIn (bytes_of (F.state store.old).content dir) room.now) }
+    requires blocks { AreBlocks (with_block (bytes_of (F.state store.old).content dir) taken) }
+    requires above { 0 < number }
+    requires free { number_in name.now (listed (with_block (bytes_of (F.state store.old).content dir) taken))
+        ≡ None }
+    ensures room { MatchOption result
+        (FitsNowhere (with_block (bytes_of (F.state store.old).content dir) taken.entry)
+        None name.now)
+        (λ room. (k : ℕ) × IsRoom
+        (with_block (bytes_of (F.state store.old).content dir) taken.entry)
+        number name.now room k) }
+    ensures state { F.state store.new ≡ F.state store.old }
+{
+    let block_size = BLOCK_SIZE as u64;
+    for k in 0..size / block_size {
+        let off = block_size * k;
+        let block = seen_block(store, dir, off, taken);
+        if let Some(block) = added(&block, name, number) {
+            return Some(Room { off, block });
+        }
+    }
+    if size == FILE_BYTES {
+        return None;
+    }
+    let block = lone_entry(name, number);
+    Some(Room { off: size, block })
+}
+
+/// The block of a directory that begins at byte `off`: that in `taken` if it begins there, else the stored one.
+fn seen_block<F: FileStore>(store: &mut F, dir: u32, off: u64, taken: Option<&Room>) -> Block
+    requires used { IsSome (get (F.state store.old).content dir) }
+    requires aligned { off % 512 ≡ 0 }
+    requires within { off + 512 ≤ length (bytes_of (F.state store.old).content dir) }
+    requires taken { IfSome taken (λ room. StandsIn (bytes_of (F.state store.old).content dir) room.now) }
+    ensures block { result ≡ take 512
+        (drop off (with_block (bytes_of (F.state store.old).content dir) taken.entry)) }
+    ensures state { F.state store.new ≡ F.state store.old }
+{
+    match taken {
+        Some(room) if room.off == off => room.block,
+        _ => read_block(store, dir, off),
+    }
+}
+
+/// The block that lists one name alone.
+fn lone_entry(name: &Name, number: u32) -> Block
+    requires { 0 < number }
+    ensures block { IsDirectoryBlock result ((number, name.now) ∷ []) }
+    ensures listed { entries_of result ≡ (number, name.now) ∷ [] }
+{
+    prove!(name.as_bytes().len() <= NAME_MAX);
+    let empty = [0; BLOCK_SIZE];
+    match added(&empty, name, number) {
+        Some(block) => block,
+        None => unreachable!(),
+    }
+}
+
+/// Makes a file under a number and writes the block of its directory that lists it.
+fn put_new<F: FileStore>(
+    store: &mut F,
+    number: u32,
+    attrs: Attrs,
+    dir: u32,
+    room: &Room,
+) -> Result<(), StoreRefusal>
+    requires above { 4 ≤ number }
+    requires within { number < (F.state store.old).shape.numbers }
+    requires unused { get (F.state store.old).content number ≡ None }
+    requires directory { IsSomeAnd (get (F.state store.old).content dir)
+        (λ f. (f.kind ≡ Directory) × (length f.bytes % 512 ≡ 0) × (length f.bytes ≤ 71680)
+        × (room.now.off ≤ length f.bytes)) }
+    requires aligned { room.now.off % 512 ≡ 0 }
+    requires fits { room.now.off < 71680 }
+    requires block { length room.now.block ≡ 512 }
+    ensures { ChangesTo (F.state store.old)
+        (λ after. MakesFile (F.state store.old).content after
+        number (file_of attrs []) dir room.now.off room.now.block)
+        result (F.state store.new) }
+{
+    store.apply(&[
+        Change::Make { ino: number, attrs },
+        Change::Put {
+            ino: dir,
+            off: room.off,
+            bytes: &room.block,
+        },
+    ])
+}
+
+/// Makes an empty file.
+pub fn create<F: FileStore>(
+    store: &mut F,
+    cred: &Cred,
+    path: &Path,
+    mode: Mode,
+) -> Result<Served, Halt>
+    requires { HasWorld (F.state store.old) }
+    ensures { IsCall (F.state store.old) (F.state store.new) cred.now (Request.Create path.now mode)
+        result }
+{
+    make(store, cred, path, Kind::File, mode)
+}
+
+/// Makes an empty directory.
+pub fn mkdir<F: FileStore>(
+    store: &mut F,
+    cred: &Cred,
+    path: &Path,
+    mode: Mode,
+) -> Result<Served, Halt>
+    requires { HasWorld (F.state store.old) }
+    ensures { IsCall (F.state store.old) (F.state store.new) cred.now (Request.Mkdir path.now mode) result }
+{
+    make(store, cred, path, Kind::Directory, mode)
+}
+
+/// Makes an empty file of this kind.
+fn make<F: FileStore>(
+    store: &mut F,
+    cred: &Cred,
+    path: &Path,
+    kind: Kind,
+    mode: Mode,
+) -> Result<Served, Halt>
+    requires { HasWorld (F.state store.old) }
+    ensures { IsCall (F.state store.old) (F.state store.new) cred.now (request_for kind path.now mode)
+        result }
+{
+    let names = path.names();
+    let dir = judge_make(store, cred, 0, names)?;
+    let Some((name, _)) = names.split_last() else {
+        unreachable!()
+    };
+    prove!(name.as_bytes().len() <= NAME_MAX);
+    let Some(number) = store.least_free() else {
+        return Err(Halt::Refused(Resource::NoInodes));
+    };
+    let Some(room) = find_room(store, dir.number, dir.attrs.size, None, name, number) else {
+        return Err(Halt::Refused(Resource::DirectoryFull));
+    };
+    let attrs = Attrs {
+        kind,
+        uid: cred.uid(),
+        gid: dir.attrs.gid,
+        mode,
+        flags: FileFlags::none(),
+        size: 0,
+    };
+    put_new(store, number, attrs, dir.number, &room)?;
+    Ok(Served::Done)
+}

@@ -1,0 +1,104 @@
+//! The calls that show a file.
+
+ghost use Rattle.std.specs.Prelude.{◌≡◌, true, false, IsSome, IfSome, length};
+ghost use Rattle.std.specs.FinMap.{get};
+ghost use Rattle.lfs_types.specs.Kinds.{is_directory_kind};
+ghost use Rattle.lfs_types.specs.Stored.{bytes_of, slice_of};
+ghost use Rattle.lfs_model.specs.Rules.{judged, read_tests};
+ghost use Rattle.lfs_calls.specs.Calls.{IsCall};
+ghost use Rattle.lfs_calls.specs.Volumes.{HasWorld};
+
+use crate::halt::Halt;
+use crate::walking::{ask, depth, find};
+use lfs_rules::access::grants;
+use lfs_types::answer::{Resource, Served};
+use lfs_types::attrs::{Attrs, Bit};
+use lfs_types::cred::Cred;
+use lfs_types::path::Path;
+use lfs_types::payload::{Bytes, PAYLOAD_MAX};
+use lfs_types::request::Request;
+use lfs_types::rule::{Denial, Rule};
+use lfs_types::store::FileStore;
+use std::alloc::Global;
+
+/// The number and the attributes of a file.
+pub fn stat<F: FileStore>(store: &mut F, cred: &Cred, path: &Path) -> Result<Served, Halt>
+    requires { HasWorld (F.state store.old) }
+    ensures call { IsCall (F.state store.old) (F.state store.new) cred.now (Request.Stat path.now) result }
+    ensures state { F.state store.new ≡ F.state store.old }
+{
+    let file = find(store, cred, path)?;
+    let size = shown_size(&file.attrs);
+    Ok(Served::Stat(file.number, Attrs { size, ..file.attrs }))
+}
+
+/// The size that is shown of a file: a directory's as 0.
+fn shown_size(attrs: &Attrs) -> u64
+    ensures directory { is_directory_kind attrs.now.kind ≡ true → result ≡ 0 }
+    ensures file { is_directory_kind attrs.now.kind ≡ false → result ≡ attrs.now.size }
+{
+    if attrs.kind.is_directory() {
+        0
+    } else {
+        attrs.size
+    }
+}
+
+/// At most `len` bytes of a file from `off` on, and at most 4,096.
+pub fn read<F: FileStore>(
+    alloc: Global,
+    store: &mut F,
+    cred: &Cred,
+    path: &Path,
+    off: u64,
+    len: u32,
+) -> Result<Served, Halt>
+    requires { HasWorld (F.state store.old) }
+    ensures call { IsCall (F.state store.old) (F.state store.new) cred.now (Request.Read path.now off len)
+        result }
+    ensures state { F.state store.new ≡ F.state store.old }
+{
+    let file = find(store, cred, path)?;
+    may_read(&file.attrs, cred, depth(path))?;
+    let count = (len as usize).min(PAYLOAD_MAX);
+    match read_bytes(alloc, store, file.number, off, file.attrs.size, count) {
+        Some(bytes) => Ok(Served::Bytes(Bytes::from(bytes))),
+        None => Err(Halt::Refused(Resource::NoMemory)),
+    }
+}
+
+/// Whether a caller may read a file, which stands at component `at`, or the first rule that fails.
+fn may_read(attrs: &Attrs, cred: &Cred, at: u32) -> Result<(), Denial>
+    ensures { result ≡ judged (read_tests cred.now attrs.now at) }
+{
+    ask(!attrs.kind.is_directory(), Rule::IsNoDirectory, 0, at)?;
+    ask(grants(attrs, cred, Bit::Read), Rule::GrantsRead, 0, at)
+}
+
+/// The bytes of a file of this size from `off` on, at most `count`; None where a growth was refused.
+fn read_bytes<F: FileStore>(
+    alloc: Global,
+    store: &mut F,
+    ino: u32,
+    off: u64,
+    size: u64,
+    count: usize,
+) -> Option<Vec<u8>>
+    requires used { IsSome (get (F.state store.old).content ino) }
+    requires size { size ≡ length (bytes_of (F.state store.old).content ino) }
+    ensures bytes { IfSome result (λ v. v.items ≡ slice_of (bytes_of (F.state store.old).content ino) off count) }
+    ensures state { F.state store.new ≡ F.state store.old }
+{
+    let left = size.saturating_sub(off);
+    let count = if left < count as u64 {
+        left as usize
+    } else {
+        count
+    };
+    let mut bytes = match vec![in alloc; 0u8; count] {
+        Ok(bytes) => bytes,
+        Err(_) => return None,
+    };
+    store.read(ino, off, bytes.as_mut_slice());
+    Some(bytes)
+}

@@ -1,0 +1,223 @@
+//! The calls that take away a name.
+
+ghost use Rattle.std.specs.Prelude.{◌≡◌, ◌↔◌, ℕ, ◌<◌, ◌≤◌, ◌%◌, [], length, IsSome, IsTrue};
+ghost use Rattle.std.specs.FinMap.{get};
+ghost use Rattle.lfs_types.specs.Stored.{bytes_of};
+ghost use Rattle.lfs_types.specs.Tree.{World};
+ghost use Rattle.lfs_dirs.specs.Directory.{number_in};
+ghost use Rattle.lfs_model.specs.Rules.{first_failing, last};
+ghost use Rattle.lfs_calls.specs.Calls.{ChangesTo, IsCall};
+ghost use Rattle.lfs_calls.specs.Volumes.{HasWorld, InWorld, IsVolume};
+ghost use Rattle.lfs_calls.specs.Content.{AreBlocks, listed};
+ghost use Rattle.lfs_calls.specs.Removes.{JudgesRemoving, JudgesRow, HangsAs, IsTaking, TakesRow, barriers};
+
+use crate::directory::read_block;
+use crate::halt::Halt;
+use crate::making::Room;
+use crate::walking::{Reached, component, denial, reach, step};
+use lfs_dirs::{entries, find, removed};
+use lfs_rules::access::{grants, sticky_bars};
+use lfs_rules::flags::{append_only, immutable};
+use lfs_types::answer::Served;
+use lfs_types::attrs::{Attrs, Bit};
+use lfs_types::block::BLOCK_SIZE;
+use lfs_types::cred::Cred;
+use lfs_types::name::Name;
+use lfs_types::path::Path;
+use lfs_types::request::Request;
+use lfs_types::rule::{Denial, Rule};
+use lfs_types::store::{Change, FileStore, StoreRefusal};
+
+/// A row whose name may be taken away: the row, and the directory in which it hangs.
+#[derive(Clone, Copy)]
+pub(crate) struct Removal {
+    /// The directory.
+    pub(crate) dir: Reached,
+    /// The row's file or directory.
+    pub(crate) file: Reached,
+}
+
+/// The row whose name may be taken away, or the first rule that fails, of those that files and directories share.
+pub(crate) fn judge_remove<F: FileStore>(
+    store: &mut F,
+    cred: &Cred,
+    names: &[Name],
+) -> Result<Removal, Denial>
+    requires world { HasWorld (F.state store.old) }
+    requires short { length names.now ≤ 1024 }
+    ensures judge { InWorld (F.state store.old)
+        (λ w. JudgesRemoving (F.state store.old).content w.rows cred.now names.now result) }
+    ensures state { F.state store.new ≡ F.state store.old }
+{
+    let Some((name, parents)) = names.split_last() else {
+        return Err(denial(Rule::IsNotRoot, 0, 0));
+    };
+    let at = component(parents);
+    let dir = reach(store, cred, 0, parents)?;
+    let number = step(store, cred, 0, at, dir.number, name)?;
+    let Some(attrs) = store.attrs(number) else {
+        unreachable!()
+    };
+    match first_barrier(&dir.attrs, &attrs, cred, at) {
+        None => Ok(Removal {
+            dir,
+            file: Reached { number, attrs },
+        }),
+        Some(denial) => Err(denial),
+    }
+}
+
+/// The first rule of a directory at component `at`, and of a file in it, that keeps the caller from taking away the
+/// file's name.
+fn first_barrier(dir: &Attrs, file: &Attrs, cred: &Cred, at: u32) -> Option<Denial>
+    requires { at < 1024 }
+    ensures { result ≡ first_failing (barriers cred.now dir.now file.now at) }
+{
+    if immutable(dir) {
+        return Some(denial(Rule::IsMutable, 0, at));
+    }
+    if !grants(dir, cred, Bit::Write) {
+        return Some(denial(Rule::GrantsWrite, 0, at));
+    }
+    if append_only(dir) {
+        return Some(denial(Rule::IsNotAppendOnly, 0, at));
+    }
+    if sticky_bars(dir, file, cred) {
+        return Some(denial(Rule::PassesSticky, 0, at + 1));
+    }
+    if immutable(file) {
+        return Some(denial(Rule::IsMutable, 0, at + 1));
+    }
+    if append_only(file) {
+        return Some(denial(Rule::IsNotAppendOnly, 0, at + 1));
+    }
+    None
+}
+
+/// The block of a directory that lists a name, without the name, and where it goes.
+pub(crate) fn take_name<F: FileStore>(store: &mut F, dir: u32, size: u64, name: &Name) -> Room
+    requires used { IsSome (get (F.state store.old).content dir) }
+    requires size { size ≡ length (bytes_of (F.state store.old).content dir) }
+    requires whole { size % 512 ≡ 0 }
+    requires bounded { size ≤ 71680 }
+    requires blocks { AreBlocks (bytes_of (F.state store.old).content dir) }
+    requires listed { IsSome (number_in name.now (listed (bytes_of (F.state store.old).content dir))) }
+    ensures room { (k : ℕ) × IsTaking (bytes_of (F.state store.old).content dir) name.now result k }
+    ensures state { F.state store.new ≡ F.state store.old }
+{
+    let block_size = BLOCK_SIZE as u64;
+    for k in 0..size / block_size {
+        let off = block_size * k;
+        let block = read_block(store, dir, off);
+        if find(&block, name).is_some() {
+            let block = removed(&block, name);
+            return Room { off, block };
+        }
+    }
+    unreachable!()
+}
+
+/// Takes away the row that names lead to: its name from the directory, and the file under its number.
+fn take_row<F: FileStore>(
+    store: &mut F,
+    removal: &Removal,
+    names: &[Name],
+) -> Result<(), StoreRefusal>
+    requires world { (w : World) × (IsVolume (F.state store.old) w
+        × HangsAs (F.state store.old).content w.rows removal.now (last names.now)) }
+    requires some { 0 < length names.now }
+    ensures { ChangesTo (F.state store.old)
+        (λ after. TakesRow (F.state store.old).content after removal.now (last names.now))
+        result (F.state store.new) }
+{
+    let Some((name, _)) = names.split_last() else {
+        unreachable!()
+    };
+    let Reached { number, attrs } = removal.dir;
+    let room = take_name(store, number, attrs.size, name);
+    store.apply(&[
+        Change::Put {
+            ino: number,
+            off: room.off,
+            bytes: &room.block,
+        },
+        Change::Remove {
+            ino: removal.file.number,
+        },
+    ])
+}
+
+/// Removes a file.
+pub fn unlink<F: FileStore>(store: &mut F, cred: &Cred, path: &Path) -> Result<Served, Halt>
+    requires { HasWorld (F.state store.old) }
+    ensures { IsCall (F.state store.old) (F.state store.new) cred.now (Request.Unlink path.now) result }
+{
+    let names = path.names();
+    let removal = judge_unlink(store, cred, names)?;
+    take_row(store, &removal, names)?;
+    Ok(Served::Done)
+}
+
+/// The file that may be unlinked, or the first rule that fails.
+fn judge_unlink<F: FileStore>(store: &mut F, cred: &Cred, names: &[Name]) -> Result<Removal, Denial>
+    requires world { HasWorld (F.state store.old) }
+    requires short { length names.now ≤ 1024 }
+    ensures judge { InWorld (F.state store.old) (λ w.
+        JudgesRow (F.state store.old).content w cred.now names.now (Request.Unlink names.now) result) }
+    ensures state { F.state store.new ≡ F.state store.old }
+{
+    let removal = judge_remove(store, cred, names)?;
+    if removal.file.attrs.kind.is_directory() {
+        return Err(denial(Rule::IsNoDirectory, 0, component(names)));
+    }
+    Ok(removal)
+}
+
+/// Removes an empty directory.
+pub fn rmdir<F: FileStore>(store: &mut F, cred: &Cred, path: &Path) -> Result<Served, Halt>
+    requires { HasWorld (F.state store.old) }
+    ensures { IsCall (F.state store.old) (F.state store.new) cred.now (Request.Rmdir path.now) result }
+{
+    let names = path.names();
+    let removal = judge_rmdir(store, cred, names)?;
+    take_row(store, &removal, names)?;
+    Ok(Served::Done)
+}
+
+/// The directory that may be removed, or the first rule that fails.
+fn judge_rmdir<F: FileStore>(store: &mut F, cred: &Cred, names: &[Name]) -> Result<Removal, Denial>
+    requires world { HasWorld (F.state store.old) }
+    requires short { length names.now ≤ 1024 }
+    ensures judge { InWorld (F.state store.old) (λ w.
+        JudgesRow (F.state store.old).content w cred.now names.now (Request.Rmdir names.now) result) }
+    ensures state { F.state store.new ≡ F.state store.old }
+{
+    let removal = judge_remove(store, cred, names)?;
+    let at = component(names);
+    let dir = removal.file;
+    if !dir.attrs.kind.is_directory() {
+        return Err(denial(Rule::IsDirectory, 0, at));
+    }
+    if !is_empty_directory(store, dir.number, dir.attrs.size) {
+        return Err(denial(Rule::IsEmpty, 0, at));
+    }
+    Ok(removal)
+}
+
+/// Whether a directory of this size lists no name.
+fn is_empty_directory<F: FileStore>(store: &mut F, dir: u32, size: u64) -> bool
+    requires used { IsSome (get (F.state store.old).content dir) }
+    requires size { size ≡ length (bytes_of (F.state store.old).content dir) }
+    requires whole { size % 512 ≡ 0 }
+    ensures empty { IsTrue result ↔ (listed (bytes_of (F.state store.old).content dir) ≡ []) }
+    ensures state { F.state store.new ≡ F.state store.old }
+{
+    let block_size = BLOCK_SIZE as u64;
+    for k in 0..size / block_size {
+        let block = read_block(store, dir, block_size * k);
+        if entries(&block).next().is_some() {
+            return false;
+        }
+    }
+    true
+}

@@ -1,0 +1,79 @@
+//! The call that a request asks for.
+
+ghost use Rattle.lfs_types.specs.Caller.{Caller};
+ghost use Rattle.lfs_calls.specs.Calls.{IsCall, IsCallAt};
+ghost use Rattle.lfs_calls.specs.Volumes.{HasWorld};
+
+use crate::attributes::{chflags, chmod, chown};
+use crate::cutting::set_length;
+use crate::halt::Halt;
+use crate::listing::list;
+use crate::making::{create, mkdir};
+use crate::reading::{read, stat};
+use crate::removing::{rmdir, unlink};
+use crate::renaming::rename;
+use crate::walking::denial;
+use crate::writing::write;
+use lfs_rules::level::level_change;
+use lfs_types::answer::Served;
+use lfs_types::cred::Cred;
+use lfs_types::level::Level;
+use lfs_types::request::Request;
+use lfs_types::store::FileStore;
+use std::alloc::Global;
+
+/// Makes the call that a request asks for over a store at this securelevel. Only a Read and a List take memory of
+/// their own.
+pub fn serve<F: FileStore>(
+    alloc: Global,
+    store: &mut F,
+    level: Level,
+    cred: &Cred,
+    request: &Request,
+) -> Result<Served, Halt>
+    requires { HasWorld (F.state store.old) }
+    ensures { IsCallAt level (F.state store.old) (F.state store.new) cred.now request.now result }
+{
+    match request {
+        Request::Stat { path } => stat(store, cred, path),
+        Request::Read { path, off, len } => read(alloc, store, cred, path, *off, *len),
+        Request::List { path } => list(alloc, store, cred, path),
+        Request::Write { path, place, bytes } => write(store, cred, path, *place, bytes),
+        Request::SetLength { path, len } => set_length(store, cred, path, *len),
+        Request::Create { path, mode } => create(store, cred, path, *mode),
+        Request::Mkdir { path, mode } => mkdir(store, cred, path, *mode),
+        Request::Unlink { path } => unlink(store, cred, path),
+        Request::Rmdir { path } => rmdir(store, cred, path),
+        Request::Rename { from, to } => rename(store, cred, from, to),
+        Request::Chmod { path, mode } => chmod(store, cred, path, *mode),
+        Request::Chown { path, uid, gid } => chown(store, cred, path, *uid, *gid),
+        Request::Chflags { path, flags } => chflags(store, cred, path, level, *flags),
+        Request::SetLevel { level: new } => set_level(store, level, cred, *new),
+        Request::Sync => sync(store),
+    }
+}
+
+/// Whether the rules allow the securelevel to be set; whoever keeps the level sets it.
+fn set_level<F: FileStore>(
+    store: &mut F,
+    level: Level,
+    cred: &Cred,
+    new: Level,
+) -> Result<Served, Halt>
+    ensures { IsCallAt level (F.state store.old) (F.state store.new) cred.now (Request.SetLevel new)
+        result }
+{
+    match level_change(cred, level, new) {
+        None => Ok(Served::Done),
+        Some(rule) => Err(Halt::Denied(denial(rule, 0, 0))),
+    }
+}
+
+/// Has the store write what waits.
+fn sync<F: FileStore>(store: &mut F) -> Result<Served, Halt>
+    ensures { (caller : Caller) → IsCall (F.state store.old) (F.state store.new) caller Request.Sync
+        result }
+{
+    store.sync()?;
+    Ok(Served::Done)
+}

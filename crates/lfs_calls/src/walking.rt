@@ -1,0 +1,140 @@
+//! The walk along a path, and the tests of the rules.
+
+ghost use Rattle.std.specs.Prelude.{◌≡◌, ◌<◌, ◌≤◌, [], ◌∷◌, IsSome, length};
+ghost use Rattle.std.specs.FinMap.{get};
+ghost use Rattle.lfs_types.specs.Tree.{root};
+ghost use Rattle.lfs_model.specs.Rules.{asks, judged};
+ghost use Rattle.lfs_model.specs.Walks.{stepped, walked};
+ghost use Rattle.lfs_calls.specs.Reaches.{Reaches};
+ghost use Rattle.lfs_calls.specs.Volumes.{HasWorld, InWorld};
+
+use crate::directory::look_up;
+use lfs_rules::access::grants;
+use lfs_types::attrs::{Attrs, Bit};
+use lfs_types::cred::Cred;
+use lfs_types::name::Name;
+use lfs_types::path::Path;
+use lfs_types::rule::{Denial, Rule};
+use lfs_types::store::FileStore;
+
+/// The number of the root directory.
+pub(crate) const ROOT: u32 = 2;
+
+/// Tests a rule at a component of the path of this index.
+pub(crate) fn ask(met: bool, rule: Rule, path: u8, at: u32) -> Result<(), Denial>
+    ensures { result ≡ judged (asks met rule path at ∷ []) }
+{
+    if met {
+        Ok(())
+    } else {
+        Err(Denial { rule, path, at })
+    }
+}
+
+/// One step of a walk: from the row at component `at` to a name, or the first rule that fails.
+pub(crate) fn step<F: FileStore>(
+    store: &mut F,
+    cred: &Cred,
+    path: u8,
+    at: u32,
+    dir: u32,
+    name: &Name,
+) -> Result<u32, Denial>
+    requires world { HasWorld (F.state store.old) }
+    requires used { IsSome (get (F.state store.old).content dir) }
+    requires short { at < 1024 }
+    ensures step { InWorld (F.state store.old) (λ w. result ≡ stepped w.rows cred.now path at dir name.now) }
+    ensures state { F.state store.new ≡ F.state store.old }
+{
+    let Some(attrs) = store.attrs(dir) else {
+        unreachable!()
+    };
+    ask(attrs.kind.is_directory(), Rule::IsDirectory, path, at)?;
+    ask(
+        grants(&attrs, cred, Bit::Search),
+        Rule::GrantsSearch,
+        path,
+        at,
+    )?;
+    look_up(store, dir, attrs.size, name).ok_or(denial(Rule::NameThere, path, at + 1))
+}
+
+/// Where a walk from the root along names ends, or the first rule that fails on the way.
+pub(crate) fn walk<F: FileStore>(
+    store: &mut F,
+    cred: &Cred,
+    path: u8,
+    names: &[Name],
+) -> Result<u32, Denial>
+    requires world { HasWorld (F.state store.old) }
+    requires short { length names.now ≤ 1024 }
+    ensures walk { InWorld (F.state store.old) (λ w. result ≡ walked w.rows cred.now path 0 root names.now) }
+    ensures state { F.state store.new ≡ F.state store.old }
+{
+    let mut dir = ROOT;
+    for (at, name) in names.iter().enumerate() {
+        dir = step(store, cred, path, at as u32, dir, name)?;
+    }
+    Ok(dir)
+}
+
+/// A file that a path leads to.
+#[derive(Clone, Copy)]
+pub(crate) struct Reached {
+    /// Its number.
+    pub(crate) number: u32,
+    /// Its attributes.
+    pub(crate) attrs: Attrs,
+}
+
+/// The file that names lead to from the root, or the first rule that fails on the way.
+pub(crate) fn reach<F: FileStore>(
+    store: &mut F,
+    cred: &Cred,
+    path: u8,
+    names: &[Name],
+) -> Result<Reached, Denial>
+    requires world { HasWorld (F.state store.old) }
+    requires short { length names.now ≤ 1024 }
+    ensures reach { InWorld (F.state store.old)
+        (λ w. Reaches (F.state store.old).content w.rows cred.now path names.now result) }
+    ensures state { F.state store.new ≡ F.state store.old }
+{
+    let number = walk(store, cred, path, names)?;
+    match store.attrs(number) {
+        Some(attrs) => Ok(Reached { number, attrs }),
+        None => unreachable!(),
+    }
+}
+
+/// The file that the only path of a call leads to, or the first rule that fails on the way.
+pub(crate) fn find<F: FileStore>(store: &mut F, cred: &Cred, path: &Path) -> Result<Reached, Denial>
+    requires world { HasWorld (F.state store.old) }
+    ensures reach { InWorld (F.state store.old)
+        (λ w. Reaches (F.state store.old).content w.rows cred.now 0 path.now result) }
+    ensures state { F.state store.new ≡ F.state store.old }
+{
+    reach(store, cred, 0, path.names())
+}
+
+/// The component at which a path ends.
+pub(crate) fn depth(path: &Path) -> u32
+    ensures { result ≡ length path.now }
+{
+    component(path.names())
+}
+
+/// The component at which the last of these names stands: their number.
+pub(crate) fn component(names: &[Name]) -> u32
+    requires { length names.now ≤ 1024 }
+    ensures { result ≡ length names.now }
+{
+    names.len() as u32
+}
+
+/// A rule that fails at a component of the path of this index.
+pub(crate) fn denial(rule: Rule, path: u8, at: u32) -> Denial
+    ensures { result ≡ record { rule = rule; path = path; at = at } }
+{
+    Denial { rule, path, at }
+}
