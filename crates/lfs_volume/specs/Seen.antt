@@ -1,7 +1,7 @@
 -- What contracts see of a volume.
 use Rattle.std.specs.Prelude.{ℕ, List}
 use Rattle.lfs_types.specs.declared.level.Level.{Level}
-use Rattle.lfs_volume.specs.declared.journal.Entry.{Entry}
+use Rattle.lfs_model.specs.declared.journal.Entry.{Entry}
 
 -- a volume: its store, its level, its journal, and how many entries that may have
 pub record Seen (F : Type 0) : Type 0 where

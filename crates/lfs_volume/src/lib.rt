@@ -1,19 +1,9 @@
-//! The rules over a file store, and the journal of what was answered.
+//! The journal of a volume is a legal run to the tree that its store and its level show.
 #![tactic(auto)]
 
-mod attributes;
-mod cutting;
-mod directory;
-pub mod flat_files;
-pub mod journal;
-pub mod laws;
-mod listing;
-mod making;
-mod reading;
-mod removing;
-mod renaming;
 #[cfg(test)]
 mod tests;
 pub mod volume;
-mod walking;
-mod writing;
+
+pub use lfs_flatfiles::flat_files;
+pub use lfs_model::journal;

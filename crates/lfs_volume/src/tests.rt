@@ -3,9 +3,9 @@
 ghost use Rattle.std.specs.Prelude.{◌≡◌, IfOk};
 ghost use Rattle.lfs_types.specs.Tree.{opening_content};
 
-use crate::flat_files::FlatFiles;
-use crate::journal::{Call, Entry, Event};
 use crate::volume::Volume;
+use lfs_flatfiles::flat_files::FlatFiles;
+use lfs_model::journal::{Call, Entry, Event};
 use lfs_types::answer::{Answer, Resource, Served};
 use lfs_types::attrs::{Attrs, Kind};
 use lfs_types::cred::Cred;

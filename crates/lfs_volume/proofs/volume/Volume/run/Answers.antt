@@ -1,9 +1,12 @@
 use Rattle.std.proofs.Common.{◌≡◌, ◌↔◌, ◌∷◌, [], ◌++◌, length, sym, ap, subst, ◌∙◌, arith, length-append, append_assoc}
 use Rattle.lfs_types.specs.declared.answer.Answer.TheVariants.{Refused}
 use Rattle.lfs_types.specs.declared.answer.Resource.TheVariants.{JournalFull}
-use Rattle.lfs_volume.specs.Runs.{AreAnswers, kept, kept_entry}
-use Rattle.lfs_volume.specs.Steps.{world_of}
-use Rattle.lfs_volume.proofs.RunLemmas.{AreAnswers-append, kept-append, lack_cause}
+use Rattle.lfs_types.specs.StoreStates.{Shape}
+use Rattle.lfs_model.specs.Memory.{MayLackMemory}
+use Rattle.lfs_model.specs.Runs.{AreAnswers, kept, kept_entry}
+use Rattle.lfs_model.specs.Steps.{world_of}
+use Rattle.lfs_model.proofs.RunLemmas.{AreAnswers-append, kept-append}
+use Rattle.lfs_volume.proofs.JournalLemmas.{lack_cause}
 use Rattle.lfs_volume.proofs.volume.Volume.run.Goals as goal
 
 pub loop-session-preserved : goal.loop-session-preserved
@@ -16,10 +19,11 @@ loop-session-preserved g c =
     let pushed : c.push.new.self.items ≡ c.loop-session.answers.items ++ answer ∷ [] = c.in-Ok-push.ensures.items in
     let stepped : c.loop-session.session-iterator.rest.items ≡ one ∷ c.next.new.self.rest.items = c.in-Some.ensures.steps.0 in
     record {
-      each = subst (AreAnswers c.args.self.now.limit g.F.FileStore.can_lack_memory c.args.self.now.journal (c.loop-session.yielded ++ one ∷ [])) (sym pushed)
-          (AreAnswers-append c.args.self.now.limit g.F.FileStore.can_lack_memory c.args.self.now.journal c.loop-session.yielded c.loop-session.answers.items one answer i.each
+      each = subst (AreAnswers c.args.self.now.limit (g.F.FileStore.state c.args.self.now.store).shape.can_lack_memory c.args.self.now.journal (c.loop-session.yielded ++ one ∷ [])) (sym pushed)
+          (AreAnswers-append c.args.self.now.limit (g.F.FileStore.state c.args.self.now.store).shape.can_lack_memory c.args.self.now.journal c.loop-session.yielded c.loop-session.answers.items one answer i.each
           (subst (λ j. (answer ≡ Refused JournalFull) ↔ (length j ≡ c.args.self.now.limit)) i.entered (subst (λ n. (answer ≡ Refused JournalFull) ↔ (length before.journal ≡ n)) i.limit call.ensures.full))
-          (lack_cause before.limit (g.F.FileStore.clean before.store) (g.F.FileStore.numbers before.store) g.F.FileStore.can_lack_memory (g.F.FileStore.content before.store) before.journal (world_of (g.F.FileStore.numbers before.store) before.journal) one.cred one.request answer call.ensures.full i.legal.within call.ensures.outcome));
+          (λ e. subst (λ (s : Shape). MayLackMemory s.can_lack_memory one.request) i.follows.shape
+          (lack_cause (g.F.FileStore.state before.store) before.limit before.journal (world_of (g.F.FileStore.state before.store).shape.numbers before.journal) one.cred one.request answer call.ensures.full i.legal.within call.ensures.outcome e)));
       entered = call.ensures.entered
           ∙ ap (λ j. j ++ kept_entry one.session one.cred one.request answer) i.entered
           ∙ append_assoc c.args.self.now.journal (kept c.loop-session.yielded c.loop-session.answers.items) (kept_entry one.session one.cred one.request answer)
@@ -29,7 +33,5 @@ loop-session-preserved g c =
       count = simp (pushed, length-append) (omega (arith, i.count));
       room = omega (arith, i.room, c.in-Ok-push.ensures.capacity);
       limit = call.ensures.limit ∙ i.limit;
-      clean = omega (arith, call.ensures.clean, i.clean);
-      numbers = call.ensures.numbers ∙ i.numbers;
-      segments = call.ensures.segments ∙ i.segments;
+      follows = record { clean = omega (arith, call.ensures.follows.clean, i.follows.clean); shape = call.ensures.follows.shape ∙ i.follows.shape };
     }

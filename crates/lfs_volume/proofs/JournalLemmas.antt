@@ -1,0 +1,234 @@
+-- Journals: the opening one, and one with an entry more.
+use Rattle.std.proofs.Common.{◌≡◌, ℕ, ◌+◌, ◌<◌, ◌≤◌, Bool, List, [], ◌∷◌, ◌++◌, length, ◌↔◌, None, inr, true, false, refl, sym, ap, subst, ◌∙◌, ⊎_elim, arith, length-append}
+use Rattle.std.proofs.lemmas.Bool.{cases_eq}
+use Rattle.std.specs.Prelude.{option_map, Result, Ok, Err, OnErr}
+use Rattle.std.specs.FinMap as map
+use Rattle.lfs_types.specs.Caller.{Caller}
+use Rattle.lfs_types.specs.Changes.{IsLength}
+use Rattle.lfs_types.specs.Shown.{IsList, ServesList}
+use Rattle.lfs_types.specs.StoreStates.{Follows, Shape, StoreState}
+use Rattle.lfs_types.specs.Tree.{File, Row, World, Content, root, fresh_root, opening_content, opening_world}
+use Rattle.lfs_types.specs.declared.answer.Answer.{Answer}
+use Rattle.lfs_types.specs.declared.answer.Answer.TheVariants.{Served, Denied, Refused}
+use Rattle.lfs_types.specs.declared.answer.Resource.TheVariants.{NoMemory, NoSpace, NoInodes, DirectoryFull, JournalFull}
+use Rattle.lfs_types.specs.declared.answer.Served.{Served as Shown}
+use Rattle.lfs_types.specs.declared.level.Level.{Level}
+use Rattle.lfs_types.specs.declared.level.Level.TheVariants.{Insecure}
+use Rattle.lfs_types.specs.declared.request.Request.{Request}
+use Rattle.lfs_types.specs.declared.request.Request.TheVariants.{Stat, Read, Write, List as Names, SetLength, Create, Mkdir, Unlink, Rmdir, Rename, Chmod, Chown, Chflags, SetLevel, Sync}
+use Rattle.lfs_dirs.specs.Changes.{number_in-nil}
+use Rattle.lfs_model.specs.declared.journal.Entry.{Entry}
+use Rattle.lfs_model.specs.declared.journal.Event.TheVariants.{User}
+use Rattle.lfs_model.specs.World.{IsTree}
+use Rattle.lfs_model.specs.Memory.{MayLackMemory}
+use Rattle.lfs_model.specs.Runs.{IsNoSpace, IsShort, IsUnserved, cleaned}
+use Rattle.lfs_model.specs.Steps.{IsAnswer, IsLegal, after_answer, world_of}
+use Rattle.lfs_model.proofs.Children.{child-answer}
+use Rattle.lfs_model.proofs.LevelLemmas.{level_after}
+use Rattle.lfs_model.proofs.RunLemmas.{root_row, only_fresh, no_child, opening_rows, opening_tree, world_after-append, IsLegal-append, list_copies}
+use Rattle.lfs_types.proofs.Maps.{get-insert_same, get-insert_other}
+use Rattle.lfs_calls.specs.Content.{visible, Shows, IsListing, entries_below}
+use Rattle.lfs_calls.specs.Outcomes.{IsOutcome}
+use Rattle.lfs_calls.specs.Volumes.{HasWorld, IsVolume}
+use Rattle.lfs_calls.specs.Calls.{IsCallAt, answered}
+use Rattle.lfs_calls.specs.declared.halt.Halt.{Halt}
+use Rattle.lfs_calls.specs.declared.halt.Halt.TheVariants as halts
+use Rattle.lfs_volume.specs.Copies.{is_lack_of_memory}
+use Rattle.lfs_volume.specs.Journals.{IsAnswered, IsJournal, Stays, level_left, level_set}
+
+nothing_listed : IsListing opening_rows root []
+unfolding entries_below
+nothing_listed = record {
+  blocks = λ k h. absurd (omega arith);
+  distinct = tt;
+  names = λ name. number_in-nil name ∙ sym (child-answer opening_rows opening_tree.unique root name None (no_child root name));
+}
+
+opening_shows : Shows opening_content opening_world
+opening_shows = record {
+  files = λ n. ⊎_elim
+      (λ same. subst (λ k. option_map visible (map.get opening_content k) ≡ option_map (λ (r : Row). r.file) (map.get opening_rows k)) (sym same)
+      (ap (option_map visible) (get-insert_same map.empty root fresh_root) ∙ sym (ap (option_map (λ (r : Row). r.file)) (get-insert_same map.empty root root_row))))
+      (λ other. ap (option_map visible) (get-insert_other map.empty root fresh_root n other ∙ map.get-empty _ n)
+      ∙ sym (ap (option_map (λ (r : Row). r.file)) (get-insert_other map.empty root root_row n other ∙ map.get-empty _ n)))
+      (cases_eq n root);
+  sizes = λ n f e. let is = only_fresh n f e in subst (λ (x : File). IsLength x.kind (length x.bytes)) is.1 (omega arith, omega arith);
+  listings = λ n f e k. let is = only_fresh n f e in
+      subst (λ m. IsListing opening_rows m f.bytes) (sym is.0) (subst (λ (x : File). IsListing opening_rows root x.bytes) is.1 nothing_listed);
+}
+
+-- the empty journal is that of the opening
+pub opening_journal : (s : StoreState) (limit : ℕ) → s.content ≡ opening_content → IsJournal s Insecure [] limit
+opening_journal s limit same = record {
+  legal = tt;
+  shown = record { shows = subst (λ c. Shows c opening_world) (sym same) opening_shows; tree = opening_tree };
+  at_level = refl;
+  within = omega arith;
+  space = tt;
+}
+
+-- fewer clean segments are no more than before
+IsShort-fewer : (clean fewer : ℕ) (es : List Entry) → fewer ≤ clean → IsShort clean es → IsShort fewer es
+IsShort-fewer clean fewer [] h short = tt
+IsShort-fewer clean fewer (e ∷ es) h short =
+    ((λ no. let few = short.0 no in omega arith), IsShort-fewer clean fewer es h short.1)
+
+-- one entry more makes no fewer segments clean
+cleaned-more : (es : List Entry) (e : Entry) → cleaned es ≤ cleaned (es ++ e ∷ [])
+cleaned-more [] e = omega arith
+cleaned-more (x ∷ es) e = let more = cleaned-more es e in omega arith
+
+IsShort-append : (clean : ℕ) (es : List Entry) (e : Entry) → IsShort clean es → (IsNoSpace e.event → clean ≤ 2) → IsShort clean (es ++ e ∷ [])
+IsShort-append clean [] e short few = ((λ no. let two = few no in omega arith), tt)
+IsShort-append clean (x ∷ es) e short few =
+    ((λ no. let old = short.0 no in let more = cleaned-more es e in omega arith), IsShort-append clean es e short.1 few)
+
+-- the journal of a store that changed nothing but the count of its clean segments
+pub IsJournal-same : (old new : StoreState) (level level_after : Level) (es : List Entry) (limit : ℕ)
+    → IsJournal old level es limit → Stays old new level level_after → Follows old new → IsJournal new level_after es limit
+IsJournal-same old new level level_after es limit j stays follows = record {
+  legal = subst (λ (s : Shape). IsLegal s.numbers s.segments es opening_world) (sym follows.shape) j.legal;
+  shown = subst (λ (s : Shape). IsVolume new (world_of s.numbers es)) (sym follows.shape)
+      (record { shows = subst (λ c. Shows c (world_of old.shape.numbers es)) (sym stays.content) j.shown.shows; tree = j.shown.tree });
+  at_level = subst (λ (s : Shape). (world_of s.numbers es).level ≡ level_after) (sym follows.shape) (j.at_level ∙ sym stays.at_level);
+  within = j.within;
+  space = IsShort-fewer old.clean new.clean es follows.clean j.space;
+}
+
+-- an answer that is entered is one that may be
+entered_answer : (s : StoreState) (w : World) (caller : Caller) (request : Request) (answer : Answer)
+    → IsOutcome s w caller request answer → is_lack_of_memory answer ≡ false → IsAnswer s.shape.numbers w caller request answer
+entered_answer s w caller request (Served shown) o h = o.0
+entered_answer s w caller request (Denied denial) o h = o
+entered_answer s w caller request (Refused NoMemory) o h = absurd (cc)
+entered_answer s w caller request (Refused NoSpace) o h = o.0
+entered_answer s w caller request (Refused NoInodes) o h = o
+entered_answer s w caller request (Refused DirectoryFull) o h = o.0
+entered_answer s w caller request (Refused JournalFull) o h = absurd o
+
+-- NoSpace comes with few clean segments
+entered_space : (s : StoreState) (w : World) (caller : Caller) (request : Request) (answer : Answer)
+    → IsOutcome s w caller request answer → answer ≡ Refused NoSpace → s.clean ≤ 2
+entered_space s w caller request answer o e = (subst (IsOutcome s w caller request) e o).2
+
+-- the journal with an entry more
+pub IsJournal-entered : (old new : StoreState) (level level_after : Level) (es : List Entry) (limit session : ℕ) (caller : Caller) (request : Request) (answer : Answer)
+    → IsJournal old level es limit → length es < limit → IsAnswered old new level level_after caller request answer → is_lack_of_memory answer ≡ false
+    → IsJournal new level_after (es ++ record { session = session; cred = caller; event = User request answer } ∷ []) limit
+IsJournal-entered old new level level_after es limit session caller request answer j room a entered =
+    let entry : Entry = record { session = session; cred = caller; event = User request answer } in
+    let numbers = old.shape.numbers in
+    let w = world_of numbers es in
+    let o = a.outcome w j.shown j.at_level in
+    let leads = world_after-append numbers es (entry ∷ []) opening_world in
+    let few : IsNoSpace entry.event → old.clean ≤ 2 = entered_space old w caller request answer o in
+    record {
+      legal = subst (λ (s : Shape). IsLegal s.numbers s.segments (es ++ entry ∷ []) opening_world) (sym a.follows.shape)
+          (IsLegal-append numbers old.shape.segments es entry opening_world j.legal (entered_answer old w caller request answer o entered));
+      shown = subst (λ (s : Shape). IsVolume new (world_of s.numbers (es ++ entry ∷ []))) (sym a.follows.shape)
+          (subst (IsVolume new) (sym leads) (a.leaves w j.shown));
+      at_level = subst (λ (s : Shape). (world_of s.numbers (es ++ entry ∷ [])).level ≡ level_after) (sym a.follows.shape)
+          (ap (λ (v : World). v.level) leads ∙ a.leveled w j.at_level);
+      within = simp length-append (omega arith);
+      space = IsShort-fewer old.clean new.clean (es ++ entry ∷ []) a.follows.clean (IsShort-append old.clean es entry j.space few);
+    }
+
+-- a call whose answer wanted memory for its copy
+pub copy_outcome : (s : StoreState) (w : World) (caller : Caller) (request : Request) (answer : Answer)
+    → IsOutcome s w caller request answer → ServesList answer → IsOutcome s w caller request (Refused NoMemory)
+copy_outcome s w caller request (Served shown) o h = (o.0.0, o.0.1, o.1, inr (list_copies w request (subst IsList o.0.2 h)))
+copy_outcome s w caller request (Denied denial) o h = absurd h
+copy_outcome s w caller request (Refused resource) o h = absurd h
+
+-- an answer that tells of the want of memory serves nothing
+pub lack_unserved : (answer : Answer) → is_lack_of_memory answer ≡ true → IsUnserved answer
+lack_unserved (Served shown) h = absurd (cc)
+lack_unserved (Denied denial) h = tt
+lack_unserved (Refused resource) h = tt
+
+-- the causes of one more answer's refusals
+pub lack_cause : (s : StoreState) (limit : ℕ) (journal : List Entry) (w : World) (caller : Caller) (request : Request) (answer : Answer)
+    → ((answer ≡ Refused JournalFull) ↔ (length journal ≡ limit)) → length journal ≤ limit
+    → (length journal < limit → IsOutcome s w caller request answer)
+    → answer ≡ Refused NoMemory → MayLackMemory s.shape.can_lack_memory request
+lack_cause s limit journal w caller request answer full within outcome e = ⊎_elim
+    (λ at. let is : answer ≡ Refused JournalFull = full.1 at in absurd (cc))
+    (λ other. let o = subst (IsOutcome s w caller request) e (outcome (omega (arith, within, other))) in o.3)
+    (cases_eq (length journal) limit)
+
+-- ---- from what a call comes to, to its answer
+
+served_level : (numbers : ℕ) (w : World) (caller : Caller) (level : Level) (request : Request) (shown : Shown) → w.level ≡ level
+    → (after_answer numbers w caller request (Served shown)).level ≡ level_left level request (Served shown)
+served_level numbers w caller level (Stat path) shown e = level_after numbers w caller (Stat path) (Served shown) tt ∙ e
+served_level numbers w caller level (Read path off len) shown e = level_after numbers w caller (Read path off len) (Served shown) tt ∙ e
+served_level numbers w caller level (Names path) shown e = level_after numbers w caller (Names path) (Served shown) tt ∙ e
+served_level numbers w caller level (Write path place bytes) shown e = level_after numbers w caller (Write path place bytes) (Served shown) tt ∙ e
+served_level numbers w caller level (SetLength path len) shown e = level_after numbers w caller (SetLength path len) (Served shown) tt ∙ e
+served_level numbers w caller level (Create path mode) shown e = level_after numbers w caller (Create path mode) (Served shown) tt ∙ e
+served_level numbers w caller level (Mkdir path mode) shown e = level_after numbers w caller (Mkdir path mode) (Served shown) tt ∙ e
+served_level numbers w caller level (Unlink path) shown e = level_after numbers w caller (Unlink path) (Served shown) tt ∙ e
+served_level numbers w caller level (Rmdir path) shown e = level_after numbers w caller (Rmdir path) (Served shown) tt ∙ e
+served_level numbers w caller level (Rename from to) shown e = level_after numbers w caller (Rename from to) (Served shown) tt ∙ e
+served_level numbers w caller level (Chmod path mode) shown e = level_after numbers w caller (Chmod path mode) (Served shown) tt ∙ e
+served_level numbers w caller level (Chown path uid gid) shown e = level_after numbers w caller (Chown path uid gid) (Served shown) tt ∙ e
+served_level numbers w caller level (Chflags path flags) shown e = level_after numbers w caller (Chflags path flags) (Served shown) tt ∙ e
+served_level numbers w caller level (SetLevel new) shown e = refl
+served_level numbers w caller level Sync shown e = level_after numbers w caller Sync (Served shown) tt ∙ e
+
+unserved_level : (level : Level) (request : Request) (answer : Answer) → IsUnserved answer → level_left level request answer ≡ level
+unserved_level level request (Served shown) h = absurd h
+unserved_level level request (Denied denial) h = refl
+unserved_level level request (Refused resource) h = refl
+
+-- what is served as a list sets no level
+list_level : (s : StoreState) (w : World) (caller : Caller) (level : Level) (request : Request) (shown : Shown)
+    → IsOutcome s w caller request (Served shown) → IsList shown → level_set level request ≡ level
+list_level s w caller level (Stat path) shown o h = refl
+list_level s w caller level (Read path off len) shown o h = refl
+list_level s w caller level (Names path) shown o h = refl
+list_level s w caller level (Write path place bytes) shown o h = refl
+list_level s w caller level (SetLength path len) shown o h = refl
+list_level s w caller level (Create path mode) shown o h = refl
+list_level s w caller level (Mkdir path mode) shown o h = refl
+list_level s w caller level (Unlink path) shown o h = refl
+list_level s w caller level (Rmdir path) shown o h = refl
+list_level s w caller level (Rename from to) shown o h = refl
+list_level s w caller level (Chmod path mode) shown o h = refl
+list_level s w caller level (Chown path uid gid) shown o h = refl
+list_level s w caller level (Chflags path flags) shown o h = refl
+list_level s w caller level Sync shown o h = refl
+list_level s w caller level (SetLevel new) shown o h = let none = subst IsList o.0.2 h in absurd none
+
+listed_level : (s : StoreState) (w : World) (caller : Caller) (level : Level) (request : Request) (answer : Answer)
+    → IsOutcome s w caller request answer → ServesList answer → level_left level request answer ≡ level
+listed_level s w caller level request (Served shown) o h = list_level s w caller level request shown o h
+listed_level s w caller level request (Denied denial) o h = absurd h
+listed_level s w caller level request (Refused resource) o h = absurd h
+
+answer_level : (numbers : ℕ) (w : World) (caller : Caller) (level : Level) (request : Request) (answer : Answer) → w.level ≡ level
+    → (after_answer numbers w caller request answer).level ≡ level_left level request answer
+answer_level numbers w caller level request (Served shown) e = served_level numbers w caller level request shown e
+answer_level numbers w caller level request (Denied denial) e = e
+answer_level numbers w caller level request (Refused resource) e = e
+
+unserved_content : {P : Type 0} (result : Result Shown Halt) → OnErr result P → IsUnserved (answered result) → P
+unserved_content (Ok shown) p h = absurd h
+unserved_content (Err (halts.Denied denial)) p h = p
+unserved_content (Err (halts.Refused resource)) p h = p
+
+-- what a call comes to is its answer
+pub of_call : (old new : StoreState) (level left : Level) (caller : Caller) (request : Request) (result : Result Shown Halt) (answer : Answer)
+    → HasWorld old → IsCallAt level old new caller request result → answer ≡ answered result → left ≡ level_left level request answer
+    → IsAnswered old new level left caller request answer
+of_call old new level left caller request result answer has call is sets =
+    let here : World = record has.0 { level = level } in
+    let shown : IsVolume old here = record { shows = record { files = has.1.shows.files; sizes = has.1.shows.sizes; listings = has.1.shows.listings }; tree = has.1.tree } in
+    subst (IsAnswered old new level left caller request) (sym is) (record {
+      outcome = call.outcome;
+      leaves = call.leaves;
+      leveled = λ w e. answer_level old.shape.numbers w caller level request (answered result) e ∙ sym (sets ∙ ap (level_left level request) is);
+      unserved = λ h. record { content = unserved_content result call.halted h; at_level = sets ∙ ap (level_left level request) is ∙ unserved_level level request (answered result) h };
+      listed = λ h. record { content = call.listed h; at_level = sets ∙ ap (level_left level request) is ∙ listed_level old here caller level request (answered result) (call.outcome here shown refl) h };
+      follows = call.follows;
+    })

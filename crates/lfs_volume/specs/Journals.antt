@@ -1,0 +1,51 @@
+-- What the journal of a volume over a store is, and how a call leaves a store and a level.
+use Rattle.std.specs.Prelude.{◌≡◌, ℕ, ◌≤◌, List, length}
+use Rattle.lfs_types.specs.Caller.{Caller}
+use Rattle.lfs_types.specs.Shown.{ServesList}
+use Rattle.lfs_types.specs.StoreStates.{Follows, StoreState}
+use Rattle.lfs_types.specs.Tree.{World, opening_world}
+use Rattle.lfs_types.specs.declared.answer.Answer.{Answer}
+use Rattle.lfs_types.specs.declared.answer.Answer.TheVariants.{Served, Denied, Refused}
+use Rattle.lfs_types.specs.declared.level.Level.{Level}
+use Rattle.lfs_types.specs.declared.request.Request.{Request}
+use Rattle.lfs_types.specs.declared.request.Request.TheVariants.{SetLevel}
+use Rattle.lfs_model.specs.declared.journal.Entry.{Entry}
+use Rattle.lfs_model.specs.Runs.{IsShort, IsUnserved}
+use Rattle.lfs_model.specs.Steps.{IsLegal, after_answer, world_of}
+use Rattle.lfs_calls.specs.Outcomes.{IsOutcome}
+use Rattle.lfs_calls.specs.Volumes.{InWorld, IsVolume}
+
+-- The journal of a volume over a store in this state, at this level: it is a legal run from the world of a fresh volume
+-- to the one that store and level show, which is a tree; it is no longer than its limit; and a call refused for want of
+-- space stands in it only where at most two of the segments that are clean now weren't made clean after it.
+pub record IsJournal (s : StoreState) (level : Level) (entries : List Entry) (limit : ℕ) : Type 0 where
+  pub legal : IsLegal s.shape.numbers s.shape.segments entries opening_world
+  pub shown : IsVolume s (world_of s.shape.numbers entries)
+  pub at_level : (world_of s.shape.numbers entries).level ≡ level
+  pub within : length entries ≤ limit
+  pub space : IsShort s.clean entries
+
+-- content and level are as before
+pub record Stays (old new : StoreState) (level level_after : Level) : Type 0 where
+  pub content : new.content ≡ old.content
+  pub at_level : level_after ≡ level
+
+-- the securelevel that an answered call leaves: the one that a served call sets, else the old one
+abbrev pub level_set : Level → Request → Level
+level_set level (SetLevel new) = new
+level_set level request = level
+
+abbrev pub level_left : Level → Request → Answer → Level
+level_left level request (Served shown) = level_set level request
+level_left level request (Denied denial) = level
+level_left level request (Refused resource) = level
+
+-- A user's call was answered so over a store and a level: the answer has its cause, store and level show the world that
+-- it leaves, a call that isn't served or lists changes nothing, and no more segments are clean.
+pub record IsAnswered (old new : StoreState) (level level_after : Level) (caller : Caller) (request : Request) (answer : Answer) : Type 0 where
+  pub outcome : InWorld old (λ w. w.level ≡ level → IsOutcome old w caller request answer)
+  pub leaves : InWorld old (λ w. IsVolume new (after_answer old.shape.numbers w caller request answer))
+  pub leveled : (w : World) → w.level ≡ level → (after_answer old.shape.numbers w caller request answer).level ≡ level_after
+  pub unserved : IsUnserved answer → Stays old new level level_after
+  pub listed : ServesList answer → Stays old new level level_after
+  pub follows : Follows old new
