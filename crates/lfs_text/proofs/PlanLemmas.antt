@@ -1,0 +1,70 @@
+-- A plan grows line by line.
+use Rattle.std.proofs.Common.{◌≡◌, ℕ, ◌+◌, ◌<◌, ◌≤◌, ◌==◌, Bool, true, false, cond, List, [], ◌∷◌, length, Result, Ok, Err, refl, ap, arith}
+use Rattle.std.specs.List.{All, count_by}
+use Rattle.std.specs.Result.{IfErr}
+use Rattle.std.proofs.lemmas.Bool.{ne_eqb}
+use Rattle.std.proofs.lemmas.List.Splits.{slice_split_at, slice_split_none, length-slice_split}
+use Rattle.lfs_text.specs.Lines.{HasNoLineFeed, IsFirstLine}
+use Rattle.lfs_text.specs.PlanTypes.{Drafted, Planned}
+use Rattle.lfs_text.specs.Plans.{added, at_line, line_said, lines_of, plan_from, planned}
+use Rattle.lfs_text.specs.Wording.{is_bare}
+use Rattle.lfs_text.specs.declared.fault.FaultKind.{FaultKind}
+use Rattle.lfs_text.specs.declared.fault.FaultKind.TheVariants.{Cut}
+use Rattle.lfs_text.specs.declared.fault.ScriptFault.{ScriptFault}
+use Rattle.lfs_text.specs.declared.plan.Line.{Line}
+
+abbrev feed : ℕ → Bool
+feed b = b == 10
+
+abbrev fault_at : ℕ → FaultKind → ScriptFault
+fault_at n kind = record { line = n; kind = kind }
+
+no_feeds : (line : List ℕ) → HasNoLineFeed line → All (λ b. feed b ≡ false) line
+no_feeds line none = λ k d lt. ne_eqb _ _ (none k d lt)
+
+lines_first : (text line rest : List ℕ) → IsFirstLine text line rest → lines_of text ≡ line ∷ lines_of rest
+lines_first text line rest cut = rw cut.whole (slice_split_at feed line 10 rest (no_feeds line cut.first) refl)
+
+lines_some : (text : List ℕ) → (length (lines_of text) == 0) ≡ false
+lines_some text = rw (length-slice_split feed text) (ne_eqb (count_by feed text + 1) 0 (λ e. omega arith))
+
+-- the first line is taken
+pub plan_step : (n : ℕ) (draft : Drafted) (text line rest : List ℕ) → IsFirstLine text line rest → plan_from n draft (lines_of text) ≡ at_line n (line_said line) (λ said. plan_from (n + 1) (added draft said) (lines_of rest))
+unfolding plan_from
+plan_step n draft text line rest cut = rw (lines_first text line rest cut, lines_some rest) refl
+
+-- nothing is left
+pub plan_end : (n : ℕ) (draft : Drafted) → plan_from n draft (lines_of []) ≡ Ok (planned draft)
+unfolding plan_from
+plan_end n draft = refl
+
+-- the last line has no line feed
+pub plan_cut : (n : ℕ) (draft : Drafted) (text : List ℕ) → HasNoLineFeed text → 0 < length text → plan_from n draft (lines_of text) ≡ Err (record { line = n; kind = Cut })
+unfolding plan_from
+plan_cut n draft text none some =
+    let bytes : is_bare text ≡ false = ne_eqb (length text) 0 (λ e. omega arith) in
+    rw (slice_split_none feed text (no_feeds text none), bytes) refl
+
+least_here : (last bare : Bool) (n : ℕ) (plan : Planned) (said : Result Line FaultKind) (next : Line → Result Planned ScriptFault) (fault : ScriptFault) → ((line : Line) → next line ≡ Err fault → n ≤ fault.line) → cond last (cond bare (Ok plan) (Err (record { line = n; kind = Cut }))) (at_line n said next) ≡ Err fault → n ≤ fault.line
+least_here true true n plan said next fault later e = absurd (cc)
+least_here true false n plan said next fault later e =
+    let here : fault_at n Cut ≡ fault = cc in omega (arith, ap (λ (f : ScriptFault). f.line) here)
+least_here false bare n plan (Ok line) next fault later e = later line e
+least_here false bare n plan (Err kind) next fault later e =
+    let here : fault_at n kind ≡ fault = cc in omega (arith, ap (λ (f : ScriptFault). f.line) here)
+
+-- no line before the first is at fault
+least : (n : ℕ) (draft : Drafted) (texts : List (List ℕ)) (fault : ScriptFault) → plan_from n draft texts ≡ Err fault → n ≤ fault.line
+unfolding plan_from
+least n draft [] fault e = absurd (cc)
+least n draft (text ∷ texts) fault e =
+    least_here (length texts == 0) (is_bare text) n (planned draft) (line_said text)
+    (λ line. plan_from (n + 1) (added draft line) texts) fault
+    (λ line later. let above : n + 1 ≤ fault.line = least (n + 1) (added draft line) texts fault later in omega arith) e
+
+least_of : (result : Result Planned ScriptFault) (n : ℕ) → ((fault : ScriptFault) → result ≡ Err fault → n ≤ fault.line) → IfErr result (λ first. n ≤ first.line)
+least_of (Ok plan) n at = tt
+least_of (Err fault) n at = at fault refl
+
+pub plan_least : (n : ℕ) (draft : Drafted) (texts : List (List ℕ)) → IfErr (plan_from n draft texts) (λ first. n ≤ first.line)
+plan_least n draft texts = least_of (plan_from n draft texts) n (λ fault e. least n draft texts fault e)

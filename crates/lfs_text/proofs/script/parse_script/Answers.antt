@@ -1,0 +1,17 @@
+use Rattle.std.proofs.Common.{◌≡◌, ◌∙◌, ◌+◌, [], length, sym}
+use Rattle.std.proofs.lemmas.Bool.{eqb-true}
+use Rattle.std.proofs.lemmas.List.{nil_from_length}
+use Rattle.lfs_text.specs.Plans.{lines_of}
+use Rattle.lfs_text.proofs.PlanLemmas.{plan_end, plan_least}
+use Rattle.lfs_text.proofs.script.parse_script.Goals as goal
+
+pub returns-in-Err : goal.returns-in-Err
+returns-in-Err c = (
+  λ other. c.loop-rest.invariant.so_far ∙ c.in-Err.ensures.taken other (c.loop-rest.line + 1),
+  rw c.loop-rest.invariant.so_far (plan_least (c.loop-rest.line + 1) c.loop-rest.draft (lines_of c.loop-rest.rest.now)),
+)
+
+pub returns : goal.returns
+returns c =
+    let none : c.loop-rest.rest.now ≡ [] = nil_from_length c.loop-rest.rest.now (eqb-true (length c.loop-rest.rest.now) 0 (sym c.is_empty.ensures ∙ c.loop-rest-test.false)) in
+    c.loop-rest.invariant.so_far ∙ rw (none, c.finish.ensures) (plan_end (c.loop-rest.line + 1) c.loop-rest.draft)

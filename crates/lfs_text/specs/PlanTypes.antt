@@ -1,0 +1,16 @@
+-- Plans as contracts see them.
+use Rattle.std.specs.Prelude.{ℕ, List}
+use Rattle.lfs_types.specs.Caller.{Caller}
+use Rattle.lfs_text.specs.declared.plan.Step.{Step}
+
+-- the steps of a script, and the highest session that it names
+pub record Planned : Type 0 where
+  pub steps : List Step
+  pub sessions : ℕ
+
+-- the plan of some lines, and the session and the caller of the lines that follow
+pub record Drafted : Type 0 where
+  pub session : ℕ
+  pub cred : Caller
+  pub sessions : ℕ
+  pub steps : List Step

@@ -1,0 +1,219 @@
+//! What scripts without a fault ask.
+
+use crate::plan::Act;
+use crate::script::parse_script;
+use crate::split::SplitFault;
+use lfs_types::cleaner::CleanerCall;
+use lfs_types::cred::Cred;
+use lfs_types::file_flags::FileFlags;
+use lfs_types::level::Level;
+use lfs_types::mode::Mode;
+use lfs_types::path::Path;
+use lfs_types::payload::Payload;
+use lfs_types::request::{Place, Request};
+use std::alloc::Global;
+use std::test::Fail;
+
+/// The users' calls of a script.
+fn requests_of(alloc: Global, script: &str) -> Result<Vec<Request>, Fail> {
+    let text = script.as_bytes();
+    if text.len() > 4096 {
+        return Err(Fail::from("a long script"));
+    }
+    let plan = parse_script(alloc, text)?;
+    let mut requests = Vec::new(alloc);
+    for step in plan.into_steps() {
+        if let Act::User(request) = step.act {
+            requests.push(request)?;
+        }
+    }
+    Ok(requests)
+}
+
+#[test]
+fn sixteen_groups(rt: HostRuntime) -> Result<(), Fail> {
+    let alloc = rt.alloc();
+    let script = "stat /\nas 0 1,2,3,4,5,6,7,8,9,10,11,12,13,14,15,00016 init\nstat /a\n";
+    let groups = [1, 2, 3, 4, 5, 6, 7, 8, 9, 10, 11, 12, 13, 14, 15, 16];
+    let plan = parse_script(alloc, script.as_bytes())?;
+    let steps = plan.steps();
+    assert_eq!(rt; steps.len(), 2);
+    assert_eq!(rt; steps[0].cred, Cred::new(0, &[0], false)?);
+    assert_eq!(rt; steps[1].cred, Cred::new(0, &groups, true)?);
+    Ok(())
+}
+
+#[test]
+fn each_call_as_it_is_written(rt: HostRuntime) -> Result<(), Fail> {
+    let alloc = rt.alloc();
+    let script =
+        "\n# nothing\nstat /\ncreate /d/f 6755\nread /f 18446744073709551615 4294967295\nwrite /f at 00000000000000000007 00ff6a\nwrite /f end -\n";
+    let requests = requests_of(alloc, script)?;
+    let file = Path::parse(alloc, "/f")?;
+    let mode = Mode::new(0o6755).ok_or("mode")?;
+    let path = Path::parse(alloc, "/")?;
+    assert_eq!(rt; requests.len(), 5);
+    assert_eq!(rt; requests[0], Request::Stat { path });
+    let path = Path::parse(alloc, "/d/f")?;
+    assert_eq!(rt; requests[1], Request::Create { path, mode });
+    let path = file.try_clone(alloc)?;
+    let (off, len) = (u64::MAX, u32::MAX);
+    assert_eq!(rt; requests[2], Request::Read { path, off, len });
+    let path = file.try_clone(alloc)?;
+    let (place, bytes) = (Place::At(7), Payload::new(vec![in alloc; 0, 255, 106]?)?);
+    assert_eq!(rt; requests[3], Request::Write { path, place, bytes });
+    let (path, place, bytes) = (file, Place::End, Payload::new(Vec::new(alloc))?);
+    assert_eq!(rt; requests[4], Request::Write { path, place, bytes });
+    Ok(())
+}
+
+#[test]
+fn each_change_as_it_is_written(rt: HostRuntime) -> Result<(), Fail> {
+    let alloc = rt.alloc();
+    let script =
+        "list /f\nunlink /f\nrmdir /f\nlength /f 71680\nmkdir /f 755\nchmod /f 1777\nchown /f 7 0008\nchflags /f 70007\nrename /f /\nsync\n";
+    let requests = requests_of(alloc, script)?;
+    let path = Path::parse(alloc, "/f")?;
+    let expected = [
+        Request::List {
+            path: path.try_clone(alloc)?,
+        },
+        Request::Unlink {
+            path: path.try_clone(alloc)?,
+        },
+        Request::Rmdir {
+            path: path.try_clone(alloc)?,
+        },
+        Request::SetLength {
+            path: path.try_clone(alloc)?,
+            len: 71_680,
+        },
+        Request::Mkdir {
+            path: path.try_clone(alloc)?,
+            mode: Mode::new(0o755).ok_or("mode")?,
+        },
+        Request::Chmod {
+            path: path.try_clone(alloc)?,
+            mode: Mode::new(0o1777).ok_or("mode")?,
+        },
+        Request::Chown {
+            path: path.try_clone(alloc)?,
+            uid: 7,
+            gid: 8,
+        },
+        Request::Chflags {
+            path: path.try_clone(alloc)?,
+            flags: FileFlags::new(0x70007).ok_or("flags")?,
+        },
+        Request::Rename {
+            from: path.try_clone(alloc)?,
+            to: Path::parse(alloc, "/")?,
+        },
+        Request::Sync,
+    ];
+    assert_eq!(rt; requests.len(), 10);
+    for (request, wanted) in requests.iter().zip(&expected) {
+        assert_eq!(rt; *request, *wanted);
+    }
+    Ok(())
+}
+
+#[test]
+fn levels_by_value(rt: HostRuntime) -> Result<(), Fail> {
+    let alloc = rt.alloc();
+    let cases = [
+        ("level -1\n", Level::PermanentlyInsecure),
+        ("level -01\n", Level::PermanentlyInsecure),
+        ("level 0\n", Level::Insecure),
+        ("level -0\n", Level::Insecure),
+        ("level 00\n", Level::Insecure),
+        ("level 00000000000000000001\n", Level::Secure),
+        ("level 2\n", Level::HighlySecure),
+    ];
+    for (line, level) in cases {
+        let requests = requests_of(alloc, line)?;
+        assert_eq!(rt; requests.len(), 1);
+        assert_eq!(rt; requests[0], Request::SetLevel { level }, "{line}");
+    }
+    Ok(())
+}
+
+#[test]
+fn cleaner_calls_as_they_are_written(rt: HostRuntime) -> Result<(), Fail> {
+    let alloc = rt.alloc();
+    let script =
+        "ifile\nsession 8\ninfos 3\nas 7 7\nbmapv 4:1:2147483648:65 4:1:4294967295:66\nbmapv\nsession 2\nmarkv 5:2:139:0\nsegclean 1023\npass\n";
+    let plan = parse_script(alloc, script.as_bytes())?;
+    assert_eq!(rt; plan.sessions(), 8);
+    let mut seen = String::new(alloc);
+    for step in plan.steps() {
+        let session = step.session;
+        let uid = step.cred.uid();
+        match &step.act {
+            Act::User(_) => writeln!(seen, "user")?,
+            Act::Pass => writeln!(seen, "{session} {uid} pass")?,
+            Act::Cleaner(CleanerCall::Ifile) => writeln!(seen, "{session} {uid} ifile")?,
+            Act::Cleaner(CleanerCall::Infos(segment)) => {
+                writeln!(seen, "{session} {uid} infos {segment}")?
+            }
+            Act::Cleaner(CleanerCall::Segclean(segment)) => {
+                writeln!(seen, "{session} {uid} segclean {segment}")?
+            }
+            Act::Cleaner(CleanerCall::Bmapv(infos)) => {
+                let infos = infos.items();
+                writeln!(seen, "{session} {uid} bmapv {infos:?}")?
+            }
+            Act::Cleaner(CleanerCall::Markv(infos)) => {
+                let infos = infos.items();
+                writeln!(seen, "{session} {uid} markv {infos:?}")?
+            }
+        }
+    }
+    let expected =
+        "0 0 ifile\n8 0 infos 3\n8 7 bmapv [BlockInfo { ino: 4, version: 1, lbn: 2147483648, addr: 65 }, BlockInfo { ino: 4, version: 1, lbn: 4294967295, addr: 66 }]\n8 7 bmapv []\n2 7 markv [BlockInfo { ino: 5, version: 2, lbn: 139, addr: 0 }]\n2 7 segclean 1023\n2 7 pass\n";
+    assert_eq!(rt; seen.as_str(), expected);
+    Ok(())
+}
+
+#[test]
+fn a_script_for_each_session(rt: HostRuntime) -> Result<(), Fail> {
+    let alloc = rt.alloc();
+    let script = "sync\nsession 2\nas 7 8\nsync\nsession 0\nsync\nsession 3\nsession 2\nsync\n";
+    let (setup, scripts) = parse_script(alloc, script.as_bytes())?.split(alloc)?;
+    let root = Cred::new(0, &[0], false)?;
+    let user = Cred::new(7, &[8], false)?;
+    let setup = setup.into_vec();
+    assert_eq!(rt;
+        setup.as_slice(),
+        [(root, Request::Sync), (user, Request::Sync)].as_slice()
+    );
+    assert_eq!(rt; scripts.len(), 3);
+    assert_eq!(rt; scripts[0].as_slice().len(), 0);
+    assert_eq!(rt;
+        scripts[1].as_slice(),
+        [(user, Request::Sync), (user, Request::Sync)].as_slice()
+    );
+    assert_eq!(rt; scripts[2].as_slice().len(), 0);
+    Ok(())
+}
+
+#[test]
+fn cleaner_lines_have_no_session(rt: HostRuntime) -> Result<(), Fail> {
+    let alloc = rt.alloc();
+    for line in [
+        "ifile\n",
+        "infos 0\n",
+        "bmapv\n",
+        "markv\n",
+        "segclean 1\n",
+        "pass\n",
+    ] {
+        let plan = parse_script(alloc, line.as_bytes())?;
+        assert_eq!(rt;
+            plan.split(alloc).err(),
+            Some(SplitFault::CleanerLine),
+            "{line}"
+        );
+    }
+    Ok(())
+}
