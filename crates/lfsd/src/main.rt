@@ -1,21 +1,13 @@
 //! A file server that runs a script: it reads lines of calls from standard input and prints the answer to each.
 #![tactic(auto)]
 
-mod caller;
-mod calls;
 mod fault;
-mod hex;
-mod number;
 mod options;
-mod plan;
-mod print;
 mod read;
 mod run;
-mod script;
 mod tell;
 #[cfg(test)]
 mod tests;
-mod words;
 
 use clap::error::ErrorKind;
 use fault::LinesFault;

@@ -1,18 +1,15 @@
 //! Running a script.
 
 use crate::fault::LinesFault;
-use crate::plan::Step;
-use crate::print::print_answer;
 use crate::read::read_script;
-use crate::script::parse_script;
+use lfs_text::plan::{Act, Plan, Step};
+use lfs_text::print::append_answer;
+use lfs_text::script::parse_script;
 use lfs_types::store::Params;
 use lfs_volume::flat_files::FlatFiles;
 use lfs_volume::volume::Volume;
 use std::alloc::Global;
 use std::io::{Read, Write};
-
-/// The session of every call.
-const SESSION: u8 = 0;
 
 /// Reads a script whole, parses it whole, runs its calls in order on a fresh volume, and writes the answer to each.
 pub fn run_lines<R: Read, W: Write>(
@@ -26,13 +23,21 @@ pub fn run_lines<R: Read, W: Write>(
         Ok(plan) => plan,
         Err(fault) => return Err(LinesFault::Script(fault)),
     };
+    if has_cleaner_line(&plan) {
+        return Err(LinesFault::CleanerLine);
+    }
     let mut volume = fresh_volume(alloc, params)?;
-    for Step { cred, request } in plan.steps {
-        let answer = volume.call(SESSION, &cred, request);
-        let Ok(line) = print_answer(alloc, SESSION, &answer) else {
-            return Err(LinesFault::Memory);
+    let mut line = Vec::new(alloc);
+    for Step { session, cred, act } in plan.into_steps() {
+        let Act::User(request) = act else {
+            continue;
         };
-        if writer.write_all(line.as_bytes()).is_err() {
+        let answer = volume.call(session, &cred, request);
+        line.clear();
+        if append_answer(&mut line, session, &answer).is_err() {
+            return Err(LinesFault::Memory);
+        }
+        if writer.write_all(line.as_slice()).is_err() {
             return Err(LinesFault::Write);
         }
     }
@@ -40,6 +45,14 @@ pub fn run_lines<R: Read, W: Write>(
         Ok(()) => Ok(()),
         Err(_) => Err(LinesFault::Write),
     }
+}
+
+/// Whether a line asks for a call of the cleaner, or for a pass, which the plain store has not.
+fn has_cleaner_line(plan: &Plan) -> bool {
+    plan.steps().iter().any(|step| match &step.act {
+        Act::User(_) => false,
+        Act::Cleaner(_) | Act::Pass => true,
+    })
 }
 
 /// A fresh volume over the plain store.

@@ -2,8 +2,8 @@
 
 mod arguments;
 mod cases;
-mod faults;
 mod rules;
+mod sizes;
 mod streams;
 mod texts;
 

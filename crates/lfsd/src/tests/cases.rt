@@ -1,8 +1,9 @@
 //! Worked scripts and the lines that they must print.
 
 use super::{expect, output, output_with};
-use crate::fault::{FaultKind, LinesFault, ScriptFault};
+use crate::fault::LinesFault;
 use crate::options::DEFAULTS;
+use lfs_text::fault::{FaultKind, ScriptFault};
 use lfs_types::store::Params;
 use std::alloc::{AllocError, Global};
 use std::test::Fail;

@@ -1,8 +1,9 @@
 //! Readers and writers that fail or never end.
 
-use crate::fault::{FaultKind, LinesFault, ScriptFault};
+use crate::fault::LinesFault;
 use crate::options::DEFAULTS;
 use crate::run::run_lines;
+use lfs_text::fault::{FaultKind, ScriptFault};
 use std::io;
 use std::io::{ErrorKind, Read, Write};
 use std::test::Fail;

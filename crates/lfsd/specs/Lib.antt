@@ -1,9 +1,0 @@
-pub mod BytesText
-pub mod Callers
-pub mod Calls
-pub mod FlagText
-pub mod LevelText
-pub mod Lines
-pub mod Numbers
-pub mod Plans
-pub mod Wording

@@ -1,0 +1,102 @@
+//! Scripts at the greatest sizes, lines of sessions, and lines that the program doesn't run.
+
+use super::{expect, output, output_with};
+use crate::fault::LinesFault;
+use crate::options::DEFAULTS;
+use crate::tell::tell;
+use lfs_types::store::Params;
+use std::alloc::AllocError;
+use std::test::Fail;
+
+/// Appends a text so many times.
+fn push_times(to: &mut String, text: &str, times: usize) -> Result<(), AllocError> {
+    for _ in 0..times {
+        to.push_str(text)?;
+    }
+    Ok(())
+}
+
+#[test]
+fn lines_of_sessions_run_in_their_order(rt: HostRuntime) -> Result<(), Fail> {
+    let script =
+        "create /a 0644\nsession 3\nas 5 5\nsync\nread /a 0 1\nsession 0\nsync\nwrite /a end 61\n";
+    let expected = "0 ok\n3 ok\n3 bytes -\n0 ok\n0 denied M2 EACCES 0 1\n";
+    expect(&rt, rt.alloc(), script, expected)
+}
+
+#[test]
+fn script_with_a_cleaner_line_is_refused(rt: HostRuntime) -> Result<(), Fail> {
+    for script in ["create /a 0644\npass\n", "ifile\n", "markv 4:1:0:9\n"] {
+        let fault = output(rt.alloc(), script).err();
+        assert_eq!(rt; fault, Some(LinesFault::CleanerLine));
+    }
+    let mut told = Vec::new(rt.alloc());
+    assert_eq!(rt; tell(&mut told, &LinesFault::CleanerLine), 1);
+    assert_eq!(rt; told.as_slice(), b"lfsd: cleaner line\n".as_slice());
+    Ok(())
+}
+
+#[test]
+fn read_serves_4096_bytes_at_most(rt: HostRuntime) -> Result<(), Fail> {
+    let alloc = rt.alloc();
+    let mut script = String::new(alloc);
+    script.push_str("create /a 0644\nwrite /a at 0 ")?;
+    push_times(&mut script, "6b", 4096)?;
+    script.push_str("\nwrite /a end 7a\nread /a 0 4096\nread /a 0 4294967295\nread /a 4096 9\n")?;
+    let mut expected = String::new(alloc);
+    expected.push_str("0 ok\n0 ok\n0 ok\n")?;
+    for _ in 0..2 {
+        expected.push_str("0 bytes ")?;
+        push_times(&mut expected, "6b", 4096)?;
+        expected.push('\n')?;
+    }
+    expected.push_str("0 bytes 7a\n")?;
+    expect(&rt, alloc, script.as_str(), expected.as_str())
+}
+
+#[test]
+fn list_of_280_names_of_251_bytes(rt: HostRuntime) -> Result<(), Fail> {
+    let alloc = rt.alloc();
+    let mut script = String::new(alloc);
+    let mut expected = String::new(alloc);
+    let mut names = String::new(alloc);
+    for k in 0..280u32 {
+        let mut name = String::new(alloc);
+        push_times(&mut name, "n", 248)?;
+        write!(name, "{k:03}")?;
+        writeln!(script, "create /{name} 0600")?;
+        write!(names, " {name}")?;
+        expected.push_str("0 ok\n")?;
+    }
+    script.push_str("list /\ncreate /x 0600\n")?;
+    write!(expected, "0 names{names}\n0 refused DirectoryFull\n")?;
+    let params = Params {
+        inodes: 512,
+        ..DEFAULTS
+    };
+    let written = output_with(alloc, script.as_str(), params)?;
+    assert_eq!(rt; written.as_slice(), expected.as_bytes());
+    Ok(())
+}
+
+#[test]
+fn list_of_4092_names(rt: HostRuntime) -> Result<(), Fail> {
+    let alloc = rt.alloc();
+    let mut script = String::new(alloc);
+    let mut expected = String::new(alloc);
+    let mut names = String::new(alloc);
+    for k in 0..4092u32 {
+        writeln!(script, "create /{k:04} 0600")?;
+        write!(names, " {k:04}")?;
+        expected.push_str("0 ok\n")?;
+    }
+    script.push_str("list /\ncreate /x 0600\n")?;
+    write!(expected, "0 names{names}\n0 refused NoInodes\n")?;
+    let params = Params {
+        inodes: 4096,
+        ..DEFAULTS
+    };
+    let written = output_with(alloc, script.as_str(), params)?;
+    assert_eq!(rt; written.as_slice(), expected.as_bytes());
+    Ok(())
+}
