@@ -1,0 +1,137 @@
+//! How large a run is.
+
+ghost use Rattle.std.specs.Prelude.{◌≤◌, ◌<◌};
+
+/// The most calls of a run before they grow.
+pub const CALLS_MAX: u32 = 65_536;
+
+/// How many times as large a run is as the first of its row.
+#[derive(Clone, Copy, PartialEq, Eq, Debug)]
+pub enum Factor {
+    /// As large.
+    One,
+    /// Four times as large.
+    Four,
+    /// Sixteen times as large.
+    Sixteen,
+}
+
+impl Factor {
+    /// The factors of a row, in order.
+    pub const ALL: [Factor; 3] = [Factor::One, Factor::Four, Factor::Sixteen];
+
+    /// The factor as a number.
+    fn number(self) -> u32
+        ensures least { 1 ≤ result }
+        ensures most { result ≤ 16 }
+    {
+        match self {
+            Factor::One => 1,
+            Factor::Four => 4,
+            Factor::Sixteen => 16,
+        }
+    }
+}
+
+/// What grows along a row of the table.
+#[derive(Clone, Copy, PartialEq, Eq, Debug)]
+pub enum Growth {
+    /// How many calls are timed.
+    Calls,
+    /// How many files lie in the directory.
+    Names,
+    /// How many components the path of the directory's files has.
+    Components,
+    /// How many bytes the file has that is read and written.
+    Bytes,
+    /// How many inode numbers the store has.
+    Inodes,
+    /// How many entries the journal has before the timed calls.
+    Entries,
+    /// How many frames the cache has.
+    Frames,
+}
+
+impl Growth {
+    /// What may grow in a volume and its calls.
+    pub const OF_VOLUMES: [Growth; 6] = [
+        Growth::Calls,
+        Growth::Names,
+        Growth::Components,
+        Growth::Bytes,
+        Growth::Inodes,
+        Growth::Entries,
+    ];
+
+    /// What may grow in a cache and its calls.
+    pub const OF_CACHES: [Growth; 2] = [Growth::Calls, Growth::Frames];
+
+    /// The word of the table.
+    pub fn name(self) -> &'static str {
+        match self {
+            Growth::Calls => "calls",
+            Growth::Names => "names",
+            Growth::Components => "components",
+            Growth::Bytes => "bytes",
+            Growth::Inodes => "inodes",
+            Growth::Entries => "entries",
+            Growth::Frames => "frames",
+        }
+    }
+}
+
+/// How large a run is.
+#[derive(Clone, Copy, PartialEq, Eq, Debug)]
+pub struct Scale {
+    /// How many calls are timed: at most 1,048,576.
+    pub calls: u32,
+    /// How many files lie in the directory: 15 to 240.
+    pub names: u32,
+    /// How many components the path of each of them has: 2 to 112.
+    pub components: u32,
+    /// How many bytes the first of them has: 4,096 to 65,536.
+    pub bytes: u32,
+    /// How many inode numbers the store has: 256 to 4,096.
+    pub inodes: u32,
+    /// How many entries the journal has before the timed calls, besides those that make the tree: 1,024 to 16,384.
+    pub entries: u32,
+    /// How many frames the cache has: 32 to 512.
+    pub frames: u32,
+    ghost bounded: { calls ≤ 1048576 },
+    ghost named: { 0 < names },
+    ghost filled: { 0 < bytes },
+    ghost framed: { 32 ≤ frames },
+    ghost within: { frames ≤ 1024 },
+}
+
+impl Scale {
+    /// The scale of so many calls along paths of so many components, of which one thing is grown.
+    pub fn grown(calls: u32, components: u32, growth: Growth, factor: Factor) -> Scale
+        requires few_calls { calls ≤ 65536 }
+        requires few_components { components ≤ 7 }
+    {
+        let times = |of: Growth| { if of == growth { factor.number() } else { 1 } };
+        Scale {
+            calls: calls * times(Growth::Calls),
+            names: 15 * times(Growth::Names),
+            components: components * times(Growth::Components),
+            bytes: 4096 * times(Growth::Bytes),
+            inodes: 256 * times(Growth::Inodes),
+            entries: 1024 * times(Growth::Entries),
+            frames: 32 * times(Growth::Frames),
+        }
+    }
+
+    /// How much there is of this.
+    pub fn of(&self, growth: Growth) -> u32 {
+        match growth {
+            Growth::Calls => self.calls,
+            Growth::Names => self.names,
+            Growth::Components => self.components,
+            Growth::Bytes => self.bytes,
+            Growth::Inodes => self.inodes,
+            Growth::Entries => self.entries,
+            Growth::Frames => self.frames,
+        }
+    }
+}
