@@ -1,0 +1,94 @@
+#!/usr/bin/env bash
+# Times the whole program, text in and text out, on generated scripts of users' calls: prints a row for each workload
+# that is named, or for all, with the nanoseconds a call in a directory of 15, 60 and 240 names, and the ratio of the
+# last to the first. The tree, the callers and the calls are those of lfs_bench. The time of the script without the
+# timed calls is taken away. Each time is the best of RUNS runs, by default 9. CALLS calls are timed, 1 to 10,000, by
+# default 10,000; of read-hot at most 1,000, and of write-4k 100, as a script has at most 1,048,576 bytes. PROGRAM names
+# a program that is built already.
+set -euo pipefail
+cd "$(dirname "$0")/.."
+
+runs=${RUNS:-9}
+calls=${CALLS:-10000}
+program=${PROGRAM:-crates/lfsd/out/lfsd}
+if [ -z "${PROGRAM:-}" ]; then
+    (cd crates/lfsd && "${RT:-rt}" run <../../scripts/first.lfs >/dev/null)
+fi
+room=$(mktemp -d)
+trap 'rm -r "$room"' EXIT
+
+# The script of a workload $1 with $2 names and $3 timed calls.
+script() {
+    awk -v load="$1" -v names="$2" -v calls="$3" '
+        function file(number) { return sprintf("%s/file%03d", dir, number) }
+        function bytes(count) { return sprintf("%0*d", 2 * count, 0) }
+        function call(load, i) {
+            if (load == "stat-deep") print "stat " file(i % names)
+            else if (load == "read-hot") print "read " file(0) " 0 4096"
+            else if (load == "write-4k") print "write " file(0) " at 0 " bytes(4096)
+            else if (load == "write-small") print "write " file(0) " at " 16 * i % 4096 " " bytes(16)
+            else if (load == "create-unlink") print i % 2 ? "unlink " dir "/made" : "create " dir "/made 0644"
+            else if (load == "rename") print "rename " (i % 2 ? dir "/moved " file(0) : file(0) " " dir "/moved")
+            else if (load == "list-large") print "list " dir
+            else if (load == "deny") print "write " file(0) " at " 16 * i % 4096 " " bytes(16)
+            else if (i % 8 == 0) call("stat-deep", i)
+            else if (i % 8 == 1) call("read-hot", i)
+            else if (i % 8 == 2) call("write-small", i)
+            else if (i % 8 == 3) print "create " dir "/made 0644"
+            else if (i % 8 == 4) print "rename " dir "/made " dir "/moved"
+            else if (i % 8 == 5) call("list-large", i)
+            else if (i % 8 == 6) { print "as 2000 2000"; call("deny", i); print "as 1000 1000" }
+            else print "unlink " dir "/moved"
+        }
+        BEGIN {
+            print "as 0 0\nmkdir /dir 0755\nchown /dir 1000 1000\nas 1000 1000"
+            dir = "/dir"
+            depth = load == "stat-deep" || load == "deny" ? 7 : 2
+            for (at = 2; at < depth; at++) { dir = dir "/dir"; print "mkdir " dir " 0755" }
+            for (number = 0; number < names; number++) print "create " file(number) " 0644"
+            print "write " file(0) " end " bytes(4096)
+            if (load == "deny") print "as 2000 2000"
+            for (i = 0; i < calls; i++) call(load, i)
+        }'
+}
+
+# The microseconds of the program on a script $1, at best.
+best() {
+    local least= run start end
+    for ((run = 0; run < runs; run++)); do
+        start=${EPOCHREALTIME/./}
+        "$program" --inodes 512 --journal 100000 <"$1" >/dev/null
+        end=${EPOCHREALTIME/./}
+        if [ -z "$least" ] || [ $((end - start)) -lt "$least" ]; then
+            least=$((end - start))
+        fi
+    done
+    echo "$least"
+}
+
+# The nanoseconds of a call of workload $1 in a directory of $2 names.
+nanoseconds() {
+    local timed=$calls most=10000 before whole
+    case $1 in
+        read-hot) most=1000 ;;
+        write-4k) most=100 ;;
+    esac
+    if [ "$timed" -gt "$most" ]; then
+        timed=$most
+    fi
+    script "$1" "$2" 0 >"$room/before"
+    script "$1" "$2" "$timed" >"$room/whole"
+    before=$(best "$room/before")
+    whole=$(best "$room/whole")
+    echo $(((whole - before) * 1000 / timed))
+}
+
+[ $# -gt 0 ] || set -- stat-deep read-hot write-4k write-small create-unlink rename list-large deny mixed
+echo "| Workload | 15 names | 60 names | 240 names | Ratio |"
+echo "|---|---|---|---|---|"
+for load; do
+    few=$(nanoseconds "$load" 15)
+    more=$(nanoseconds "$load" 60)
+    many=$(nanoseconds "$load" 240)
+    echo "| $load, text | $few | $more | $many | $(awk -v a="$few" -v b="$many" 'BEGIN { printf "%.2f", b / a }') |"
+done
