@@ -1,0 +1,90 @@
+-- What the record of a number is, and the bytes that wait.
+use Rattle.std.proofs.Common.{◌≡◌, ◌≢◌, ℕ, ◌-◌, ◌<◌, ◌≤◌, List, [], ◌∷◌, length, Option, None, Some, option_map, option_and_then, refl, sym, ap, ◌∙◌, subst, arith}
+use Rattle.std.specs.Prelude.{slice_index}
+use Rattle.std.proofs.lemmas.List.{get_or_append_left, get_or-append_right}
+use Rattle.lfs_inodes.specs.Addresses.{addresses, cells}
+use Rattle.lfs_ways.specs.Reading.{address, bytes_via}
+use Rattle.lfs_ways.specs.Ways.{data_way}
+use Rattle.lfs_ways.proofs.ReadingLemmas.{address-cell, table-root, table-read, read-via}
+use Rattle.lfs_ifile.specs.declared.inode.InodePlace.{InodePlace}
+use Rattle.lfs_ifile.specs.Tables.{place_of}
+use Rattle.lfs_inodes.specs.declared.inode.Inode.{Inode}
+use Rattle.lfs_inodes.specs.Reading.{Fields, fields_of}
+use Rattle.lfs_cache.specs.declared.key.Key.{Key}
+use Rattle.lfs_cache.specs.Contents.{Contents, block_in, block_of, or_else}
+use Rattle.lfs_ways.specs.Blocks.{code_of, way_to}
+use Rattle.lfs_ways.specs.Ways.{code_at}
+use Rattle.lfs_ways.specs.declared.blocks.FileBlock.{FileBlock}
+use Rattle.lfs_ways.proofs.WayLemmas.{way_of-code_of, code_at-way_of, data_way-direct, data_way-single}
+use Rattle.lfs_landing.specs.declared.parts.Parts.{Parts}
+use Rattle.lfs_landing.specs.View.{record_of, record_at, waiting_in, waiting_or, key_of, tree_from}
+
+-- the code at the end of a block's way is the block's
+pub code_at-way_to : (block : FileBlock) → code_at (way_to block) ≡ code_of block
+code_at-way_to block = ap code_at (sym (way_of-code_of block)) ∙ code_at-way_of (code_of block)
+
+or_none : (o : Option (List ℕ)) → or_else o None ≡ o
+or_none None = refl
+or_none (Some b) = refl
+
+-- where no clean block is held, what is held for a key waits
+pub held_waits : (key : Key) (c : Contents) → c.lru ≡ [] → block_of key c ≡ block_in key c.locked
+held_waits key c none =
+    ap (λ es. or_else (block_in key c.locked) (block_in key es)) none ∙ or_none (block_in key c.locked)
+
+-- a number that isn't in use has no record
+pub record_of-unused : (p : Parts) (number : ℕ) → place_of p.ifile number ≡ None → record_of p number ≡ None
+unfolding record_of
+record_of-unused p number h =
+    ap (option_and_then (λ (place : InodePlace). waiting_or (waiting_in p.waiting.items number) (record_at p.segments place))) h
+
+-- one in use has the record that waits
+pub record_of-waiting : (p : Parts) (number : ℕ) (place : InodePlace) (v : Inode) → place_of p.ifile number ≡ Some place
+    → waiting_in p.waiting.items number ≡ Some v → record_of p number ≡ Some (fields_of v)
+unfolding record_of
+record_of-waiting p number place v used waits =
+    ap (option_and_then (λ (place : InodePlace). waiting_or (waiting_in p.waiting.items number) (record_at p.segments place))) used
+    ∙ ap (λ w. waiting_or w (record_at p.segments place)) waits
+
+-- or else the one in the log
+pub record_of-logged : (p : Parts) (number : ℕ) (place : InodePlace) → place_of p.ifile number ≡ Some place
+    → waiting_in p.waiting.items number ≡ None → record_of p number ≡ record_at p.segments place
+unfolding record_of
+record_of-logged p number place used waits =
+    ap (option_and_then (λ (place : InodePlace). waiting_or (waiting_in p.waiting.items number) (record_at p.segments place))) used
+    ∙ ap (λ w. waiting_or w (record_at p.segments place)) waits
+
+-- what is held for a block of a file waits for it
+pub tree_waits : (p : Parts) (v : Inode) (block : FileBlock) (lbn : ℕ) (o : Option (List ℕ)) → p.cache.lru ≡ [] → lbn ≡ code_of block
+    → o ≡ block_of (key_of v.number v.version lbn) p.cache → (tree_from p v).waits (way_to block) ≡ o
+tree_waits p v block lbn o none code held =
+    let same : code_at (way_to block) ≡ lbn = code_at-way_to block ∙ sym code in
+    ap (λ k. block_in (key_of v.number v.version k) p.cache.locked) same ∙ sym (held_waits (key_of v.number v.version lbn) p.cache none) ∙ sym held
+
+-- what isn't there
+pub no_some : {A : Type 0} (o : Option A) → ((x : A) → o ≡ Some x → ⊥) → o ≡ None
+no_some None h = refl
+no_some (Some x) h = absurd (h x refl)
+
+-- the addresses of a file's blocks: in the record, or in the single indirect block
+root_cell : (p : Parts) (v : Inode) (i : ℕ) → address (tree_from p v) (i ∷ []) ≡ slice_index (addresses v) i
+root_cell p v i =
+    address-cell (tree_from p v) i [] ∙ ap (λ ys. slice_index ys i) (table-root (tree_from p v))
+
+pub single-address : (p : Parts) (v : Inode) → address (tree_from p v) (12 ∷ []) ≡ v.single
+single-address p v =
+    root_cell p v 12 ∙ get_or-append_right v.direct (v.single ∷ []) 12 12 0 v.whole (omega arith)
+
+pub direct-address : (p : Parts) (v : Inode) (n : ℕ) → n < 12 → address (tree_from p v) (data_way n) ≡ slice_index v.direct n
+direct-address p v n low =
+    let inside : n < length v.direct = omega (arith, v.whole) in
+    ap (address (tree_from p v)) (data_way-direct n low) ∙ root_cell p v n ∙ get_or_append_left v.direct (v.single ∷ []) 0 n inside
+
+pub indirect-address : (p : Parts) (v : Inode) (n : ℕ) → 12 ≤ n → n < 140
+    → address (tree_from p v) (data_way n) ≡ slice_index (cells (bytes_via (tree_from p v) (12 ∷ []) v.single)) (n - 12)
+indirect-address p v n high low =
+    let t = tree_from p v in
+    ap (address t) (data_way-single n high low) ∙ address-cell t (n - 12) (12 ∷ [])
+    ∙ ap (λ ys. slice_index ys (n - 12)) (table-read t 12 [])
+    ∙ ap (λ b. slice_index (cells b) (n - 12)) (read-via t (12 ∷ []))
+    ∙ ap (λ a. slice_index (cells (bytes_via t (12 ∷ []) a)) (n - 12)) (single-address p v)

@@ -1,0 +1,4 @@
+pub mod Files
+pub mod Keys
+pub mod Store
+pub mod View
