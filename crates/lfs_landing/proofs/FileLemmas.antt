@@ -1,15 +1,17 @@
 -- What the parts contain at a number, and what a file shows.
-use Rattle.std.proofs.Common.{◌≡◌, ◌≢◌, ℕ, zero, suc, ◌<◌, ◌≤◌, List, length, get_or, Option, None, Some, option_map, refl, sym, ap, ◌∙◌, subst, inl, inr, arith}
+use Rattle.std.proofs.Common.{◌≡◌, ◌≢◌, ℕ, zero, suc, ◌<◌, ◌≤◌, [], length, Option, None, Some, option_map, is_some, IsSome, true, false, refl, sym, ap, ◌∙◌, inl, inr, arith}
 use Rattle.std.specs.Ordering.{nat_cmp}
 use Rattle.std.specs.FinMap as map
 use Rattle.std.specs.FinMap.{get-empty}
-use Rattle.std.proofs.lemmas.Bool.{cases_lt}
+use Rattle.std.specs.Prelude.{IfSome, IfNone}
+use Rattle.std.proofs.lemmas.Bool.{cases_lt, cond-false}
 use Rattle.std.proofs.lemmas.List.{get_or_past}
 use Rattle.lfs_types.specs.Tree.{File, Content, attrs_of}
-use Rattle.lfs_types.specs.Stored.{shown_attrs, bytes_of, bytes_of_file}
+use Rattle.lfs_types.specs.Stored.{IsLeastFree, shown_attrs, bytes_of, bytes_of_file}
 use Rattle.lfs_types.proofs.Maps.{get-insert_same, get-insert_other}
 use Rattle.lfs_ifile.specs.Inode.{fresh_row, place_in}
-use Rattle.lfs_ifile.specs.Tables.{place_of}
+use Rattle.lfs_ifile.specs.Tables.{place_of, row_of}
+use Rattle.lfs_ifile.specs.Tables as tables
 use Rattle.lfs_inodes.specs.declared.inode.Inode.{Inode}
 use Rattle.lfs_inodes.specs.Addresses.{addresses}
 use Rattle.lfs_inodes.specs.Attributes.{stat_of}
@@ -19,7 +21,7 @@ use Rattle.lfs_ways.specs.Reading.{Tree, data_block}
 use Rattle.lfs_ways.proofs.PieceLemmas.{file_bytes-length}
 use Rattle.lfs_landing.specs.declared.parts.Parts.{Parts}
 use Rattle.lfs_landing.specs.Files.{file_with, file_at, with_file, content_below, content_of}
-use Rattle.lfs_landing.specs.Store.{IsFile}
+use Rattle.lfs_landing.specs.Store.{AreFiles, IsFile}
 use Rattle.lfs_landing.specs.View.{record_of, tree_from, tree_of, tree_with, root_in, version_of}
 use Rattle.lfs_landing.proofs.ViewLemmas.{record_of-unused}
 
@@ -100,3 +102,38 @@ tree_from-of p number v h file =
     ap (λ n. tree_with p n v.version (addresses v)) file.own_number
     ∙ ap (λ n. tree_with p number n (addresses v)) file.own_version
     ∙ ap (λ r. tree_with p number (version_of p number) (root_in r)) (sym h)
+
+-- the record that a call gives is the number's
+pub given_record : (p : Parts) (number : ℕ) (o : Option Inode) (v : Inode) → option_map fields_of o ≡ record_of p number → o ≡ Some v
+    → record_of p number ≡ Some (fields_of v)
+given_record p number o v h is = sym h ∙ ap (option_map fields_of) is
+
+-- ---- which numbers are free
+some_mapped : {A B : Type 0} (f : A → B) (o : Option A) → is_some (option_map f o) ≡ is_some o
+some_mapped f None = refl
+some_mapped f (Some x) = refl
+
+-- a number in use has a file
+pub used_shown : (p : Parts) (number : ℕ) → AreFiles p → (row_of p.ifile number).used ≡ true → IsSome (map.get (content_of p) number)
+used_shown p number files used =
+    ap is_some (get-content_of p number ∙ file_at-record p number) ∙ some_mapped (file_with (tree_of p number)) (record_of p number)
+    ∙ files.recorded number used
+
+-- and another one has none
+pub free_place : (p : Parts) (number : ℕ) → (row_of p.ifile number).used ≡ false → place_of p.ifile number ≡ None
+free_place p number free = cond-false _ _ _ free
+
+pub free_shown : (p : Parts) (number : ℕ) → (row_of p.ifile number).used ≡ false → map.get (content_of p) number ≡ None
+free_shown p number free =
+    get-content_of p number ∙ file_at-none p number (record_of-unused p number (free_place p number free))
+
+-- so the least free number of the inode map is that of the content
+pub least_shown : (p : Parts) (o : Option ℕ) → AreFiles p → IfSome o (tables.IsLeastFree p.ifile.rows)
+    → IfNone o (tables.AreUsed p.ifile.rows 4 (length p.ifile.rows)) → IsLeastFree (length p.ifile.rows) (content_of p) o
+least_shown p None files some none = λ number low high. used_shown p number files (none number low high)
+least_shown p (Some n) files some none =
+    (some.from_first, some.in_range, free_shown p n some.unused, λ number low high. used_shown p number files (some.used_below number low high))
+
+-- a number that isn't in use has no bytes
+pub bytes_of-none : (p : Parts) (number : ℕ) → record_of p number ≡ None → bytes_of (content_of p) number ≡ []
+bytes_of-none p number h = ap bytes_of_file (get-content_of p number ∙ file_at-none p number h)

@@ -1,2 +1,4 @@
 pub mod FileLemmas
+pub mod KeyLemmas
+pub mod ReadLemmas
 pub mod ViewLemmas

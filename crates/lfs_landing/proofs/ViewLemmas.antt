@@ -1,17 +1,19 @@
 -- What the record of a number is, and the bytes that wait.
-use Rattle.std.proofs.Common.{◌≡◌, ◌≢◌, ℕ, ◌-◌, ◌<◌, ◌≤◌, List, [], ◌∷◌, length, Option, None, Some, option_map, option_and_then, refl, sym, ap, ◌∙◌, subst, arith}
+use Rattle.std.proofs.Common.{◌≡◌, ℕ, ◌-◌, ◌<◌, ◌≤◌, List, [], ◌∷◌, length, Option, None, Some, option_and_then, is_some, refl, sym, ap, ◌∙◌, arith}
 use Rattle.std.specs.Prelude.{slice_index}
 use Rattle.std.proofs.lemmas.List.{get_or_append_left, get_or-append_right}
 use Rattle.lfs_inodes.specs.Addresses.{addresses, cells}
-use Rattle.lfs_ways.specs.Reading.{address, bytes_via}
+use Rattle.lfs_types.specs.Blocks.{zero_block}
+use Rattle.lfs_inodes.proofs.ZeroedLemmas.{slice_index-cells_zero_block}
+use Rattle.lfs_ways.specs.Reading.{Tree, address, bytes_via, read}
 use Rattle.lfs_ways.specs.Ways.{data_way}
-use Rattle.lfs_ways.proofs.ReadingLemmas.{address-cell, table-root, table-read, read-via}
+use Rattle.lfs_ways.proofs.ReadingLemmas.{address-cell, address-root, table-root, table-read, read-via, via-none}
 use Rattle.lfs_ifile.specs.declared.inode.InodePlace.{InodePlace}
 use Rattle.lfs_ifile.specs.Tables.{place_of}
 use Rattle.lfs_inodes.specs.declared.inode.Inode.{Inode}
-use Rattle.lfs_inodes.specs.Reading.{Fields, fields_of}
+use Rattle.lfs_inodes.specs.Reading.{fields_of}
 use Rattle.lfs_cache.specs.declared.key.Key.{Key}
-use Rattle.lfs_cache.specs.Contents.{Contents, block_in, block_of, or_else}
+use Rattle.lfs_cache.specs.Contents.{Contents, block_in, IsLocked, block_of, or_else}
 use Rattle.lfs_ways.specs.Blocks.{code_of, way_to}
 use Rattle.lfs_ways.specs.Ways.{code_at}
 use Rattle.lfs_ways.specs.declared.blocks.FileBlock.{FileBlock}
@@ -88,3 +90,22 @@ indirect-address p v n high low =
     ∙ ap (λ ys. slice_index ys (n - 12)) (table-read t 12 [])
     ∙ ap (λ b. slice_index (cells b) (n - 12)) (read-via t (12 ∷ []))
     ∙ ap (λ a. slice_index (cells (bytes_via t (12 ∷ []) a)) (n - 12)) (single-address p v)
+
+-- ---- a file without blocks
+-- where the record has no address and nothing waits, no block has one
+pub nowhere : (t : Tree) → ((i : ℕ) → slice_index t.root i ≡ 0) → ((way : List ℕ) → t.waits way ≡ None) → (way : List ℕ) → address t way ≡ 0
+nowhere t root waits [] = address-root t
+nowhere t root waits (i ∷ []) = address-cell t i [] ∙ ap (λ ys. slice_index ys i) (table-root t) ∙ root i
+nowhere t root waits (i ∷ j ∷ up) =
+    address-cell t i (j ∷ up) ∙ ap (λ ys. slice_index ys i) (table-read t j up)
+    ∙ ap (λ b. slice_index (cells b) i) (read-via t (j ∷ up) ∙ ap (bytes_via t (j ∷ up)) (nowhere t root waits (j ∷ up)) ∙ via-none t (j ∷ up) (waits (j ∷ up)))
+    ∙ slice_index-cells_zero_block i
+
+-- and each reads as zeros
+pub all_zeros : (t : Tree) → ((i : ℕ) → slice_index t.root i ≡ 0) → ((way : List ℕ) → t.waits way ≡ None) → (way : List ℕ) → read t way ≡ zero_block
+all_zeros t root waits way =
+    read-via t way ∙ ap (bytes_via t way) (nowhere t root waits way) ∙ via-none t way (waits way)
+
+-- ---- what waits
+pub not_locked : (key : Key) (c : Contents) → (IsLocked key c → ⊥) → block_in key c.locked ≡ None
+not_locked key c free = no_some (block_in key c.locked) (λ b e. free (ap is_some e))

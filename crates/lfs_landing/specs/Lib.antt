@@ -1,4 +1,5 @@
 pub mod Files
+pub mod Filling
 pub mod Keys
 pub mod Store
 pub mod View

@@ -1,5 +1,5 @@
 -- What holds of the parts of a store.
-use Rattle.std.specs.Prelude.{◌≡◌, ◌≢◌, ℕ, ◌<◌, ◌≤◌, List, [], Option, Some, IsSome, true, false, All}
+use Rattle.std.specs.Prelude.{◌≡◌, ◌≢◌, ℕ, ◌<◌, ◌≤◌, [], Some, IsSome, true, false, All}
 use Rattle.lfs_types.specs.declared.limits.TheConstants.{FILE_BLOCKS, FIRST_INODE, ROOT_INODE}
 use Rattle.lfs_segments.specs.Log.{Expects}
 use Rattle.lfs_segments.specs.Memory.{IsLaidOut}

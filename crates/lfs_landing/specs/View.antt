@@ -1,16 +1,15 @@
 -- What the parts of a store say of a file: its record, the addresses of its blocks, their bytes.
-use Rattle.std.specs.Prelude.{◌≡◌, ℕ, ◌+◌, ◌*◌, ◌<◌, List, [], Option, Some, None, ◌==◌, find, option_map, option_and_then, length}
-use Rattle.arrayvec.specs.declared.array_vec.ArrayVec.{ArrayVec}
+use Rattle.std.specs.Prelude.{◌≡◌, ℕ, ◌*◌, ◌<◌, List, [], Option, Some, None, ◌==◌, find, option_and_then, length}
 use Rattle.lfs_types.specs.declared.limits.TheConstants.{SEGMENT_BLOCKS}
 use Rattle.lfs_segments.specs.Memory.{SegmentMemory, block_at}
 use Rattle.lfs_ifile.specs.declared.inode.InodePlace.{InodePlace}
-use Rattle.lfs_ifile.specs.Tables.{Tables, row_of, place_of}
+use Rattle.lfs_ifile.specs.Tables.{row_of, place_of}
 use Rattle.lfs_inodes.specs.declared.inode.Inode.{Inode}
 use Rattle.lfs_inodes.specs.Addresses.{addresses}
 use Rattle.lfs_inodes.specs.Reading.{Fields, fields_of, fields_in}
 use Rattle.lfs_inodes.specs.Slots.{slot_of}
 use Rattle.lfs_cache.specs.declared.key.Key.{Key}
-use Rattle.lfs_cache.specs.Contents.{Contents, block_in}
+use Rattle.lfs_cache.specs.Contents.{block_in}
 use Rattle.lfs_ways.specs.Blocks.{IsFileBlock, way_to}
 use Rattle.lfs_ways.specs.Reading.{Tree, address}
 use Rattle.lfs_ways.specs.Ways.{code_at}

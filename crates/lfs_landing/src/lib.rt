@@ -2,5 +2,7 @@
 //! blocks and their bytes, read through what waits to be written.
 #![tactic(auto)]
 
+pub mod files;
+pub mod keys;
 pub mod parts;
 pub mod reading;

@@ -1,8 +1,10 @@
 //! Reading a file's blocks through what waits to be written.
 
-ghost use Rattle.std.specs.Prelude.{◌≡◌, ◌<◌};
+ghost use Rattle.std.specs.Prelude.{◌≡◌, ◌+◌, ◌<◌, ◌≤◌, length};
+ghost use Rattle.lfs_types.specs.Stored.{slice_of};
 ghost use Rattle.lfs_ways.specs.Blocks.{IsFileBlock, way_to};
-ghost use Rattle.lfs_ways.specs.Reading.{address, bytes_via, read};
+ghost use Rattle.lfs_ways.specs.Pieces.{IsPadded, file_bytes};
+ghost use Rattle.lfs_ways.specs.Reading.{address, bytes_via, data_block, read};
 ghost use Rattle.lfs_landing.specs.View.{IsReadable, LiesIn, blocks_of, tree_from};
 
 use crate::parts::Parts;
@@ -11,6 +13,7 @@ use lfs_inodes::addresses::entry;
 use lfs_inodes::inode::Inode;
 use lfs_types::block::{Block, ZERO_BLOCK};
 use lfs_ways::blocks::{DIRECT_BLOCKS, FileBlock};
+use lfs_ways::pieces::{blocks_touched, get_piece};
 
 impl Parts {
     /// The bytes of a block of a file that has this address: those that wait to be written, else those
@@ -59,5 +62,22 @@ impl Parts {
         ensures { result.now ≡ read (tree_from self.now inode.now) (way_to block) }
     {
         self.bytes_via(inode, block, self.address_of(inode, block))
+    }
+
+    /// Fills a buffer with the bytes of a file from `off` on, which all lie below its size.
+    pub fn read_blocks(&self, inode: &Inode, off: u64, into: &mut [u8])
+        requires readable { IsReadable self.now }
+        requires inside { LiesIn (blocks_of self.now) (tree_from self.now inode.now) }
+        requires padded { IsPadded (data_block (tree_from self.now inode.now)) inode.now.size }
+        requires below { off + length into.old ≤ inode.now.size }
+        ensures { into.new ≡ slice_of
+            (file_bytes (data_block (tree_from self.now inode.now)) inode.now.size)
+            off (length into.old) }
+    {
+        let touched = blocks_touched(off, off + into.len() as u64);
+        for index in touched.start..touched.end {
+            let block = self.block_of(inode, FileBlock::Data(index));
+            get_piece(block, index, off, into);
+        }
     }
 }

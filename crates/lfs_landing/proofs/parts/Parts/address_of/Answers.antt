@@ -1,11 +1,10 @@
-use Rattle.std.proofs.Common.{◌≡◌, ◌<◌, ◌-◌, List, ℕ, ◌∷◌, [], refl, sym, ap, ◌∙◌, subst, arith}
+use Rattle.std.proofs.Common.{◌≡◌, ◌<◌, ◌-◌, sym, ap, ◌∙◌, subst, arith}
 use Rattle.std.specs.Prelude.{slice_index}
-use Rattle.lfs_inodes.specs.Addresses.{addresses, cells}
+use Rattle.lfs_inodes.specs.Addresses.{cells}
 use Rattle.lfs_ways.specs.Blocks.{IsFileBlock, way_to}
-use Rattle.lfs_ways.specs.Reading.{address, bytes_via}
-use Rattle.lfs_ways.specs.declared.blocks.FileBlock.TheVariants.{Record, Single, Data}
-use Rattle.lfs_ways.proofs.ReadingLemmas.{address-root, address-cell, table-root}
-use Rattle.lfs_ways.proofs.WayLemmas.{data_way-direct, data_way-single}
+use Rattle.lfs_ways.specs.Reading.{address}
+use Rattle.lfs_ways.specs.declared.blocks.FileBlock.TheVariants.{Single}
+use Rattle.lfs_ways.proofs.ReadingLemmas.{address-root}
 use Rattle.lfs_landing.specs.View.{blocks_of, tree_from}
 use Rattle.lfs_landing.proofs.ViewLemmas.{single-address, direct-address, indirect-address}
 use Rattle.lfs_landing.proofs.parts.Parts.address_of.Goals as goal

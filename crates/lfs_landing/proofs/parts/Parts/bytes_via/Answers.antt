@@ -1,4 +1,4 @@
-use Rattle.std.proofs.Common.{◌≡◌, List, ℕ, Option, Some, None, option_copied, refl, sym, ap, ◌∙◌}
+use Rattle.std.proofs.Common.{Some, None, option_copied, sym, ap, ◌∙◌}
 use Rattle.lfs_types.specs.Blocks.{zero_block}
 use Rattle.lfs_ways.proofs.ReadingLemmas.{via-waits, via-log, via-none}
 use Rattle.lfs_ways.specs.Blocks.{way_to}
