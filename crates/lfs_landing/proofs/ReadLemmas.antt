@@ -66,7 +66,7 @@ read_front bytes off count old new is front =
       filled = ap (λ xs. xs ++ drop count old) part ∙ ap (λ n. take (length old) (drop off bytes) ++ drop n old) (sym long);
     }
 
-no_bytes : (xs : List ℕ) → length xs ≡ 0 → xs ≡ []
+pub no_bytes : (xs : List ℕ) → length xs ≡ 0 → xs ≡ []
 no_bytes [] h = refl
 no_bytes (x ∷ xs) h = absurd (omega arith)
 

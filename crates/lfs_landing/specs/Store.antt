@@ -15,6 +15,8 @@ use Rattle.lfs_ways.specs.Log.{IsLog}
 use Rattle.lfs_ways.specs.Pieces.{IsPadded}
 use Rattle.lfs_ways.specs.Reading.{address, data_block}
 use Rattle.lfs_ways.specs.Ways.{data_way}
+use Rattle.std.specs.Vec.{vec_capacity}
+use Rattle.lfs_landing.specs.declared.parts.TheConstants.{WAITING_LIMIT}
 use Rattle.lfs_landing.specs.declared.parts.Parts.{Parts}
 use Rattle.lfs_landing.specs.Keys.{log_state}
 use Rattle.lfs_landing.specs.View.{IsReadable, record_of, tree_of, version_of}
@@ -46,6 +48,7 @@ pub record AreFiles (p : Parts) : Type 0 where
   pub files : (number : ℕ) (f : Fields) → record_of p number ≡ Some f → IsFile p number f
   pub records : All (λ (v : Inode). IsPresent p v.number v.version) p.waiting.items
   pub frames : (key : Key) → IsLocked key p.cache → IsPresent p key.ino key.version
+  pub room : WAITING_LIMIT ≤ vec_capacity p.waiting
   pub coded : (key : Key) → IsLocked key p.cache → (1 ≤ key.lbn) × (key.lbn < BLOCK_CODES)
 
 -- What holds between the calls of a store: of its files, of its log, which goes on with a summary.

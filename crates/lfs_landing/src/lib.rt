@@ -3,6 +3,7 @@
 #![tactic(auto)]
 
 pub mod files;
+mod format;
 pub mod keys;
 pub mod parts;
 pub mod reading;

@@ -4,7 +4,6 @@ ghost use Rattle.std.specs.Prelude.{◌≡◌, ◌<◌, length, option_map};
 ghost use Rattle.lfs_inodes.specs.Reading.{fields_of};
 ghost use Rattle.lfs_landing.specs.View.{IsReadable, record_of, waiting_in};
 
-use arrayvec::ArrayVec;
 use lfs_cache::Cache;
 use lfs_ifile::Ifile;
 use lfs_inodes::inode::Inode;
@@ -24,8 +23,8 @@ pub struct Parts {
     pub ifile: Ifile,
     /// The blocks that wait to be written.
     pub cache: Cache,
-    /// The inode records that wait to be written.
-    pub waiting: ArrayVec<Inode, WAITING_LIMIT>,
+    /// The inode records that wait to be written, of which it has room for `WAITING_LIMIT`.
+    pub waiting: Vec<Inode>,
     /// How many segments are clean.
     pub clean: u32,
 }
