@@ -4,8 +4,10 @@
 //! profile; after the 1993 paper on the log-structured file system for UNIX).
 #![tactic(auto)]
 
+mod infos;
 mod live;
 mod log;
+pub mod packing;
 mod writing;
 
 pub use log::Log;
