@@ -1,12 +1,17 @@
 -- What the log names at a place, as the log is written and a segment is opened.
-use Rattle.std.proofs.Common.{◌≡◌, ◌≢◌, ℕ, ◌+◌, ◌*◌, ◌/◌, ◌%◌, ◌<◌, ◌≤◌, inl, inr, length, subst, refl, sym, ap, ◌∙◌, ⊎_elim, arith}
+use Rattle.std.proofs.Common.{◌≡◌, ◌≢◌, ℕ, ◌+◌, ◌*◌, ◌/◌, ◌%◌, ◌<◌, ◌≤◌, inl, inr, List, Option, Some, None, option_and_then, length, subst, refl, sym, ap, ◌∙◌, ⊎_elim, arith}
 use Rattle.std.proofs.lemmas.Bool.{cases_eq, cases_lt}
 use Rattle.lfs_segments.specs.Log.{Extends, IsOlder, entry_at}
 use Rattle.lfs_segments.specs.Memory.{IsLaidOut, SegmentMemory, block_at, next_address, opened, room_of}
 use Rattle.lfs_segments.proofs.WritingLemmas.{block_at-opened_apart, entry_at-opened_other}
-use Rattle.lfs_ways.specs.Counting.{seg_of}
+use Rattle.lfs_ways.specs.Counting.{place_of, seg_of}
 use Rattle.lfs_ways.specs.Log.{Opens, Writes}
-use Rattle.lfs_ways.proofs.OwnerLemmas.{owner_at-kept}
+use Rattle.lfs_ways.proofs.OwnerLemmas.{owner_at-block, owner_at-kept, owner_at-record}
+use Rattle.lfs_ways.specs.Blocks.{code_of, logical_of}
+use Rattle.lfs_ways.specs.Owners.{owner_at, owner_in}
+use Rattle.lfs_ways.specs.declared.blocks.FileBlock.{FileBlock}
+use Rattle.lfs_segments.specs.declared.entry.SummaryEntry.{SummaryEntry}
+use Rattle.lfs_segments.specs.declared.entry.LogicalBlock.TheVariants.{Inodes}
 use Rattle.lfs_log.specs.Names.{named_at, record_at, record_in}
 use Rattle.lfs_ifile.specs.declared.segment.SegState.TheVariants.{Clean}
 use Rattle.lfs_ifile.specs.Tables.{IsIfile, Tables, row_of}
@@ -87,3 +92,32 @@ IsParts-written p q h laid segments active tables clean = record {
       h.no_other s (subst (λ n. s < n) segments below) (sym (ap (λ (t : Tables). state_of t s) tables) ∙ is) ∙ sym active;
   counted = clean ∙ h.counted ∙ ap (λ (t : Tables). clean_count t p.memory.segments) (sym tables) ∙ ap (clean_count q.tables) (sym segments);
 }
+
+-- Where the log has an entry for an address, it names the units of the block there as the entry says.
+pub named_at-entry : (m : SegmentMemory) (address slot : ℕ) (e : SummaryEntry) (block : List ℕ) → slot < 4 → entry_at m address ≡ Some e → block_at m address ≡ block
+    → named_at m (4 * address + slot) ≡ owner_in e.block e.number e.version slot (record_in block slot)
+unfolding named_at owner_at
+named_at-entry m address slot e block low named at =
+    let address_is : (4 * address + slot) / 4 ≡ address = omega arith in
+    let unit : (4 * address + slot) % 4 ≡ slot = omega arith in
+    ap (λ a. option_and_then (λ (x : SummaryEntry). owner_in x.block x.number x.version ((4 * address + slot) % 4) (record_at m a ((4 * address + slot) % 4))) (entry_at m a)) address_is
+    ∙ ap (λ s. option_and_then (λ (x : SummaryEntry). owner_in x.block x.number x.version s (record_at m address s)) (entry_at m address)) unit
+    ∙ ap (option_and_then (λ (x : SummaryEntry). owner_in x.block x.number x.version slot (record_at m address slot))) named
+    ∙ ap (λ b. owner_in e.block e.number e.version slot (record_in b slot)) at
+
+-- a block of a file has its place at four times its address
+pub named_at-block : (m : SegmentMemory) (address number version : ℕ) (block : FileBlock) → code_of block ≢ 0 → entry_at m address ≡ Some (record { number = number; version = version; block = logical_of block })
+    → named_at m (place_of address) ≡ Some (record { number = number; version = version; code = code_of block })
+unfolding named_at
+named_at-block m address number version block other named = owner_at-block (entry_at m) (record_at m) address number version block other named
+
+-- a record has its place at the slot of its inode block
+pub named_at-record : (m : SegmentMemory) (address slot number version : ℕ) (e : SummaryEntry) → slot < 4 → entry_at m address ≡ Some e → e.block ≡ Inodes → record_in (block_at m address) slot ≡ Some (number, version)
+    → named_at m (4 * address + slot) ≡ Some (record { number = number; version = version; code = 0 })
+unfolding named_at
+named_at-record m address slot number version e low named inodes found = owner_at-record (entry_at m) (record_at m) address slot number version e low named inodes found
+
+-- an address without an entry names nothing
+pub named_at-none : (m : SegmentMemory) (place : ℕ) → entry_at m (place / 4) ≡ None → named_at m place ≡ None
+unfolding named_at owner_at
+named_at-none m place none = rw none refl

@@ -10,6 +10,8 @@ ghost use Rattle.lfs_segments.specs.Entry.{IsEntry};
 ghost use Rattle.lfs_segments.specs.Log.{Expects, Extends, IsSummaryOf, entry_at};
 ghost use Rattle.lfs_segments.specs.Memory.{block_at, next_address, opened, room_of};
 ghost use Rattle.lfs_ways.specs.Log.{Opens, Writes};
+ghost use Rattle.lfs_ways.specs.Owners.{owner_in};
+ghost use Rattle.lfs_log.specs.Names.{named_at, record_in};
 ghost use Rattle.lfs_log.specs.Parts.{IsParts, log_state, opened_parts, state_of};
 
 use crate::log::Log;
@@ -106,6 +108,11 @@ impl Log {
         ensures names { (entry : SummaryEntry) (entries : List SummaryEntry)
             → Expects self.old.memory (entry ∷ entries)
             → entry_at self.new.memory result ≡ Some entry }
+        // Its owner, and in an inode block those of its records, are named by what was expected.
+        ensures owners { (entry : SummaryEntry) (entries : List SummaryEntry) (slot : ℕ)
+            → Expects self.old.memory (entry ∷ entries) → slot < 4
+            → named_at self.new.memory (4 * result + slot)
+            ≡ owner_in entry.block entry.number entry.version slot (record_in block.now slot) }
         ensures next { next_address self.new.memory ≡ next_address self.old.memory + 1 }
         ensures extends { Extends self.old.memory self.new.memory }
         ensures tables { self.new.tables ≡ self.old.tables }
