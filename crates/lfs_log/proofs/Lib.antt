@@ -1,0 +1,5 @@
+pub mod PartsLemmas
+pub mod NameLemmas
+pub mod LiveLemmas
+pub mod PackingLemmas
+pub mod ScanLemmas
