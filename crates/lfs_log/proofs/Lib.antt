@@ -3,3 +3,4 @@ pub mod NameLemmas
 pub mod LiveLemmas
 pub mod PackingLemmas
 pub mod ScanLemmas
+pub mod FoundLemmas

@@ -1,6 +1,6 @@
 -- The infos of a segment: which blocks and inodes its log names, and where they lie.
-use Rattle.std.specs.Prelude.{ℕ, ◌-◌, List, [], ◌∷◌, Option, option_map}
-use Rattle.std.specs.List.{filter_map, flat_map}
+use Rattle.std.specs.Prelude.{◌≡◌, ℕ, ◌-◌, List, [], ◌∷◌, Option, option_map}
+use Rattle.std.specs.List.{Contains, filter_map, flat_map}
 use Rattle.lfs_inodes.specs.Slots.{slots}
 use Rattle.lfs_inodes.specs.Reading.{fields_in}
 use Rattle.lfs_segments.specs.declared.entry.LogicalBlock.{LogicalBlock}
@@ -10,6 +10,9 @@ use Rattle.lfs_segments.specs.Entry.{block_number}
 use Rattle.lfs_segments.specs.Log.{first_of, names_from}
 use Rattle.lfs_segments.specs.Memory.{SegmentMemory, block_at, log_start}
 use Rattle.lfs_types.specs.declared.cleaner.BlockInfo.{BlockInfo}
+use Rattle.lfs_ways.specs.declared.blocks.FileBlock.{FileBlock}
+use Rattle.lfs_ways.specs.Blocks.{code_of, logical_of}
+use Rattle.lfs_ways.specs.Log.{Owner}
 use Rattle.lfs_types.specs.declared.limits.TheConstants.{SEGMENT_BLOCKS}
 
 -- the info of a file's block at an address
@@ -37,3 +40,9 @@ infos_from m first count = flat_map (entry_infos m) (names_from m first count)
 -- The infos of all that the log of a segment names, in order.
 unfoldable pub infos_of : SegmentMemory → ℕ → List BlockInfo
 infos_of m segment = infos_from m (first_of segment) (SEGMENT_BLOCKS - log_start segment)
+
+-- A list has the info of an owner whose block, or the block of whose record, has this address.
+pub record HasInfo (infos : List BlockInfo) (address : ℕ) (o : Owner) : Type 0 where
+  pub block : FileBlock
+  pub code : code_of block ≡ o.code
+  pub there : Contains infos (info_of address o.number o.version (logical_of block))

@@ -1,11 +1,14 @@
 //! Infos: which blocks and inodes the log of a segment names, and where they lie.
 
-ghost use Rattle.std.specs.Prelude.{◌≡◌, ◌+◌, ◌<◌, ◌≤◌, ◌++◌, ◌∷◌, [], length};
+ghost use Rattle.std.specs.Prelude.{◌≡◌, ◌+◌, ◌<◌, ◌≤◌, ◌++◌, ◌∷◌, ◌/◌, ℕ, Some, [], length};
 ghost use Rattle.lfs_types.specs.declared.cleaner.TheConstants.{INFO_LIMIT};
 ghost use Rattle.lfs_segments.specs.Memory.{IsLaidOut};
 ghost use Rattle.std.specs.List.{filter_map};
 ghost use Rattle.lfs_inodes.specs.Slots.{slot_of, slots};
-ghost use Rattle.lfs_log.specs.Infos.{block_infos, info_of, infos_of, slot_info};
+ghost use Rattle.lfs_log.specs.Infos.{HasInfo, block_infos, info_of, infos_of, slot_info};
+ghost use Rattle.lfs_log.specs.Names.{named_at};
+ghost use Rattle.lfs_ways.specs.Counting.{seg_of};
+ghost use Rattle.lfs_ways.specs.Log.{Owner};
 ghost use Rattle.lfs_log.specs.declared.packing.TheConstants.{SLOT_COUNT};
 ghost use Rattle.lfs_log.specs.Parts.{IsParts};
 
@@ -23,6 +26,9 @@ impl Log {
     pub fn infos(&self, segment: u32) -> InfoList
         requires { segment < self.now.memory.segments }
         ensures infos { result ≡ infos_of self.now.memory segment }
+        // What the log names at a place of the segment stands among them.
+        ensures named { (place : ℕ) (owner : Owner) → seg_of place ≡ segment
+            → named_at self.now.memory place ≡ Some owner → HasInfo result (place / 4) owner }
         ensures fits { length (infos_of self.now.memory segment) ≤ INFO_LIMIT }
         ensures kept { IsParts self.now }
     {
