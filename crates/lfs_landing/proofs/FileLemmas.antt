@@ -63,16 +63,16 @@ pub file_at-none : (p : Parts) (number : ℕ) → record_of p number ≡ None �
 file_at-none p number h = file_at-record p number ∙ ap (option_map (file_with (tree_of p number))) h
 
 -- a number past the inode map isn't in use
-pub record_of-past : (p : Parts) (number : ℕ) → length p.ifile.rows ≤ number → record_of p number ≡ None
-record_of-past p number past = record_of-unused p number (ap place_in (get_or_past p.ifile.rows number fresh_row past))
+pub record_of-past : (p : Parts) (number : ℕ) → length p.log.tables.rows ≤ number → record_of p number ≡ None
+record_of-past p number past = record_of-unused p number (ap place_in (get_or_past p.log.tables.rows number fresh_row past))
 
 -- what the content has at a number is the number's file
 pub get-content_of : (p : Parts) (number : ℕ) → map.get (content_of p) number ≡ file_at p number
 unfolding content_of
 get-content_of p number =
-    elim (cases_lt number (length p.ifile.rows)) [
-      | inl inside ↦ get_before (file_at p) (length p.ifile.rows) number inside
-      | inr past ↦ get_past (file_at p) (length p.ifile.rows) number past ∙ sym (file_at-none p number (record_of-past p number past))
+    elim (cases_lt number (length p.log.tables.rows)) [
+      | inl inside ↦ get_before (file_at p) (length p.log.tables.rows) number inside
+      | inr past ↦ get_past (file_at p) (length p.log.tables.rows) number past ∙ sym (file_at-none p number (record_of-past p number past))
     ]
 
 -- ---- what a file shows
@@ -114,22 +114,22 @@ some_mapped f None = refl
 some_mapped f (Some x) = refl
 
 -- a number in use has a file
-pub used_shown : (p : Parts) (number : ℕ) → AreFiles p → (row_of p.ifile number).used ≡ true → IsSome (map.get (content_of p) number)
+pub used_shown : (p : Parts) (number : ℕ) → AreFiles p → (row_of p.log.tables number).used ≡ true → IsSome (map.get (content_of p) number)
 used_shown p number files used =
     ap is_some (get-content_of p number ∙ file_at-record p number) ∙ some_mapped (file_with (tree_of p number)) (record_of p number)
     ∙ files.recorded number used
 
 -- and another one has none
-pub free_place : (p : Parts) (number : ℕ) → (row_of p.ifile number).used ≡ false → place_of p.ifile number ≡ None
+pub free_place : (p : Parts) (number : ℕ) → (row_of p.log.tables number).used ≡ false → place_of p.log.tables number ≡ None
 free_place p number free = cond-false _ _ _ free
 
-pub free_shown : (p : Parts) (number : ℕ) → (row_of p.ifile number).used ≡ false → map.get (content_of p) number ≡ None
+pub free_shown : (p : Parts) (number : ℕ) → (row_of p.log.tables number).used ≡ false → map.get (content_of p) number ≡ None
 free_shown p number free =
     get-content_of p number ∙ file_at-none p number (record_of-unused p number (free_place p number free))
 
 -- so the least free number of the inode map is that of the content
-pub least_shown : (p : Parts) (o : Option ℕ) → AreFiles p → IfSome o (tables.IsLeastFree p.ifile.rows)
-    → IfNone o (tables.AreUsed p.ifile.rows 4 (length p.ifile.rows)) → IsLeastFree (length p.ifile.rows) (content_of p) o
+pub least_shown : (p : Parts) (o : Option ℕ) → AreFiles p → IfSome o (tables.IsLeastFree p.log.tables.rows)
+    → IfNone o (tables.AreUsed p.log.tables.rows 4 (length p.log.tables.rows)) → IsLeastFree (length p.log.tables.rows) (content_of p) o
 least_shown p None files some none = λ number low high. used_shown p number files (none number low high)
 least_shown p (Some n) files some none =
     (some.from_first, some.in_range, free_shown p n some.unused, λ number low high. used_shown p number files (some.used_below number low high))

@@ -7,7 +7,7 @@ use Rattle.std.proofs.lemmas.Option.{none-some, same_Some}
 use Rattle.lfs_ifile.specs.declared.inode.InodePlace.{InodePlace}
 use Rattle.lfs_ifile.specs.declared.inode.InodeRow.{InodeRow}
 use Rattle.lfs_ifile.specs.Inode.{fresh_row, place_in}
-use Rattle.lfs_ifile.specs.Tables.{place_of, row_of}
+use Rattle.lfs_ifile.specs.Tables.{Tables, place_of, row_of}
 use Rattle.lfs_ways.specs.declared.blocks.TheConstants.{BLOCK_CODES}
 use Rattle.lfs_ways.specs.declared.blocks.FileBlock.{FileBlock}
 use Rattle.lfs_ways.specs.declared.blocks.FileBlock.TheVariants.{Record, Single, Data}
@@ -20,20 +20,21 @@ use Rattle.lfs_ways.proofs.BlockLemmas.{code_of-below}
 use Rattle.lfs_ways.proofs.ReadingLemmas.{address-root}
 use Rattle.lfs_ways.proofs.WayLemmas.{way_of-code_of}
 use Rattle.lfs_landing.specs.declared.parts.Parts.{Parts}
-use Rattle.lfs_landing.specs.Keys.{log_state, place_in_row}
+use Rattle.lfs_log.specs.Parts.{record_place}
+use Rattle.lfs_landing.specs.Keys.{log_state}
 use Rattle.lfs_landing.specs.Store.{AreFiles}
 use Rattle.lfs_landing.specs.View.{LiesIn, blocks_of, key_of, root_in, tree_of, version_of}
 use Rattle.lfs_landing.proofs.ViewLemmas.{not_locked, nowhere, record_of-unused}
 
 -- the place of a record, and of another block
-pub place-record : (p : Parts) (number : ℕ) → (log_state p).at number 0 ≡ place_in_row (row_of p.ifile number)
+pub place-record : (p : Parts) (number : ℕ) → (log_state p).at number 0 ≡ record_place p.log.tables number
 place-record p number = refl
 
 pub place-block : (p : Parts) (number code : ℕ) → code ≢ 0 → (log_state p).at number code ≡ 4 * address (tree_of p number) (way_of code)
 place-block p number code some = cond-false _ _ _ (ne_eqb code 0 some)
 
 -- the blocks of each file lie in the volume
-lies_at : (p : Parts) (number spare code : ℕ) → number < length p.ifile.rows → 0 < blocks_of p → IsLog (log_state p) spare → code ≢ 0 → code < BLOCK_CODES
+lies_at : (p : Parts) (number spare code : ℕ) → number < length p.log.tables.rows → 0 < blocks_of p → IsLog (log_state p) spare → code ≢ 0 → code < BLOCK_CODES
     → address (tree_of p number) (way_of code) < blocks_of p
 lies_at p number spare code low many log some below =
     elim (cases_eq (address (tree_of p number) (way_of code)) 0) [
@@ -44,7 +45,7 @@ lies_at p number spare code low many log some below =
           omega (arith, at, key.in_volume)
     ]
 
-pub lies_in : (p : Parts) (number spare : ℕ) → number < length p.ifile.rows → IsLaidOut p.segments → IsLog (log_state p) spare → LiesIn (blocks_of p) (tree_of p number)
+pub lies_in : (p : Parts) (number spare : ℕ) → number < length p.log.tables.rows → IsLaidOut p.log.memory → IsLog (log_state p) spare → LiesIn (blocks_of p) (tree_of p number)
 lies_in p number spare low laid_out log =
     let many : 0 < blocks_of p = omega (arith, laid_out.at_least) in
     let at : (block : FileBlock) → code_of block ≢ 0 → IsFileBlock block → address (tree_of p number) (way_to block) < blocks_of p
@@ -104,38 +105,40 @@ place_row row place h =
       | inr free ↦ absurd (none-some place (sym (cond-false _ _ _ free) ∙ h))
     ]
 
-row_place : (row : InodeRow) → row.slot < 4 → place_in_row row / 4 ≡ row.address
-row_place row low =
+row_place : (tables : Tables) (number : ℕ) → (row_of tables number).slot < 4 → record_place tables number / 4 ≡ (row_of tables number).address
+unfolding record_place
+row_place tables number low =
+    let row = row_of tables number in
     elim (cases_eq row.address 0) [
       | inl none ↦ ap (λ n. n / 4) (cond-true _ _ _ (eq-eqb row.address 0 none)) ∙ sym none
       | inr some ↦ ap (λ n. n / 4) (cond-false _ _ _ (ne_eqb row.address 0 some)) ∙ omega arith
     ]
 
 -- the present address of a record is the one in the inode map
-pub present-record : (p : Parts) (number version : ℕ) (place : InodePlace) → place_of p.ifile number ≡ Some place → place.version ≡ version
-    → number < length p.ifile.rows → place.slot < 4 → present_address (log_state p) number version 0 ≡ place.addr
+pub present-record : (p : Parts) (number version : ℕ) (place : InodePlace) → place_of p.log.tables number ≡ Some place → place.version ≡ version
+    → number < length p.log.tables.rows → place.slot < 4 → present_address (log_state p) number version 0 ≡ place.addr
 present-record p number version place is same low slot =
-    let row = place_row (row_of p.ifile number) place is in
+    let row = place_row (row_of p.log.tables number) place is in
     let at : version_of p number ≡ version = sym row.2 ∙ same in
     present-key (log_state p) number version 0 low at (omega arith) ∙ ap (λ n. n / 4) (place-record p number)
-    ∙ row_place (row_of p.ifile number) (omega arith) ∙ sym row.0
+    ∙ row_place p.log.tables number (omega arith) ∙ sym row.0
 
 -- that of another block is its address
-pub present-block : (p : Parts) (number version : ℕ) (place : InodePlace) (block : FileBlock) → place_of p.ifile number ≡ Some place → place.version ≡ version
-    → number < length p.ifile.rows → code_of block ≢ 0 → IsFileBlock block
+pub present-block : (p : Parts) (number version : ℕ) (place : InodePlace) (block : FileBlock) → place_of p.log.tables number ≡ Some place → place.version ≡ version
+    → number < length p.log.tables.rows → code_of block ≢ 0 → IsFileBlock block
     → present_address (log_state p) number version (code_of block) ≡ address (tree_of p number) (way_to block)
 present-block p number version place block is same low some can =
-    let row = place_row (row_of p.ifile number) place is in
+    let row = place_row (row_of p.log.tables number) place is in
     let at : version_of p number ≡ version = sym row.2 ∙ same in
     present-key (log_state p) number version (code_of block) low at (code_of-below block can)
     ∙ ap (λ n. n / 4) (place-block p number (code_of block) some) ∙ quarter (address (tree_of p number) (way_of (code_of block)))
     ∙ ap (address (tree_of p number)) (way_of-code_of block)
 
 -- a key of another version has none
-pub present-stale : (p : Parts) (number version code : ℕ) (place : InodePlace) → place_of p.ifile number ≡ Some place → place.version ≢ version
+pub present-stale : (p : Parts) (number version code : ℕ) (place : InodePlace) → place_of p.log.tables number ≡ Some place → place.version ≢ version
     → present_address (log_state p) number version code ≡ 0
 present-stale p number version code place is other =
-    let row = place_row (row_of p.ifile number) place is in
+    let row = place_row (row_of p.log.tables number) place is in
     present-other (log_state p) number version code (λ e. other (row.2 ∙ e))
 
 -- the code of a block that isn't a record
@@ -152,28 +155,33 @@ unused_row row h =
     ]
 
 -- nothing of it waits
-pub unused_waits : (p : Parts) (number : ℕ) → (row_of p.ifile number).used ≡ false → AreFiles p → (way : List ℕ) → (tree_of p number).waits way ≡ None
+pub unused_waits : (p : Parts) (number : ℕ) → (row_of p.log.tables number).used ≡ false → AreFiles p → (way : List ℕ) → (tree_of p number).waits way ≡ None
 unused_waits p number free files way =
     not_locked (key_of number (version_of p number) (code_at way)) p.cache
     (λ locked. let there = (files.frames (key_of number (version_of p number) (code_at way)) locked).in_use in
     false≢true (sym free ∙ there))
 
+-- a record without address has no place
+pub unplaced : (tables : Tables) (number : ℕ) → (row_of tables number).address ≡ 0 → record_place tables number ≡ 0
+unfolding record_place
+unplaced tables number none = cond-true _ _ _ (eq-eqb (row_of tables number).address 0 none)
+
 -- and its keys have no place
-pub unused_nowhere : (p : Parts) (number code : ℕ) → place_of p.ifile number ≡ None → number < length p.ifile.rows → AreFiles p → (log_state p).at number code ≡ 0
+pub unused_nowhere : (p : Parts) (number code : ℕ) → place_of p.log.tables number ≡ None → number < length p.log.tables.rows → AreFiles p → (log_state p).at number code ≡ 0
 unused_nowhere p number code unused low files =
-    let free = unused_row (row_of p.ifile number) unused in
+    let free = unused_row (row_of p.log.tables number) unused in
     elim (cases_eq code 0) [
       | inl record_ ↦
-          let row = files.tables.each_row number fresh_row low in
+          let row = files.parts.formed.each_row number fresh_row low in
           ap ((log_state p).at number) record_ ∙ place-record p number
-          ∙ cond-true _ _ _ (eq-eqb (row_of p.ifile number).address 0 (row.unused_address free))
+          ∙ unplaced p.log.tables number (row.unused_address free)
       | inr block ↦
           let root : (tree_of p number).root ≡ [] = ap root_in (record_of-unused p number unused) in
           let none = nowhere (tree_of p number) (λ i. ap (λ ys. slice_index ys i) root) (unused_waits p number free files) (way_of code) in
           place-block p number code block ∙ ap (λ a. 4 * a) none
     ]
 
-pub present-unused : (p : Parts) (number version code : ℕ) → place_of p.ifile number ≡ None → number < length p.ifile.rows → AreFiles p
+pub present-unused : (p : Parts) (number version code : ℕ) → place_of p.log.tables number ≡ None → number < length p.log.tables.rows → AreFiles p
     → present_address (log_state p) number version code ≡ 0
 present-unused p number version code unused low files =
     present-nowhere (log_state p) number version code (unused_nowhere p number code unused low files)

@@ -19,7 +19,7 @@ use Rattle.lfs_ways.specs.Ways.{code_at}
 use Rattle.lfs_ways.specs.declared.blocks.FileBlock.{FileBlock}
 use Rattle.lfs_ways.proofs.WayLemmas.{way_of-code_of, code_at-way_of, data_way-direct, data_way-single}
 use Rattle.lfs_landing.specs.declared.parts.Parts.{Parts}
-use Rattle.lfs_landing.specs.View.{record_of, record_at, waiting_in, waiting_or, key_of, tree_from}
+use Rattle.lfs_landing.specs.View.{record_of, fields_at, waiting_in, waiting_or, key_of, tree_from}
 
 -- the code at the end of a block's way is the block's
 pub code_at-way_to : (block : FileBlock) → code_at (way_to block) ≡ code_of block
@@ -35,26 +35,26 @@ held_waits key c none =
     ap (λ es. or_else (block_in key c.locked) (block_in key es)) none ∙ or_none (block_in key c.locked)
 
 -- a number that isn't in use has no record
-pub record_of-unused : (p : Parts) (number : ℕ) → place_of p.ifile number ≡ None → record_of p number ≡ None
+pub record_of-unused : (p : Parts) (number : ℕ) → place_of p.log.tables number ≡ None → record_of p number ≡ None
 unfolding record_of
 record_of-unused p number h =
-    ap (option_and_then (λ (place : InodePlace). waiting_or (waiting_in p.waiting.items number) (record_at p.segments place))) h
+    ap (option_and_then (λ (place : InodePlace). waiting_or (waiting_in p.waiting.items number) (fields_at p.log.memory place))) h
 
 -- one in use has the record that waits
-pub record_of-waiting : (p : Parts) (number : ℕ) (place : InodePlace) (v : Inode) → place_of p.ifile number ≡ Some place
+pub record_of-waiting : (p : Parts) (number : ℕ) (place : InodePlace) (v : Inode) → place_of p.log.tables number ≡ Some place
     → waiting_in p.waiting.items number ≡ Some v → record_of p number ≡ Some (fields_of v)
 unfolding record_of
 record_of-waiting p number place v used waits =
-    ap (option_and_then (λ (place : InodePlace). waiting_or (waiting_in p.waiting.items number) (record_at p.segments place))) used
-    ∙ ap (λ w. waiting_or w (record_at p.segments place)) waits
+    ap (option_and_then (λ (place : InodePlace). waiting_or (waiting_in p.waiting.items number) (fields_at p.log.memory place))) used
+    ∙ ap (λ w. waiting_or w (fields_at p.log.memory place)) waits
 
 -- or else the one in the log
-pub record_of-logged : (p : Parts) (number : ℕ) (place : InodePlace) → place_of p.ifile number ≡ Some place
-    → waiting_in p.waiting.items number ≡ None → record_of p number ≡ record_at p.segments place
+pub record_of-logged : (p : Parts) (number : ℕ) (place : InodePlace) → place_of p.log.tables number ≡ Some place
+    → waiting_in p.waiting.items number ≡ None → record_of p number ≡ fields_at p.log.memory place
 unfolding record_of
 record_of-logged p number place used waits =
-    ap (option_and_then (λ (place : InodePlace). waiting_or (waiting_in p.waiting.items number) (record_at p.segments place))) used
-    ∙ ap (λ w. waiting_or w (record_at p.segments place)) waits
+    ap (option_and_then (λ (place : InodePlace). waiting_or (waiting_in p.waiting.items number) (fields_at p.log.memory place))) used
+    ∙ ap (λ w. waiting_or w (fields_at p.log.memory place)) waits
 
 -- what is held for a block of a file waits for it
 pub tree_waits : (p : Parts) (v : Inode) (block : FileBlock) (lbn : ℕ) (o : Option (List ℕ)) → p.cache.lru ≡ [] → lbn ≡ code_of block

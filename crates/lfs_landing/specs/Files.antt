@@ -29,4 +29,4 @@ content_below files (suc n) = with_file n (files n) (content_below files n)
 
 -- what the parts contain: the file of each number in use
 unfoldable pub content_of : Parts → Content
-content_of p = content_below (file_at p) (length p.ifile.rows)
+content_of p = content_below (file_at p) (length p.log.tables.rows)

@@ -5,15 +5,16 @@ use Rattle.lfs_types.specs.Tree.{attrs_of, fresh_root}
 use Rattle.lfs_segments.specs.declared.entry.LogicalBlock.TheVariants.{Inodes}
 use Rattle.lfs_segments.specs.declared.entry.SummaryEntry.{SummaryEntry}
 use Rattle.lfs_segments.specs.Log.{Expects, entry_at}
-use Rattle.lfs_segments.specs.Memory.{SegmentMemory, IsLaidOut, block_at}
+use Rattle.lfs_segments.specs.Memory.{SegmentMemory, block_at}
 use Rattle.lfs_ifile.specs.declared.inode.InodeRow.{InodeRow}
 use Rattle.lfs_ifile.specs.declared.segment.SegState.TheVariants.{Clean, Active}
 use Rattle.lfs_ifile.specs.Inode.{fresh_row}
-use Rattle.lfs_ifile.specs.Tables.{Tables, IsIfile, row_of, usage_of}
+use Rattle.lfs_ifile.specs.Tables.{Tables, fresh_tables, row_of, usage_of, with_state}
 use Rattle.lfs_inodes.specs.Attributes.{attributes_from}
 use Rattle.lfs_inodes.specs.Reading.{Fields, fields_in}
 use Rattle.lfs_inodes.specs.Slots.{slot_of}
 use Rattle.lfs_cache.specs.Contents.{nothing_in}
+use Rattle.lfs_log.specs.Parts.{IsParts}
 use Rattle.std.specs.Vec.{vec_capacity}
 use Rattle.lfs_landing.specs.declared.parts.TheConstants.{WAITING_LIMIT}
 use Rattle.lfs_landing.specs.declared.parts.Parts.{Parts}
@@ -40,18 +41,20 @@ root_fields version = record { attributes = attributes_from ROOT_INODE version (
 abbrev pub root_row : InodeRow
 root_row = record { used = true; address = 2; slot = 0; version = 1 }
 
+-- the tables before anything is written: segment 0 is active, and no number is in use
+abbrev pub fresh_used : ℕ → ℕ → Tables
+fresh_used segments inodes = with_state (fresh_tables segments inodes) 0 Active
+
 -- the segments: segment 0 is active, and behind the label it has a summary and the block with the root's record
 pub record HasRootBlock (m : SegmentMemory) : Type 0 where
-  pub laid_out : IsLaidOut m
   pub active : m.active ≡ 0
   pub filled : m.fill ≡ 3
   pub ready : Expects m []
   pub entry : entry_at m 2 ≡ Some inodes_entry
   pub root : fields_in (slot_of (block_at m 2) 0) ≡ Some (root_fields 1)
 
--- the ifile: the root alone is in use, and its record's bytes in segment 0 are the live ones
+-- the tables: the root alone is in use, and its record's bytes in segment 0 are the live ones
 pub record HasRootRow (many_segments many_inodes : ℕ) (t : Tables) : Type 0 where
-  pub formed : IsIfile t
   pub segments : length t.live ≡ many_segments
   pub inodes : length t.rows ≡ many_inodes
   pub live : (s : ℕ) → slice_index t.live s ≡ (if s == 0 then 128 else 0)
@@ -62,10 +65,11 @@ pub record HasRootRow (many_segments many_inodes : ℕ) (t : Tables) : Type 0 wh
 
 -- the parts of such a volume; nothing waits
 pub record IsOpening (many_segments many_inodes : ℕ) (p : Parts) : Type 0 where
-  pub memory : HasRootBlock p.segments
-  pub size : p.segments.segments ≡ many_segments
-  pub ifile : HasRootRow many_segments many_inodes p.ifile
+  pub memory : HasRootBlock p.log.memory
+  pub size : p.log.memory.segments ≡ many_segments
+  pub parts : IsParts p.log
+  pub tables : HasRootRow many_segments many_inodes p.log.tables
   pub cache : p.cache ≡ nothing_in LEAST_FRAMES
   pub no_record : p.waiting.items ≡ []
   pub room : WAITING_LIMIT ≤ vec_capacity p.waiting
-  pub clean : p.clean + 1 ≡ many_segments
+  pub clean : p.log.clean + 1 ≡ many_segments

@@ -2,14 +2,14 @@
 use Rattle.std.specs.Prelude.{◌≡◌, ◌≢◌, ℕ, ◌<◌, ◌≤◌, [], Some, IsSome, true, false, All}
 use Rattle.lfs_types.specs.declared.limits.TheConstants.{FILE_BLOCKS, FIRST_INODE, ROOT_INODE}
 use Rattle.lfs_segments.specs.Log.{Expects}
-use Rattle.lfs_segments.specs.Memory.{IsLaidOut}
-use Rattle.lfs_ifile.specs.Tables.{IsIfile, row_of}
+use Rattle.lfs_ifile.specs.Tables.{row_of}
 use Rattle.lfs_inodes.specs.declared.inode.Inode.{Inode}
 use Rattle.lfs_inodes.specs.Facts.{block_count}
 use Rattle.lfs_inodes.specs.Reading.{Fields, AreFields}
 use Rattle.lfs_cache.specs.declared.key.Key.{Key}
 use Rattle.lfs_cache.specs.Changes.{IsContents}
 use Rattle.lfs_cache.specs.Contents.{IsLocked}
+use Rattle.lfs_log.specs.Parts.{IsParts}
 use Rattle.lfs_ways.specs.declared.blocks.TheConstants.{BLOCK_CODES}
 use Rattle.lfs_ways.specs.Log.{IsLog}
 use Rattle.lfs_ways.specs.Pieces.{IsPadded}
@@ -23,7 +23,7 @@ use Rattle.lfs_landing.specs.View.{IsReadable, record_of, tree_of, version_of}
 
 -- a number in use, at the version that it has
 pub record IsPresent (p : Parts) (number version : ℕ) : Type 0 where
-  pub in_use : (row_of p.ifile number).used ≡ true
+  pub in_use : (row_of p.log.tables number).used ≡ true
   pub at_version : version ≡ version_of p number
 
 -- what holds of the record of a number: it is well formed and says the number and its version; blocks past the size
@@ -38,13 +38,12 @@ pub record IsFile (p : Parts) (number : ℕ) (f : Fields) : Type 0 where
 -- What holds of the files and of what waits: the parts are each well formed and of one volume; the root is in use, and
 -- no other number below 4; each number in use has a record; what waits is of a number in use, at its present version.
 pub record AreFiles (p : Parts) : Type 0 where
-  pub laid_out : IsLaidOut p.segments
-  pub tables : IsIfile p.ifile
+  pub parts : IsParts p.log
   pub cache : IsContents p.cache
   pub readable : IsReadable p
-  pub root_used : (row_of p.ifile ROOT_INODE).used ≡ true
-  pub reserved : (number : ℕ) → number < FIRST_INODE → number ≢ ROOT_INODE → (row_of p.ifile number).used ≡ false
-  pub recorded : (number : ℕ) → (row_of p.ifile number).used ≡ true → IsSome (record_of p number)
+  pub root_used : (row_of p.log.tables ROOT_INODE).used ≡ true
+  pub reserved : (number : ℕ) → number < FIRST_INODE → number ≢ ROOT_INODE → (row_of p.log.tables number).used ≡ false
+  pub recorded : (number : ℕ) → (row_of p.log.tables number).used ≡ true → IsSome (record_of p number)
   pub files : (number : ℕ) (f : Fields) → record_of p number ≡ Some f → IsFile p number f
   pub records : All (λ (v : Inode). IsPresent p v.number v.version) p.waiting.items
   pub frames : (key : Key) → IsLocked key p.cache → IsPresent p key.ino key.version
@@ -55,7 +54,7 @@ pub record AreFiles (p : Parts) : Type 0 where
 pub record IsStore (p : Parts) : Type 0 where
   pub whole : AreFiles p
   pub log : IsLog (log_state p) 0
-  pub ready : Expects p.segments []
+  pub ready : Expects p.log.memory []
 
 -- nothing waits to be written
 pub record IsSettled (p : Parts) : Type 0 where

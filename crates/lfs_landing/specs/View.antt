@@ -1,5 +1,5 @@
 -- What the parts of a store say of a file: its record, the addresses of its blocks, their bytes.
-use Rattle.std.specs.Prelude.{◌≡◌, ℕ, ◌*◌, ◌<◌, List, [], Option, Some, None, ◌==◌, find, option_and_then, length}
+use Rattle.std.specs.Prelude.{◌≡◌, ℕ, ◌*◌, ◌<◌, List, [], Option, Some, None, ◌==◌, find, option_and_then}
 use Rattle.lfs_types.specs.declared.limits.TheConstants.{SEGMENT_BLOCKS}
 use Rattle.lfs_segments.specs.Memory.{SegmentMemory, block_at}
 use Rattle.lfs_ifile.specs.declared.inode.InodePlace.{InodePlace}
@@ -18,19 +18,19 @@ use Rattle.lfs_landing.specs.declared.parts.Parts.{Parts}
 
 -- the number of blocks of the volume
 abbrev pub blocks_of : Parts → ℕ
-blocks_of p = p.segments.segments * SEGMENT_BLOCKS
+blocks_of p = p.log.memory.segments * SEGMENT_BLOCKS
 
 -- the version of a number
 abbrev pub version_of : Parts → ℕ → ℕ
-version_of p number = (row_of p.ifile number).version
+version_of p number = (row_of p.log.tables number).version
 
 -- the first of some records that has a number
 abbrev pub waiting_in : List Inode → ℕ → Option Inode
 waiting_in records number = find (λ (v : Inode). v.number == number) records
 
 -- what the slot at a place of the log says
-abbrev pub record_at : SegmentMemory → InodePlace → Option Fields
-record_at m place = fields_in (slot_of (block_at m place.addr) place.slot)
+abbrev pub fields_at : SegmentMemory → InodePlace → Option Fields
+fields_at m place = fields_in (slot_of (block_at m place.addr) place.slot)
 
 -- the record that waits, if one does, else the one in the log
 abbrev pub waiting_or : Option Inode → Option Fields → Option Fields
@@ -41,7 +41,7 @@ waiting_or (Some v) logged = Some (fields_of v)
 -- in use has none.
 unfoldable pub record_of : Parts → ℕ → Option Fields
 record_of p number =
-    option_and_then (λ (place : InodePlace). waiting_or (waiting_in p.waiting.items number) (record_at p.segments place)) (place_of p.ifile number)
+    option_and_then (λ (place : InodePlace). waiting_or (waiting_in p.waiting.items number) (fields_at p.log.memory place)) (place_of p.log.tables number)
 
 -- the name of a block of a file in the cache
 abbrev pub key_of : ℕ → ℕ → ℕ → Key
@@ -52,7 +52,7 @@ abbrev pub tree_with : Parts → ℕ → ℕ → List ℕ → Tree
 tree_with p number version root = record {
   root = root;
   waits = λ way. block_in (key_of number version (code_at way)) p.cache.locked;
-  block = λ a. block_at p.segments a;
+  block = λ a. block_at p.log.memory a;
 }
 
 -- the file that has a record
@@ -68,9 +68,8 @@ root_in (Some f) = f.addresses
 abbrev pub tree_of : Parts → ℕ → Tree
 tree_of p number = tree_with p number (version_of p number) (root_in (record_of p number))
 
--- What reading asks of the parts: they are of one volume, and the cache holds nothing but what waits.
+-- What reading asks of the parts: the cache holds nothing but what waits.
 pub record IsReadable (p : Parts) : Type 0 where
-  pub one_size : length p.ifile.live ≡ p.segments.segments
   pub none_clean : p.cache.lru ≡ []
 
 -- the blocks of a file lie in the volume

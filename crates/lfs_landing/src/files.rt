@@ -14,7 +14,7 @@ impl Parts {
         requires { IsStore self.now }
         ensures { result ≡ shown_attrs (content_of self.now) ino }
     {
-        if ino >= self.ifile.inodes() {
+        if ino >= self.log.inodes() {
             return None;
         }
         Some(self.record(ino)?.attrs())
@@ -27,7 +27,7 @@ impl Parts {
         ensures { Reads (slice_of (bytes_of (content_of self.now) ino) off (length into.old))
             result into.old into.new }
     {
-        if ino >= self.ifile.inodes() {
+        if ino >= self.log.inodes() {
             return 0;
         }
         let Some(inode) = self.record(ino) else {
@@ -44,8 +44,8 @@ impl Parts {
     /// The least free number from 4 up, if there is one below the number of inode numbers.
     pub fn least_free(&self) -> Option<u32>
         requires { IsStore self.now }
-        ensures { IsLeastFree (length self.now.ifile.rows) (content_of self.now) result }
+        ensures { IsLeastFree (length self.now.log.tables.rows) (content_of self.now) result }
     {
-        self.ifile.least_free()
+        self.log.least_free()
     }
 }

@@ -3,20 +3,18 @@
 ghost use Rattle.std.specs.Prelude.{◌≡◌, ◌≤◌, ◌<◌, ◌↔◌, [], length, IfOk, IsErrOf};
 ghost use Rattle.lfs_types.specs.Tree.{attrs_of, fresh_root, opening_content};
 ghost use Rattle.lfs_segments.specs.Log.{Expects};
-ghost use Rattle.lfs_ifile.specs.Tables.{IsIfile, fresh_tables};
+ghost use Rattle.lfs_log.specs.Parts.{IsParts};
 ghost use Rattle.lfs_landing.specs.Files.{content_of};
-ghost use Rattle.lfs_landing.specs.Opening.{HasRootBlock, HasRootRow, IsOpening, IsTooFew, IsTooMany};
+ghost use Rattle.lfs_landing.specs.Opening.{HasRootBlock, HasRootRow, IsOpening, IsTooFew, IsTooMany, fresh_used};
 ghost use Rattle.lfs_landing.specs.Store.{IsSettled, IsStore};
 
 use crate::parts::{Parts, WAITING_LIMIT};
 use lfs_cache::Cache;
-use lfs_ifile::{Ifile, SegState};
 use lfs_inodes::inode::Inode;
-use lfs_inodes::slots::with_slot;
+use lfs_log::Log;
+use lfs_log::packing::packed;
 use lfs_segments::entry::{LogicalBlock, SummaryEntry};
-use lfs_segments::segments::Segments;
 use lfs_types::attrs::{Attrs, Kind};
-use lfs_types::block::ZERO_BLOCK;
 use lfs_types::fault::FormatFault;
 use lfs_types::file_flags::FileFlags;
 use lfs_types::limits::{
@@ -24,9 +22,6 @@ use lfs_types::limits::{
 };
 use lfs_types::mode::Mode;
 use std::alloc::Global;
-
-/// The number of bytes of a record, which are live where the inode map names it.
-const RECORD_BYTES: u32 = 128;
 
 impl Parts {
     /// The parts of a volume of 6 to 1,024 segments, 16 to 4,096 inode numbers and 32 to 1,024 frames,
@@ -46,19 +41,16 @@ impl Parts {
         ensures settled { IfOk result IsSettled }
     {
         check_numbers(segments, inodes, frames)?;
-        let mut memory = Segments::format(alloc, segments, inodes)?;
-        let mut ifile = Ifile::format(alloc, segments, inodes)?;
+        let mut log = Log::format(alloc, segments, inodes)?;
         // What waits is written before a call ends, so that this many frames always do.
         let cache = Cache::new(alloc, LEAST_FRAMES)?;
         let waiting = Vec::with_capacity(alloc, WAITING_LIMIT)?;
-        write_root(&mut memory);
-        enter_root(&mut ifile);
+        write_root(&mut log);
+        enter_root(&mut log);
         Ok(Parts {
-            segments: memory,
-            ifile,
+            log,
             cache,
             waiting,
-            clean: segments - 1,
         })
     }
 }
@@ -91,32 +83,36 @@ fn check_range(number: u32, least: u32, most: u32) -> Result<(), FormatFault>
 }
 
 /// Writes the root's record into the log of a fresh volume, as its first partial segment.
-fn write_root(memory: &mut Segments)
-    requires active { memory.old.active ≡ 0 }
-    requires filled { memory.old.fill ≡ 1 }
-    requires ready { Expects memory.old [] }
-    ensures written { HasRootBlock memory.new }
-    ensures size { memory.new.segments ≡ memory.old.segments }
+fn write_root(log: &mut Log)
+    requires active { log.old.memory.active ≡ 0 }
+    requires filled { log.old.memory.fill ≡ 1 }
+    requires ready { Expects log.old.memory [] }
+    ensures written { HasRootBlock log.new.memory }
+    ensures size { log.new.memory.segments ≡ log.old.memory.segments }
+    ensures tables { log.new.tables ≡ log.old.tables }
+    ensures clean { log.new.clean ≡ log.old.clean }
+    ensures kept { IsParts log.new }
 {
     let root = Inode::new(ROOT_INODE, 1, &root_attrs());
-    memory.begin(&[SummaryEntry {
+    log.begin(&[SummaryEntry {
         number: 0,
         version: 0,
         block: LogicalBlock::Inodes,
     }]);
-    memory.put(&with_slot(&ZERO_BLOCK, 0, &root.encode()));
+    log.put(&packed(&[root]));
 }
 
-/// Enters the root and its record into a fresh ifile, and segment 0 as the one that is written.
-fn enter_root(ifile: &mut Ifile)
-    requires formed { IsIfile ifile.old }
-    requires fresh { ifile.old ≡ fresh_tables (length ifile.old.live) (length ifile.old.rows) }
-    ensures { HasRootRow (length ifile.old.live) (length ifile.old.rows) ifile.new }
+/// Enters the root and its record into a fresh inode map.
+fn enter_root(log: &mut Log)
+    requires fresh { log.old.tables ≡ fresh_used (length log.old.tables.live) (length log.old.tables.rows) }
+    requires formed { IsParts log.old }
+    ensures entered { HasRootRow (length log.old.tables.live) (length log.old.tables.rows) log.new.tables }
+    ensures memory { log.new.memory ≡ log.old.memory }
+    ensures clean { log.new.clean ≡ log.old.clean }
+    ensures kept { IsParts log.new }
 {
-    ifile.set_state(0, SegState::Active);
-    ifile.give_out(ROOT_INODE);
-    ifile.set_place(ROOT_INODE, 2, 0);
-    ifile.add_live(0, RECORD_BYTES);
+    log.give_out(ROOT_INODE);
+    log.place_record(ROOT_INODE, 2, 0);
 }
 
 /// The attributes of the root directory of a fresh volume.

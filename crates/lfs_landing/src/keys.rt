@@ -40,10 +40,10 @@ impl Parts {
         requires block { IsFileBlock block }
         ensures { result ≡ present_address (log_state self.now) ino version (code_of block) }
     {
-        if ino >= self.ifile.inodes() {
+        if ino >= self.log.inodes() {
             return 0;
         }
-        match self.ifile.place(ino) {
+        match self.log.place(ino) {
             Some(place) if place.version == version => match block {
                 FileBlock::Record => place.addr,
                 FileBlock::Single | FileBlock::Data(_) => self.address_in(ino, block),
@@ -55,9 +55,9 @@ impl Parts {
     /// The address of a block of a number in use, which isn't its record.
     fn address_in(&self, ino: u32, block: FileBlock) -> u32
         requires store { IsStore self.now }
-        requires in_range { ino < length self.now.ifile.rows }
+        requires in_range { ino < length self.now.log.tables.rows }
         requires block { IsFileBlock block }
-        requires in_use { (row_of self.now.ifile ino).used ≡ true }
+        requires in_use { (row_of self.now.log.tables ino).used ≡ true }
         ensures { result ≡ address (tree_of self.now ino) (way_to block) }
     {
         match self.record(ino) {

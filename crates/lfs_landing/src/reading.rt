@@ -32,7 +32,7 @@ impl Parts {
         match self.cache.peek(key) {
             Some(waiting) => waiting,
             None if address == 0 => &ZERO_BLOCK,
-            None => self.segments.block(address),
+            None => self.log.block(address),
         }
     }
 

@@ -10,22 +10,22 @@ returns-then-ino-inodes c = sym (present-past (log_state c.args.self.now) c.args
 
 pub returns-in-Record : goal.returns-in-Record
 returns-in-Record c =
-    let place = sym c.place.ensures.value ∙ c.in-Some.is in
+    let place = sym c.place.ensures.place ∙ c.in-Some.is in
     sym (ap (λ b. present_address (log_state c.args.self.now) c.args.ino c.args.version (code_of b)) c.in-Record.is
     ∙ present-record c.args.self.now c.args.ino c.args.version c.in-Some.place place c.if-place-version.true (omega arith) c.in-Some.ensures.bounds.slot)
 
 pub returns-in-Single : goal.returns-in-Single
 returns-in-Single c =
-    let place = sym c.place.ensures.value ∙ c.in-Some.is in
+    let place = sym c.place.ensures.place ∙ c.in-Some.is in
     c.address_in.ensures
     ∙ sym (present-block c.args.self.now c.args.ino c.args.version c.in-Some.place c.args.block place c.if-place-version.true (omega arith) (code-other c.args.block c.in-Single.is) c.requires.block)
 
 pub returns-in_default : goal.returns-in_default
 returns-in_default c =
-    let place = sym c.place.ensures.value ∙ c.in-Some.is in
+    let place = sym c.place.ensures.place ∙ c.in-Some.is in
     sym (present-stale c.args.self.now c.args.ino c.args.version (code_of c.args.block) c.in-Some.place place c.if-place-version.false)
 
 pub returns-in_default-2 : goal.returns-in_default-2
 returns-in_default-2 c =
-    let unused = sym c.place.ensures.value ∙ c.in_default.is in
+    let unused = sym c.place.ensures.place ∙ c.in_default.is in
     sym (present-unused c.args.self.now c.args.ino c.args.version (code_of c.args.block) unused (omega arith) c.requires.store.whole)

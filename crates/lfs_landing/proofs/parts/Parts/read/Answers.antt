@@ -42,7 +42,7 @@ read_blocks-requires-clause-inside c =
     let v = c.in-Some.inode in
     let has = given_record p c.args.ino c.record.result v c.record.ensures c.in-Some.is in
     let same = tree_from-of p c.args.ino v has (c.requires.whole.files c.args.ino (fields_of v) has) in
-    subst (LiesIn (blocks_of p)) (sym same) (lies_in p c.args.ino 0 (omega arith) c.requires.whole.laid_out c.requires.log)
+    subst (LiesIn (blocks_of p)) (sym same) (lies_in p c.args.ino 0 (omega arith) c.requires.whole.parts.laid_out c.requires.log)
 
 pub read_blocks-requires-clause-padded : goal.read_blocks-requires-clause-padded
 read_blocks-requires-clause-padded c =

@@ -7,16 +7,16 @@ use Rattle.lfs_landing.proofs.parts.Parts.record.Goals as goal
 pub returns-in_err-place : goal.returns-in_err-place
 returns-in_err-place c =
     ap (option_map fields_of) c.from_residual.ensures
-    ∙ sym (record_of-unused c.args.self.now c.args.ino (sym c.place.ensures.value ∙ c.in_err-place.was))
+    ∙ sym (record_of-unused c.args.self.now c.args.ino (sym c.place.ensures.place ∙ c.in_err-place.was))
 
 pub returns-in-Some : goal.returns-in-Some
 returns-in-Some c =
-    let used = sym c.place.ensures.value ∙ c.in_ok-place.was in
+    let used = sym c.place.ensures.place ∙ c.in_ok-place.was in
     sym (record_of-waiting c.args.self.now c.args.ino c.in_ok-place.place c.in-Some.inode used (sym c.waiting.ensures ∙ c.in-Some.is))
 
 pub returns : goal.returns
 returns c =
-    let used = sym c.place.ensures.value ∙ c.in_ok-place.was in
+    let used = sym c.place.ensures.place ∙ c.in_ok-place.was in
     let none = sym c.waiting.ensures ∙ no_some c.waiting.result c.in_default.not-Some in
-    c.decode.ensures.reading ∙ ap fields_in c.slot.ensures.bytes ∙ ap (λ b. fields_in (slot_of b c.in_ok-place.place.slot)) c.block.ensures.block
+    c.inode_in.ensures.reading ∙ ap (λ b. fields_in (slot_of b c.in_ok-place.place.slot)) c.block.ensures.block
     ∙ sym (record_of-logged c.args.self.now c.args.ino c.in_ok-place.place used none)
