@@ -1,5 +1,9 @@
 pub mod FileLemmas
 pub mod KeyLemmas
+pub mod LandedLemmas
 pub mod OpeningLemmas
+pub mod PutLemmas
 pub mod ReadLemmas
+pub mod SettingLemmas
 pub mod ViewLemmas
+pub mod WaitingLemmas

@@ -1,6 +1,7 @@
 pub mod Files
 pub mod Filling
 pub mod Keys
+pub mod Landing
 pub mod Opening
 pub mod Store
 pub mod View

@@ -5,5 +5,6 @@
 pub mod files;
 mod format;
 pub mod keys;
+pub mod landing;
 pub mod parts;
 pub mod reading;
