@@ -104,10 +104,10 @@ unfolding record_place
 same_place old new number rows = ap (λ (rs : List InodeRow). let row = row_at rs number in if row.address == 0 then 0 else 4 * row.address + row.slot) rows
 
 module _ (p r s q : Parts) (v : Inode) (block : FileBlock) (a i : ℕ) (up : List ℕ) (h : Steps p r s q v block a i up) where
-  rows_all : q.log.tables.rows ≡ p.log.tables.rows
+  pub rows_all : q.log.tables.rows ≡ p.log.tables.rows
   rows_all = h.rows ∙ ap (λ (t : Tables). t.rows) h.put.tables
 
-  version_same : (m : ℕ) → version_of q m ≡ version_of p m
+  pub version_same : (m : ℕ) → version_of q m ≡ version_of p m
   version_same m = ap (λ (rs : List InodeRow). (row_at rs m).version) rows_all
 
   -- the codes of the block and of what holds its address
@@ -138,7 +138,7 @@ module _ (p r s q : Parts) (v : Inode) (block : FileBlock) (a i : ℕ) (up : Lis
   record_other m other = record_after m ∙ h.set.records m other ∙ h.put.records m
 
   -- what waits
-  waits_key : (key : Key) → same_key (key_of v.number v.version (code_of block)) key ≡ false → same_key (key_of v.number v.version (code_at up)) key ≡ false
+  pub waits_key : (key : Key) → same_key (key_of v.number v.version (code_of block)) key ≡ false → same_key (key_of v.number v.version (code_at up)) key ≡ false
       → block_in key q.cache.locked ≡ block_in key p.cache.locked
   waits_key key apart above = h.kept key apart ∙ h.set.waits key above ∙ ap (λ (c : Contents). block_in key c.locked) h.put.cache
 

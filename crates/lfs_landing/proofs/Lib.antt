@@ -1,4 +1,5 @@
 pub mod FileLemmas
+pub mod KeepingLemmas
 pub mod KeyLemmas
 pub mod LandedLemmas
 pub mod OpeningLemmas

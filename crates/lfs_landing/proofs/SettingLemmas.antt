@@ -63,6 +63,9 @@ pub at_way : (P : ℕ → List ℕ → Type 0) (way : List ℕ) (j : ℕ) (above
 at_way P way j above is h i up e =
     let first : j ≡ i = cc in let rest : above ≡ up = cc in subst (P i) rest (subst (λ k. P k above) first h)
 
+not_nil : (j : ℕ) (above : List ℕ) → j ∷ above ≡ [] → ⊥
+not_nil j above e = cc
+
 -- what is there
 pub some_there : (o : Option (List ℕ)) → IsSome o → (x : List ℕ) × (o ≡ Some x)
 some_there None h = absurd (cc)
@@ -92,6 +95,7 @@ module _ (p q : Parts) (v w : Inode) (is : IsWaiting p v) (log : q.log ≡ p.log
     root = λ some. absurd (some refl);
     records = λ number other. record_same p q number log (replaced_others number other);
     waits = λ key other. ap (λ (s : Contents). block_in key s.locked) cache;
+    record_only = λ _. cache;
     still = tt;
   }
 
@@ -132,6 +136,7 @@ module _ (p q : Parts) (v : Inode) (i a : ℕ) (b : List ℕ) (is : IsWaiting p 
     root = λ some. record_same p q v.number log (ap (λ items. waiting_in items v.number) waiting);
     records = λ number other. record_same p q number log (ap (λ items. waiting_in items number) waiting);
     waits = λ key other. h.rewritten.others key (subst (λ c. same_key (key_of v.number v.version c) key ≡ false) (code_at-way_to Single) other);
+    record_only = λ e. absurd (not_nil 12 [] e);
     still = ap (λ c. is_some (block_in (key_of v.number v.version c) q.cache.locked)) (code_at-way_to Single) ∙ ap is_some h.rewritten.here;
   }
 

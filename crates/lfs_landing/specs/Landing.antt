@@ -69,6 +69,7 @@ pub record Sets (old new : Parts) (v : Inode) (i : ℕ) (up : List ℕ) (a : ℕ
   pub records : (number : ℕ) → number ≢ v.number → record_of new number ≡ record_of old number
   pub waits : (key : Key) → same_key (key_of v.number v.version (code_at up)) key ≡ false
       → block_in key new.cache.locked ≡ block_in key old.cache.locked
+  pub record_only : up ≡ [] → new.cache ≡ old.cache
   pub still : ParentWaits new v up
 
 -- What waits is still formed: the record of the number too, which has the attributes that it had.

@@ -133,7 +133,7 @@ impl Parts {
             → Expects self.old.log.memory (entry_of inode.now block ∷ rest)
             → Expects self.new.log.memory rest }
         ensures waiting { StaysWaiting self.old self.new inode.now }
-        ensures kept { IsParts self.new.log }
+        ensures files { AreFiles self.new }
     {
         let from = self.address_of(inode, block);
         let bytes = *self.block_of(inode, block);

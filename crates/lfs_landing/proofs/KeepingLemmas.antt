@@ -1,0 +1,152 @@
+-- What holds of the files holds still when a block landed.
+use Rattle.std.proofs.Common.{◌≡◌, ◌≢◌, ℕ, ◌+◌, ◌/◌, ◌%◌, ◌<◌, ◌≤◌, ◌⊎◌, List, [], ◌∷◌, length, Some, IsSome, false, is_some, refl, sym, ap, ◌∙◌, subst, inl, inr, arith}
+use Rattle.std.specs.Prelude.{slice_index}
+use Rattle.std.proofs.lemmas.Bool.{cases_eq, cases_lt, false≢true}
+use Rattle.std.proofs.lemmas.Option.{none-some, same_Some}
+use Rattle.lfs_ifile.specs.declared.inode.InodeRow.{InodeRow}
+use Rattle.lfs_ifile.specs.Tables.{row_at}
+use Rattle.lfs_inodes.specs.declared.inode.Inode.{Inode}
+use Rattle.lfs_inodes.specs.Attributes.{Attributes}
+use Rattle.lfs_inodes.specs.Facts.{block_count}
+use Rattle.lfs_inodes.specs.Reading.{AreFields, Fields, fields_of}
+use Rattle.lfs_inodes.proofs.FieldLemmas.{AreFields-fields_of}
+use Rattle.lfs_cache.specs.declared.key.Key.{Key}
+use Rattle.lfs_cache.specs.Contents.{Contents, IsLocked, block_in}
+use Rattle.lfs_cache.specs.Keys.{same_key}
+use Rattle.lfs_cache.proofs.Entries.{same_cases, same_is}
+use Rattle.lfs_log.specs.Parts.{IsParts}
+use Rattle.lfs_ways.specs.declared.blocks.FileBlock.{FileBlock}
+use Rattle.lfs_ways.specs.declared.blocks.FileBlock.TheVariants.{Record, Single, Data}
+use Rattle.lfs_ways.specs.Blocks.{code_of}
+use Rattle.lfs_ways.specs.Pieces.{IsPadded}
+use Rattle.lfs_ways.specs.Reading.{address, data_block}
+use Rattle.lfs_ways.specs.Ways.{code_at, way_of}
+use Rattle.lfs_ways.proofs.WayLemmas.{known_way_of, up_code, up_known, way_of-data, way_of-zero}
+use Rattle.lfs_landing.specs.declared.parts.TheConstants.{WAITING_LIMIT}
+use Rattle.lfs_landing.specs.declared.parts.Parts.{Parts}
+use Rattle.lfs_landing.specs.Landing.{IsWithin, StaysWaiting}
+use Rattle.lfs_landing.specs.Store.{AreFiles, IsFile, IsPresent}
+use Rattle.lfs_landing.specs.View.{key_of, record_of, tree_of}
+use Rattle.lfs_landing.proofs.FileLemmas.{record_of-past}
+use Rattle.lfs_landing.proofs.LandedLemmas.{Steps, address_same, data_same, known, record_other, rows_all, version_same, waits_key}
+use Rattle.lfs_landing.proofs.SettingLemmas.{waiting_record}
+
+-- a block within the size is none past it
+within_apart : (block : FileBlock) (size k : ℕ) → code_of block ≢ 0 → IsWithin block size → block_count size ≤ k → 131 + k ≢ code_of block
+within_apart Record size k other within past e = other refl
+within_apart Single size k other within past e = omega arith
+within_apart (Data index) size k other within past e = omega arith
+
+-- blocks that are the same are padded alike
+padded_same : (old new : ℕ → List ℕ) (size : ℕ) → ((n : ℕ) → new n ≡ old n) → IsPadded old size → IsPadded new size
+padded_same old new size same h = record {
+  whole = λ n. ap length (same n) ∙ h.whole n;
+  zeros = λ i past. ap (λ b. slice_index b (i % 512)) (same (i / 512)) ∙ h.zeros i past;
+}
+
+module _ (p r s q : Parts) (v : Inode) (block : FileBlock) (a i : ℕ) (up : List ℕ) (h : Steps p r s q v block a i up) (waited : up ≢ [] → IsSome ((tree_of p v.number).waits up))
+    (files : AreFiles p) (stays : StaysWaiting p q v) (within : IsWithin block v.size) (parts : IsParts q.log) where
+  rows : q.log.tables.rows ≡ p.log.tables.rows
+  rows = rows_all p r s q v block a i up h
+
+  number_after : stays.after.number ≡ v.number
+  number_after = ap (λ (x : Attributes). x.number) stays.same
+
+  record_here : record_of q v.number ≡ Some (fields_of stays.after)
+  record_here = ap (record_of q) (sym number_after) ∙ waiting_record q stays.after stays.here
+
+  in_volume : (number : ℕ) (f : Fields) → record_of q number ≡ Some f → number < length p.log.tables.rows
+  in_volume number f is =
+      elim (cases_lt number (length p.log.tables.rows)) [
+        | inl low ↦ low
+        | inr past ↦ absurd (none-some f (sym (record_of-past q number (subst (λ rs. length rs ≤ number) (sym rows) past)) ∙ is))
+      ]
+
+  present_after : (number version : ℕ) → IsPresent p number version → IsPresent q number version
+  present_after number version was = record {
+    in_use = ap (λ (rs : List InodeRow). (row_at rs number).used) rows ∙ was.in_use;
+    at_version = was.at_version ∙ sym (ap (λ (rs : List InodeRow). (row_at rs number).version) rows);
+  }
+
+  -- a file that has blocks of its own at the addresses that they had
+  file_after : (number : ℕ) (f g : Fields) → number < length p.log.tables.rows → IsFile p number f → f.attributes ≡ g.attributes
+      → ((k : ℕ) → block_count f.attributes.size ≤ k → (number ≢ v.number) ⊎ (131 + k ≢ code_of block)) → AreFields g → IsFile q number g
+  file_after number f g low was same apart formed = record {
+    formed = formed;
+    own_number = sym (ap (λ (x : Attributes). x.number) same) ∙ was.own_number;
+    own_version = sym (ap (λ (x : Attributes). x.version) same) ∙ was.own_version ∙ sym (version_same p r s q v block a i up h number);
+    none_past = λ k past below.
+        let from : block_count f.attributes.size ≤ k = subst (λ (x : Attributes). block_count x.size ≤ k) (sym same) past in
+        ap (address (tree_of q number)) (sym (way_of-data k)) ∙ address_same p r s q v block a i up h waited number (131 + k) low (omega arith) (apart k from)
+        ∙ ap (address (tree_of p number)) (way_of-data k) ∙ was.none_past k from below;
+    padded = subst (λ (x : Attributes). IsPadded (data_block (tree_of q number)) x.size) same
+        (padded_same (data_block (tree_of p number)) (data_block (tree_of q number)) f.attributes.size (λ n. data_same p r s q v block a i up h waited number n low) was.padded);
+  }
+
+  files_after : (number : ℕ) (f : Fields) → record_of q number ≡ Some f → IsFile q number f
+  files_after number f is =
+      elim (cases_eq number v.number) [
+        | inl e ↦
+            let same : fields_of stays.after ≡ f = same_Some _ f (sym record_here ∙ ap (record_of q) (sym e) ∙ is) in
+            subst (IsFile q number) same (file_after number (fields_of v) (fields_of stays.after) (in_volume number f is)
+            (subst (λ n. IsFile p n (fields_of v)) (sym e) (files.files v.number (fields_of v) (waiting_record p v h.is))) (sym stays.same)
+            (λ k past. inr (within_apart block v.size k h.other within past)) (AreFields-fields_of stays.after))
+        | inr ne ↦
+            let was = files.files number f (sym (record_other p r s q v block a i up h number ne) ∙ is) in
+            file_after number f f (in_volume number f is) was refl (λ k past. inl ne) was.formed
+      ]
+
+  above_some : up ≢ [] → 1 ≤ code_at up
+  above_some some =
+      elim (cases_eq (code_at up) 0) [
+        | inl none ↦ absurd (some (sym (known_way_of up (up_known i up (known p r s q v block a i up h))) ∙ ap way_of none ∙ way_of-zero))
+        | inr ne ↦ omega arith
+      ]
+
+  -- what is locked was locked, or holds the address
+  locked_cases : (key : Key) → IsLocked key q.cache → (IsLocked key p.cache) ⊎ ((up ≢ []) × (key_of v.number v.version (code_at up) ≡ key))
+  locked_cases key locked =
+      elim (same_cases (key_of v.number v.version (code_of block)) key) [
+        | inl is ↦
+            let e = same_is (key_of v.number v.version (code_of block)) key is in
+            let none = ap (λ k. is_some (block_in k q.cache.locked)) (sym e) ∙ ap is_some h.gone in
+            absurd (false≢true (sym none ∙ locked))
+        | inr apart ↦ elim (same_cases (key_of v.number v.version (code_at up)) key) [
+          | inl is ↦ parent_cases up refl (same_is (key_of v.number v.version (code_at up)) key is) apart
+          | inr far ↦ inl (sym (ap is_some (waits_key p r s q v block a i up h key apart far)) ∙ locked)
+        ]
+      ]
+    where
+      parent_cases : (w : List ℕ) → w ≡ up → key_of v.number v.version (code_at up) ≡ key → same_key (key_of v.number v.version (code_of block)) key ≡ false
+          → (IsLocked key p.cache) ⊎ ((up ≢ []) × (key_of v.number v.version (code_at up) ≡ key))
+      parent_cases [] e is apart =
+          inl (sym (ap is_some (h.kept key apart ∙ ap (λ (c : Contents). block_in key c.locked) (h.set.record_only (sym e)) ∙ ap (λ (c : Contents). block_in key c.locked) h.put.cache)) ∙ locked)
+      parent_cases (j ∷ above) e is apart = inr (λ none. absurd (let bad : j ∷ above ≡ [] = e ∙ none in cc), is)
+
+  pub files_kept : AreFiles q
+  files_kept = record {
+    parts = parts;
+    cache = stays.cache;
+    readable = record { none_clean = stays.none_clean };
+    root_used = ap (λ (rs : List InodeRow). (row_at rs 2).used) rows ∙ files.root_used;
+    reserved = λ number low other. ap (λ (rs : List InodeRow). (row_at rs number).used) rows ∙ files.reserved number low other;
+    recorded = λ number used. elim (cases_eq number v.number) [
+      | inl e ↦ ap is_some (ap (record_of q) e ∙ record_here)
+      | inr ne ↦ ap is_some (record_other p r s q v block a i up h number ne) ∙ files.recorded number (sym (ap (λ (rs : List InodeRow). (row_at rs number).used) rows) ∙ used)
+    ];
+    files = files_after;
+    records = stays.present;
+    frames = λ key locked. elim (locked_cases key locked) [
+      | inl was ↦ present_after key.ino key.version (files.frames key was)
+      | inr parent ↦ present_after key.ino key.version (subst (λ (k : Key). IsPresent p k.ino k.version) parent.1 (record { in_use = h.is.in_use; at_version = h.is.at_version }))
+    ];
+    room = subst (λ n. WAITING_LIMIT ≤ n) (sym stays.room) files.room;
+    coded = λ key locked. elim (locked_cases key locked) [
+      | inl was ↦ files.coded key was
+      | inr parent ↦
+          let below = up_code i up (known p r s q v block a i up h).leads in
+          let lbn : key.lbn ≡ code_at up = sym (ap (λ (k : Key). k.lbn) parent.1) in
+          let some = above_some parent.0 in
+          (omega (arith, lbn, some), omega (arith, lbn, below))
+    ];
+  }
