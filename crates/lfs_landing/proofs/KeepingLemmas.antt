@@ -1,5 +1,5 @@
 -- What holds of the files holds still when a block landed.
-use Rattle.std.proofs.Common.{◌≡◌, ◌≢◌, ℕ, ◌+◌, ◌/◌, ◌%◌, ◌<◌, ◌≤◌, ◌⊎◌, List, [], ◌∷◌, length, Some, IsSome, false, is_some, refl, sym, ap, ◌∙◌, subst, inl, inr, arith}
+use Rattle.std.proofs.Common.{true, ◌≡◌, ◌≢◌, ℕ, ◌+◌, ◌/◌, ◌%◌, ◌<◌, ◌≤◌, ◌⊎◌, List, [], ◌∷◌, length, Some, IsSome, false, is_some, refl, sym, ap, ◌∙◌, subst, inl, inr, arith}
 use Rattle.std.specs.Prelude.{slice_index}
 use Rattle.std.proofs.lemmas.Bool.{cases_eq, cases_lt, false≢true}
 use Rattle.std.proofs.lemmas.Option.{none-some, same_Some}
@@ -24,11 +24,13 @@ use Rattle.lfs_ways.specs.Ways.{code_at, way_of}
 use Rattle.lfs_ways.proofs.WayLemmas.{known_way_of, up_code, up_known, way_of-data, way_of-zero}
 use Rattle.lfs_landing.specs.declared.parts.TheConstants.{WAITING_LIMIT}
 use Rattle.lfs_landing.specs.declared.parts.Parts.{Parts}
-use Rattle.lfs_landing.specs.Landing.{IsWithin, StaysWaiting}
+use Rattle.lfs_landing.specs.Files.{content_of}
+use Rattle.lfs_landing.specs.Landing.{ParentWaits, IsWithin, StaysWaiting}
 use Rattle.lfs_landing.specs.Store.{AreFiles, IsFile, IsPresent}
 use Rattle.lfs_landing.specs.View.{key_of, record_of, tree_of}
 use Rattle.lfs_landing.proofs.FileLemmas.{record_of-past}
 use Rattle.lfs_landing.proofs.LandedLemmas.{Steps, address_same, data_same, known, record_other, rows_all, version_same, waits_key}
+use Rattle.lfs_landing.proofs.SameContentLemmas.{content_of-same, file_at-kept, file_at-same}
 use Rattle.lfs_landing.proofs.SettingLemmas.{waiting_record}
 
 -- a block within the size is none past it
@@ -150,3 +152,28 @@ module _ (p r s q : Parts) (v : Inode) (block : FileBlock) (a i : ℕ) (up : Lis
           (omega (arith, lbn, some), omega (arith, lbn, below))
     ];
   }
+
+  -- and the content is the same
+  pub content_kept : content_of q ≡ content_of p
+  content_kept =
+      content_of-same p q (ap length rows) (λ number low. elim (cases_eq number v.number) [
+        | inl e ↦
+            file_at-same p q number (fields_of v) (fields_of stays.after) (ap (record_of p) e ∙ waiting_record p v h.is) (ap (record_of q) e ∙ record_here)
+            stays.same (λ n. data_same p r s q v block a i up h waited number n low)
+        | inr ne ↦ file_at-kept p q number (record_other p r s q v block a i up h number ne) (λ n. data_same p r s q v block a i up h waited number n low)
+      ])
+
+  -- what else was locked still is
+  pub frames_kept : (key : Key) → same_key (key_of v.number v.version (code_of block)) key ≡ false → is_some (block_in key p.cache.locked) ≡ true → is_some (block_in key q.cache.locked) ≡ true
+  frames_kept key apart was =
+      elim (same_cases (key_of v.number v.version (code_at up)) key) [
+        | inl is ↦ still up refl (same_is (key_of v.number v.version (code_at up)) key is)
+        | inr far ↦ ap is_some (waits_key p r s q v block a i up h key apart far) ∙ was
+      ]
+    where
+      still : (w : List ℕ) → w ≡ up → key_of v.number v.version (code_at up) ≡ key → is_some (block_in key q.cache.locked) ≡ true
+      still [] e is =
+          ap is_some (h.kept key apart ∙ ap (λ (c : Contents). block_in key c.locked) (h.set.record_only (sym e)) ∙ ap (λ (c : Contents). block_in key c.locked) h.put.cache) ∙ was
+      still (j ∷ above) e is =
+          ap is_some (h.kept key apart) ∙ subst (λ k. is_some (block_in k s.cache.locked) ≡ true) (ap (λ w. key_of v.number v.version (code_at w)) e ∙ is)
+          (subst (ParentWaits s v) (sym e) h.set.still)

@@ -1,21 +1,23 @@
 //! Writing what waits into the log.
 
-ghost use Rattle.std.specs.Prelude.{◌≡◌, ◌+◌, ◌<◌, ◌∷◌, [], ℕ, List, Some, IsSome, All, slice_set, vec_capacity};
+ghost use Rattle.std.specs.Prelude.{◌≡◌, ◌+◌, ◌<◌, ◌∷◌, [], ℕ, List, Some, IsSome, All, false, vec_capacity};
 ghost use Rattle.lfs_inodes.specs.declared.inode.Inode.{Inode};
 ghost use Rattle.lfs_inodes.specs.declared.inode.TheConstants.{ADDRESS_LIMIT};
-ghost use Rattle.lfs_inodes.specs.Addresses.{cells};
 ghost use Rattle.lfs_cache.specs.Changes.{IsContents};
-ghost use Rattle.lfs_cache.specs.Contents.{block_in};
+ghost use Rattle.lfs_cache.specs.declared.key.Key.{Key};
+ghost use Rattle.lfs_cache.specs.Contents.{IsLocked, block_in};
+ghost use Rattle.lfs_cache.specs.Keys.{same_key};
 ghost use Rattle.lfs_segments.specs.declared.entry.SummaryEntry.{SummaryEntry};
 ghost use Rattle.lfs_segments.specs.Log.{Expects, Extends, entry_at};
 ghost use Rattle.lfs_segments.specs.Memory.{next_address};
 ghost use Rattle.lfs_log.specs.Parts.{IsParts};
 ghost use Rattle.lfs_ways.specs.Log.{IsLog};
 ghost use Rattle.lfs_landing.specs.Keys.{log_state};
-ghost use Rattle.lfs_ways.specs.Blocks.{IsFileBlock, way_to};
-ghost use Rattle.lfs_landing.specs.Landing.{ExpectsBlock, ExpectsSome, IsWaiting, IsWithin, LandsBlock, MayLand, ParentWaits, PutsBlock, Replaces, Rewrites, Sets, SetsEntry, StaysWaiting, entry_of, replaced};
+ghost use Rattle.lfs_ways.specs.Blocks.{IsFileBlock, code_of, way_to};
+ghost use Rattle.lfs_landing.specs.Files.{content_of};
+ghost use Rattle.lfs_landing.specs.Landing.{ExpectsBlock, ExpectsSome, IsWaiting, IsWithin, LandsBlock, MayLand, ParentWaits, PutsBlock, Replaces, Sets, SetsEntry, StaysWaiting, entry_of, replaced};
 ghost use Rattle.lfs_landing.specs.Store.{AreFiles, IsPresent};
-ghost use Rattle.lfs_landing.specs.View.{IsReadable, waiting_in};
+ghost use Rattle.lfs_landing.specs.View.{IsReadable, key_of, waiting_in};
 
 use crate::parts::Parts;
 use lfs_cache::{Cache, Key};
@@ -134,6 +136,10 @@ impl Parts {
             → Expects self.new.log.memory rest }
         ensures waiting { StaysWaiting self.old self.new inode.now }
         ensures files { AreFiles self.new }
+        ensures content { content_of self.new ≡ content_of self.old }
+        // What else waits still does.
+        ensures frames { (key : Key) → same_key (key_of inode.now.number inode.now.version
+            (code_of block)) key ≡ false → IsLocked key self.old.cache → IsLocked key self.new.cache }
     {
         let from = self.address_of(inode, block);
         let bytes = *self.block_of(inode, block);
