@@ -5,7 +5,7 @@ pub mod LandedLemmas
 pub mod OpeningLemmas
 pub mod PutLemmas
 pub mod ReadLemmas
+pub mod ReplacingLemmas
 pub mod SameContentLemmas
 pub mod SettingLemmas
 pub mod ViewLemmas
-pub mod WaitingLemmas

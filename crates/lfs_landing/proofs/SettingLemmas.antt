@@ -22,7 +22,7 @@ use Rattle.lfs_landing.specs.Landing.{IsWaiting, Replaces, Sets, SetsEntry, Stay
 use Rattle.lfs_landing.specs.Store.{IsPresent}
 use Rattle.lfs_landing.specs.View.{fields_at, key_of, record_of, root_in, tree_of, version_of, waiting_in, waiting_or}
 use Rattle.lfs_landing.proofs.ViewLemmas.{code_at-way_to, record_of-waiting}
-use Rattle.lfs_landing.proofs.WaitingLemmas.{each_replaced}
+use Rattle.lfs_landing.proofs.ReplacingLemmas.{each_replaced}
 
 -- the record of a number is the same where the log is, and what waits for the number
 pub record_same : (p q : Parts) (number : ℕ) → q.log ≡ p.log → waiting_in q.waiting.items number ≡ waiting_in p.waiting.items number

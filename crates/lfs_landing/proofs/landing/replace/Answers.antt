@@ -6,7 +6,7 @@ use Rattle.std.proofs.lemmas.Iterator.Search.{position_from_yields_List}
 use Rattle.lfs_inodes.specs.declared.inode.Inode.{Inode}
 use Rattle.lfs_landing.specs.Landing.{Replaces}
 use Rattle.lfs_landing.specs.View.{waiting_in}
-use Rattle.lfs_landing.proofs.WaitingLemmas.{found_place, no_place, replaces}
+use Rattle.lfs_landing.proofs.ReplacingLemmas.{found_place, no_place, replaces}
 use Rattle.lfs_landing.proofs.landing.replace.Goals as goal
 
 pub unreachable-requires : goal.unreachable-requires
