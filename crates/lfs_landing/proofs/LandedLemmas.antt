@@ -38,7 +38,7 @@ use Rattle.lfs_ways.proofs.ReadingLemmas.{kept_blocks, landed_address, landed_ad
 use Rattle.lfs_ways.proofs.WayLemmas.{data_way-direct, data_way-single, known_way_of, same_code, up_known, way_of-code_of, way_of-data, way_of-known}
 use Rattle.lfs_landing.specs.declared.parts.Parts.{Parts}
 use Rattle.lfs_landing.specs.Keys.{log_state}
-use Rattle.lfs_landing.specs.Landing.{IsWaiting, ParentWaits, PutsBlock, Sets, StaysWaiting}
+use Rattle.lfs_landing.specs.Landing.{numbers_of, IsWaiting, ParentWaits, PutsBlock, Sets, StaysWaiting}
 use Rattle.lfs_landing.specs.Store.{IsPresent}
 use Rattle.lfs_landing.specs.View.{key_of, record_of, root_in, tree_of, version_of, waiting_in}
 use Rattle.lfs_landing.proofs.KeyLemmas.{place-block, place-record}
@@ -382,4 +382,5 @@ stays_landed p r s q v stays before capacity after room rows formed none = recor
   };
   same = stays.same;
   others = λ number other. ap (λ items. waiting_in items number) after ∙ stays.others number other ∙ ap (λ items. waiting_in items number) before;
+  numbers = ap numbers_of after ∙ stays.numbers ∙ ap numbers_of before;
 }

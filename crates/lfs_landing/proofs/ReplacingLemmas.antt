@@ -6,6 +6,7 @@ use Rattle.std.proofs.lemmas.Bool.{cases_Bool, cases_lt, eqb-true, eq-eqb, ne_eq
 use Rattle.std.proofs.lemmas.Option.{none-some, same_Some}
 use Rattle.std.proofs.lemmas.List.Folds.{find-set, find_past}
 use Rattle.std.proofs.lemmas.List.Elements.{All-set}
+use Rattle.std.proofs.Math.Seq.{map-set_same}
 use Rattle.lfs_inodes.specs.declared.inode.Inode.{Inode}
 use Rattle.lfs_landing.specs.Landing.{Replaces, replaced}
 
@@ -39,6 +40,10 @@ replaces xs v low = record {
       let same : (get_or xs i v).number ≡ v.number = eqb-true _ _ (passes (λ (w : Inode). w.number == v.number) xs v low) in
       find_past (λ (w : Inode). w.number == number) xs i v v
       (ne_eqb _ _ (λ e. other (sym e ∙ same))) (ne_eqb _ _ (λ e. other (sym e)));
+  numbers =
+      let i = position_or_len (λ (w : Inode). w.number == v.number) xs in
+      let same : (get_or xs i v).number ≡ v.number = eqb-true _ _ (passes (λ (w : Inode). w.number == v.number) xs v low) in
+      map-set_same (λ (w : Inode). w.number) xs i v v (sym same);
 }
 
 pub each_replaced : (P : Inode → Type 0) (xs : List Inode) (v : Inode) → P v → All P xs → All P (replaced xs v)

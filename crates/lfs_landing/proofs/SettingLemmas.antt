@@ -18,7 +18,7 @@ use Rattle.lfs_ways.specs.Reading.{table}
 use Rattle.lfs_ways.specs.declared.blocks.FileBlock.TheVariants.{Single}
 use Rattle.lfs_ways.proofs.ReadingLemmas.{table-root, table-read, read-waits}
 use Rattle.lfs_landing.specs.declared.parts.Parts.{Parts}
-use Rattle.lfs_landing.specs.Landing.{IsWaiting, Replaces, Sets, SetsEntry, StaysWaiting, replaced}
+use Rattle.lfs_landing.specs.Landing.{numbers_of, IsWaiting, Replaces, Sets, SetsEntry, StaysWaiting, replaced}
 use Rattle.lfs_landing.specs.Store.{IsPresent}
 use Rattle.lfs_landing.specs.View.{fields_at, key_of, record_of, root_in, tree_of, version_of, waiting_in, waiting_or}
 use Rattle.lfs_landing.proofs.ViewLemmas.{code_at-way_to, record_of-waiting}
@@ -110,6 +110,7 @@ module _ (p q : Parts) (v w : Inode) (is : IsWaiting p v) (log : q.log ≡ p.log
     here = replaced_here;
     same = same;
     others = replaced_others;
+    numbers = swap.numbers;
   }
     where
       all_present : (p q : Parts) (xs ys : List Inode) → q.log ≡ p.log → ys ≡ replaced xs w → All (λ (x : Inode). IsPresent p x.number x.version) xs → IsWaiting q w
@@ -151,4 +152,5 @@ module _ (p q : Parts) (v : Inode) (i a : ℕ) (b : List ℕ) (is : IsWaiting p 
     here = entry_here;
     same = refl;
     others = λ number other. ap (λ items. waiting_in items number) waiting;
+    numbers = ap numbers_of waiting;
   }

@@ -1,5 +1,5 @@
 -- What waits is written into the log, block by block.
-use Rattle.std.specs.Prelude.{◌≡◌, ◌≢◌, ℕ, ◌+◌, ◌*◌, ◌<◌, List, [], ◌∷◌, length, None, Some, true, false, ◌==◌, slice_set, All, ⊤}
+use Rattle.std.specs.Prelude.{map, ◌≡◌, ◌≢◌, ℕ, ◌+◌, ◌*◌, ◌<◌, List, [], ◌∷◌, length, None, Some, true, false, ◌==◌, slice_set, All, ⊤}
 use Rattle.std.specs.List.{position_or_len}
 use Rattle.std.specs.Vec.{vec_capacity}
 use Rattle.lfs_ifile.specs.Tables.{row_of}
@@ -31,10 +31,15 @@ use Rattle.lfs_landing.specs.View.{key_of, record_of, tree_of, version_of, waiti
 abbrev pub replaced : List Inode → Inode → List Inode
 replaced records v = slice_set records (position_or_len (λ (w : Inode). w.number == v.number) records) v
 
+-- their numbers, in order
+abbrev pub numbers_of : List Inode → List ℕ
+numbers_of records = map (λ (v : Inode). v.number) records
+
 -- Of some records, that of a number was replaced.
 pub record Replaces (old new : List Inode) (v : Inode) : Type 0 where
   pub here : waiting_in new v.number ≡ Some v
   pub others : (number : ℕ) → number ≢ v.number → waiting_in new number ≡ waiting_in old number
+  pub numbers : numbers_of new ≡ numbers_of old
 
 -- an inode is the record that waits of its number, which is in use at its version
 pub record IsWaiting (p : Parts) (v : Inode) : Type 0 where
@@ -82,6 +87,7 @@ pub record StaysWaiting (old new : Parts) (v : Inode) : Type 0 where
   pub here : IsWaiting new after
   pub same : attributes after ≡ attributes v
   pub others : (number : ℕ) → number ≢ v.number → waiting_in new.waiting.items number ≡ waiting_in old.waiting.items number
+  pub numbers : numbers_of new.waiting.items ≡ numbers_of old.waiting.items
 
 -- An address was set in an indirect block that waits.
 pub record SetsEntry (old new : Contents) (key : Key) (index address : ℕ) (before : List ℕ) : Type 0 where
