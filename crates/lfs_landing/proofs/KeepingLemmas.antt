@@ -177,3 +177,15 @@ module _ (p r s q : Parts) (v : Inode) (block : FileBlock) (a i : ℕ) (up : Lis
       still (j ∷ above) e is =
           ap is_some (h.kept key apart) ∙ subst (λ k. is_some (block_in k s.cache.locked) ≡ true) (ap (λ w. key_of v.number v.version (code_at w)) e ∙ is)
           (subst (ParentWaits s v) (sym e) h.set.still)
+
+  -- and nothing else is
+  pub frames_only : ParentWaits p v up → (key : Key) → IsLocked key q.cache → IsLocked key p.cache
+  frames_only waits key locked =
+      elim (locked_cases key locked) [
+        | inl was ↦ was
+        | inr parent ↦ subst (λ k. IsLocked k p.cache) parent.1 (parent_locked up parent.0 waits)
+      ]
+    where
+      parent_locked : (w : List ℕ) → w ≢ [] → ParentWaits p v w → IsLocked (key_of v.number v.version (code_at w)) p.cache
+      parent_locked [] some waits = absurd (some refl)
+      parent_locked (j ∷ above) some waits = waits

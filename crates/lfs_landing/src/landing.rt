@@ -140,6 +140,7 @@ impl Parts {
         // What else waits still does.
         ensures frames { (key : Key) → same_key (key_of inode.now.number inode.now.version
             (code_of block)) key ≡ false → IsLocked key self.old.cache → IsLocked key self.new.cache }
+        ensures only { (key : Key) → IsLocked key self.new.cache → IsLocked key self.old.cache }
     {
         let from = self.address_of(inode, block);
         let bytes = *self.block_of(inode, block);

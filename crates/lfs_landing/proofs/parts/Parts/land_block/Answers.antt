@@ -20,7 +20,7 @@ use Rattle.lfs_landing.specs.Landing.{PutsBlock, entry_of}
 use Rattle.lfs_landing.specs.View.{LiesIn, blocks_of, key_of, tree_of}
 use Rattle.lfs_landing.proofs.FileLemmas.{tree_from-of}
 use Rattle.lfs_landing.proofs.KeyLemmas.{lies_in, place-block}
-use Rattle.lfs_landing.proofs.KeepingLemmas.{content_kept, files_kept, frames_kept}
+use Rattle.lfs_landing.proofs.KeepingLemmas.{content_kept, files_kept, frames_kept, frames_only}
 use Rattle.lfs_landing.proofs.LandedLemmas.{Steps, data_same, forgotten_clean, lands, live_fits, live_had, log_after, others_same, parent_kept, record_other, stays_landed, used_low, waited_parent, way_some}
 use Rattle.lfs_landing.proofs.SettingLemmas.{waiting_record}
 use Rattle.lfs_landing.proofs.parts.Parts.land_block.Goals as goal
@@ -192,3 +192,13 @@ returns-clause-frames c =
     let stays = stays_landed p r s q v c.set_address.ensures.waiting c.put_block-to.ensures.put.items (ap vec_capacity c.put_block-to.ensures.put.waiting) refl refl
     c.move_live.ensures.others.rows c.forget.ensures.formed (ap (λ (x : Contents). x.lru) c.forget.ensures.contents ∙ forgotten_clean _ s.cache c.set_address.ensures.waiting.none_clean) in
     frames_kept p r s q v b a w.0 w.1 (steps c w.0 w.1 w.2) (waited_parent p v may.is w.1 (may.parent w.0 w.1 w.2)) c.requires.files stays may.within c.move_live.ensures.kept
+
+pub returns-clause-only : goal.returns-clause-only
+unfolding after
+returns-clause-only c =
+    let p = c.args.self.now in let v = c.args.inode.now in let may = c.requires.may_land in let b = c.args.block in
+    let r = c.put_block-to.new.self in let s = c.set_address.new.self in let q = after c in let a = c.put_block-to.result in
+    let w = way_some b may.can may.other in
+    let stays = stays_landed p r s q v c.set_address.ensures.waiting c.put_block-to.ensures.put.items (ap vec_capacity c.put_block-to.ensures.put.waiting) refl refl
+    c.move_live.ensures.others.rows c.forget.ensures.formed (ap (λ (x : Contents). x.lru) c.forget.ensures.contents ∙ forgotten_clean _ s.cache c.set_address.ensures.waiting.none_clean) in
+    frames_only p r s q v b a w.0 w.1 (steps c w.0 w.1 w.2) (waited_parent p v may.is w.1 (may.parent w.0 w.1 w.2)) c.requires.files stays may.within c.move_live.ensures.kept (may.parent w.0 w.1 w.2)
