@@ -63,7 +63,7 @@ fn set_entry(cache: &mut Cache, key: Key, index: usize, address: u32)
 
 impl Parts {
     /// Writes a block at the log's end, which expects one, and gives its address.
-    fn put_block(&mut self, bytes: &Block) -> u32
+    fn append_block(&mut self, bytes: &Block) -> u32
         requires parts { IsParts self.old.log }
         requires log { IsLog (log_state self.old) 0 }
         requires expected { ExpectsSome self.old.log.memory }
@@ -144,7 +144,7 @@ impl Parts {
     {
         let from = self.address_of(inode, block);
         let bytes = *self.block_of(inode, block);
-        let to = self.put_block(&bytes);
+        let to = self.append_block(&bytes);
         self.set_address(inode, block, to);
         self.log.move_live(block, from, to);
         self.cache.forget(Key {

@@ -41,7 +41,7 @@ block_of-requires-clause-inside c =
 
 pub set_address-requires-clause-parent : goal.set_address-requires-clause-parent
 set_address-requires-clause-parent c = λ i up way.
-    parent_kept c.args.self.now c.put_block-to.new.self c.args.inode.now up c.put_block-to.ensures.put.cache (c.requires.may_land.parent i up way)
+    parent_kept c.args.self.now c.append_block-to.new.self c.args.inode.now up c.append_block-to.ensures.put.cache (c.requires.may_land.parent i up way)
 
 pub move_live-requires-clause-from_inside : goal.move_live-requires-clause-from_inside
 move_live-requires-clause-from_inside c =
@@ -53,7 +53,7 @@ move_live-requires-clause-from_inside c =
     let from = c.address_of-from.ensures ∙ ap (λ t. address t (way_to c.args.block)) same in
     let w = way_some c.args.block may.can may.other in
     let set = (c.set_address.ensures.set w.0 w.1 w.2).log in
-    let many = ap (λ (l : LogParts). l.memory.segments) set ∙ c.put_block-to.ensures.extends.segments in
+    let many = ap (λ (l : LogParts). l.memory.segments) set ∙ c.append_block-to.ensures.extends.segments in
     omega (arith, inside, from, many)
 
 pub move_live-requires-clause-to_inside : goal.move_live-requires-clause-to_inside
@@ -61,8 +61,8 @@ move_live-requires-clause-to_inside c =
     let p = c.args.self.now in let may = c.requires.may_land in
     let w = way_some c.args.block may.can may.other in
     let set = (c.set_address.ensures.set w.0 w.1 w.2).log in
-    let many = ap (λ (l : LogParts). l.memory.segments) set ∙ c.put_block-to.ensures.extends.segments in
-    let below = c.put_block-to.ensures.put.inside in
+    let many = ap (λ (l : LogParts). l.memory.segments) set ∙ c.append_block-to.ensures.extends.segments in
+    let below = c.append_block-to.ensures.put.inside in
     let active = c.requires.files.parts.laid_out.active in
     omega (arith, many, below, active)
 
@@ -70,10 +70,10 @@ pub move_live-requires-clause-fits : goal.move_live-requires-clause-fits
 move_live-requires-clause-fits c = λ some.
     let p = c.args.self.now in let may = c.requires.may_land in
     let w = way_some c.args.block may.can may.other in
-    let put = c.put_block-to.ensures.put in
+    let put = c.append_block-to.ensures.put in
     let tables = ap (λ (l : LogParts). l.tables) (c.set_address.ensures.set w.0 w.1 w.2).log ∙ put.tables in
-    subst (λ (t : Tables). live_of t (c.put_block-to.result / 64) + 128 * units (code_of c.args.block) ≤ 32768) (sym tables)
-    (live_fits p c.put_block-to.result (code_of c.args.block) c.requires.log put.end put.inside)
+    subst (λ (t : Tables). live_of t (c.append_block-to.result / 64) + 128 * units (code_of c.args.block) ≤ 32768) (sym tables)
+    (live_fits p c.append_block-to.result (code_of c.args.block) c.requires.log put.end put.inside)
 
 pub move_live-requires-clause-had : goal.move_live-requires-clause-had
 move_live-requires-clause-had c = λ some.
@@ -83,7 +83,7 @@ move_live-requires-clause-had c = λ some.
     let is : address (tree_of p v.number) (way_of (code_of c.args.block)) ≡ c.address_of-from.result =
     ap (address (tree_of p v.number)) (way_of-code_of c.args.block) ∙ sym (c.address_of-from.ensures ∙ ap (λ t. address t (way_to c.args.block)) same) in
     let w = way_some c.args.block may.can may.other in
-    let tables = ap (λ (l : LogParts). l.tables) (c.set_address.ensures.set w.0 w.1 w.2).log ∙ c.put_block-to.ensures.put.tables in
+    let tables = ap (λ (l : LogParts). l.tables) (c.set_address.ensures.set w.0 w.1 w.2).log ∙ c.append_block-to.ensures.put.tables in
     subst (λ (t : Tables). 128 * units (code_of c.args.block) ≤ live_of t (c.address_of-from.result / 64)) (sym tables)
     (live_had p v.number (code_of c.args.block) c.address_of-from.result c.requires.log (used_low p v.number may.is.in_use) (code_of-below c.args.block may.can) may.other is some)
 
@@ -91,7 +91,7 @@ after : goal.After-forget → Parts
 after c = record { log = c.move_live.new.self; cache = c.forget.new.self; waiting = c.set_address.new.self.waiting }
 
 steps : (c : goal.After-forget) (i : ℕ) (up : List ℕ) → way_to c.args.block ≡ i ∷ up
-    → Steps c.args.self.now c.put_block-to.new.self c.set_address.new.self (after c) c.args.inode.now c.args.block c.put_block-to.result i up
+    → Steps c.args.self.now c.append_block-to.new.self c.set_address.new.self (after c) c.args.inode.now c.args.block c.append_block-to.result i up
 unfolding after
 steps c i up way =
     let p = c.args.self.now in let v = c.args.inode.now in let may = c.requires.may_land in
@@ -105,8 +105,8 @@ steps c i up way =
       can = may.can;
       other = may.other;
       way = way;
-      put = subst (PutsBlock p c.put_block-to.new.self c.put_block-to.result)
-          (c.block_of.ensures ∙ ap (λ t. read t (way_to c.args.block)) same ∙ ap (read (tree_of p v.number)) way) c.put_block-to.ensures.put;
+      put = subst (PutsBlock p c.append_block-to.new.self c.append_block-to.result)
+          (c.block_of.ensures ∙ ap (λ t. read t (way_to c.args.block)) same ∙ ap (read (tree_of p v.number)) way) c.append_block-to.ensures.put;
       set = set;
       memory = c.move_live.ensures.memory ∙ ap (λ (l : LogParts). l.memory) set.log;
       rows = c.move_live.ensures.others.rows ∙ ap (λ (l : LogParts). l.tables.rows) set.log;
@@ -119,7 +119,7 @@ pub returns-clause-landed : goal.returns-clause-landed
 unfolding after
 returns-clause-landed c =
     let p = c.args.self.now in let v = c.args.inode.now in let may = c.requires.may_land in let b = c.args.block in
-    let r = c.put_block-to.new.self in let s = c.set_address.new.self in let q = after c in let a = c.put_block-to.result in
+    let r = c.append_block-to.new.self in let s = c.set_address.new.self in let q = after c in let a = c.append_block-to.result in
     let w = way_some b may.can may.other in
     let st = steps c w.0 w.1 w.2 in
     record {
@@ -135,7 +135,7 @@ pub returns-clause-log : goal.returns-clause-log
 unfolding after
 returns-clause-log c =
     let p = c.args.self.now in let v = c.args.inode.now in let may = c.requires.may_land in let b = c.args.block in
-    let r = c.put_block-to.new.self in let s = c.set_address.new.self in let q = after c in let a = c.put_block-to.result in
+    let r = c.append_block-to.new.self in let s = c.set_address.new.self in let q = after c in let a = c.append_block-to.result in
     let has = waiting_record p v may.is in
     let same = tree_from-of p v.number v has (c.requires.files.files v.number (fields_of v) has) in
     let is : address (tree_of p v.number) (way_of (code_of b)) ≡ c.address_of-from.result =
@@ -144,7 +144,7 @@ returns-clause-log c =
     let st = steps c w.0 w.1 w.2 in
     let taken = c.move_live.ensures.step (log_state p).at v.number (place-block p v.number (code_of b) may.other ∙ ap (λ n. 4 * n) is) in
     log_after p r s q v b a w.0 w.1 st (waited_parent p v may.is w.1 (may.parent w.0 w.1 w.2))
-    (c.put_block-to.ensures.named (entry_of v b) c.requires.expected.rest c.requires.expected.expects)
+    (c.append_block-to.ensures.named (entry_of v b) c.requires.expected.rest c.requires.expected.expects)
     (subst (λ (l : LogParts). Assigns (log.log_state l (log_state p).at) (log.log_state c.move_live.new.self (placed (log_state p).at v.number (code_of b) (4 * a))) v.number (code_of b) (4 * a)) st.set.log taken)
 
 pub returns-clause-expects : goal.returns-clause-expects
@@ -152,24 +152,24 @@ returns-clause-expects c = λ rest h.
     let may = c.requires.may_land in
     let w = way_some c.args.block may.can may.other in
     let st = steps c w.0 w.1 w.2 in
-    subst (λ m. Expects m rest) (sym (c.move_live.ensures.memory ∙ ap (λ (l : LogParts). l.memory) st.set.log)) (c.put_block-to.ensures.expects (entry_of c.args.inode.now c.args.block) rest h)
+    subst (λ m. Expects m rest) (sym (c.move_live.ensures.memory ∙ ap (λ (l : LogParts). l.memory) st.set.log)) (c.append_block-to.ensures.expects (entry_of c.args.inode.now c.args.block) rest h)
 
 pub returns-clause-waiting : goal.returns-clause-waiting
 unfolding after
 returns-clause-waiting c =
     let p = c.args.self.now in let v = c.args.inode.now in
-    let r = c.put_block-to.new.self in let s = c.set_address.new.self in
+    let r = c.append_block-to.new.self in let s = c.set_address.new.self in
     let stays = c.set_address.ensures.waiting in
-    stays_landed p r s (after c) v stays c.put_block-to.ensures.put.items (ap vec_capacity c.put_block-to.ensures.put.waiting) refl refl c.move_live.ensures.others.rows c.forget.ensures.formed
+    stays_landed p r s (after c) v stays c.append_block-to.ensures.put.items (ap vec_capacity c.append_block-to.ensures.put.waiting) refl refl c.move_live.ensures.others.rows c.forget.ensures.formed
     (ap (λ (x : Contents). x.lru) c.forget.ensures.contents ∙ forgotten_clean _ s.cache stays.none_clean)
 
 pub returns-clause-files : goal.returns-clause-files
 unfolding after
 returns-clause-files c =
     let p = c.args.self.now in let v = c.args.inode.now in let may = c.requires.may_land in let b = c.args.block in
-    let r = c.put_block-to.new.self in let s = c.set_address.new.self in let q = after c in let a = c.put_block-to.result in
+    let r = c.append_block-to.new.self in let s = c.set_address.new.self in let q = after c in let a = c.append_block-to.result in
     let w = way_some b may.can may.other in
-    let stays = stays_landed p r s q v c.set_address.ensures.waiting c.put_block-to.ensures.put.items (ap vec_capacity c.put_block-to.ensures.put.waiting) refl refl
+    let stays = stays_landed p r s q v c.set_address.ensures.waiting c.append_block-to.ensures.put.items (ap vec_capacity c.append_block-to.ensures.put.waiting) refl refl
     c.move_live.ensures.others.rows c.forget.ensures.formed (ap (λ (x : Contents). x.lru) c.forget.ensures.contents ∙ forgotten_clean _ s.cache c.set_address.ensures.waiting.none_clean) in
     files_kept p r s q v b a w.0 w.1 (steps c w.0 w.1 w.2) (waited_parent p v may.is w.1 (may.parent w.0 w.1 w.2)) c.requires.files stays may.within c.move_live.ensures.kept
 
@@ -177,9 +177,9 @@ pub returns-clause-content : goal.returns-clause-content
 unfolding after
 returns-clause-content c =
     let p = c.args.self.now in let v = c.args.inode.now in let may = c.requires.may_land in let b = c.args.block in
-    let r = c.put_block-to.new.self in let s = c.set_address.new.self in let q = after c in let a = c.put_block-to.result in
+    let r = c.append_block-to.new.self in let s = c.set_address.new.self in let q = after c in let a = c.append_block-to.result in
     let w = way_some b may.can may.other in
-    let stays = stays_landed p r s q v c.set_address.ensures.waiting c.put_block-to.ensures.put.items (ap vec_capacity c.put_block-to.ensures.put.waiting) refl refl
+    let stays = stays_landed p r s q v c.set_address.ensures.waiting c.append_block-to.ensures.put.items (ap vec_capacity c.append_block-to.ensures.put.waiting) refl refl
     c.move_live.ensures.others.rows c.forget.ensures.formed (ap (λ (x : Contents). x.lru) c.forget.ensures.contents ∙ forgotten_clean _ s.cache c.set_address.ensures.waiting.none_clean) in
     content_kept p r s q v b a w.0 w.1 (steps c w.0 w.1 w.2) (waited_parent p v may.is w.1 (may.parent w.0 w.1 w.2)) c.requires.files stays may.within c.move_live.ensures.kept
 
@@ -187,9 +187,9 @@ pub returns-clause-frames : goal.returns-clause-frames
 unfolding after
 returns-clause-frames c =
     let p = c.args.self.now in let v = c.args.inode.now in let may = c.requires.may_land in let b = c.args.block in
-    let r = c.put_block-to.new.self in let s = c.set_address.new.self in let q = after c in let a = c.put_block-to.result in
+    let r = c.append_block-to.new.self in let s = c.set_address.new.self in let q = after c in let a = c.append_block-to.result in
     let w = way_some b may.can may.other in
-    let stays = stays_landed p r s q v c.set_address.ensures.waiting c.put_block-to.ensures.put.items (ap vec_capacity c.put_block-to.ensures.put.waiting) refl refl
+    let stays = stays_landed p r s q v c.set_address.ensures.waiting c.append_block-to.ensures.put.items (ap vec_capacity c.append_block-to.ensures.put.waiting) refl refl
     c.move_live.ensures.others.rows c.forget.ensures.formed (ap (λ (x : Contents). x.lru) c.forget.ensures.contents ∙ forgotten_clean _ s.cache c.set_address.ensures.waiting.none_clean) in
     frames_kept p r s q v b a w.0 w.1 (steps c w.0 w.1 w.2) (waited_parent p v may.is w.1 (may.parent w.0 w.1 w.2)) c.requires.files stays may.within c.move_live.ensures.kept
 
@@ -197,8 +197,8 @@ pub returns-clause-only : goal.returns-clause-only
 unfolding after
 returns-clause-only c =
     let p = c.args.self.now in let v = c.args.inode.now in let may = c.requires.may_land in let b = c.args.block in
-    let r = c.put_block-to.new.self in let s = c.set_address.new.self in let q = after c in let a = c.put_block-to.result in
+    let r = c.append_block-to.new.self in let s = c.set_address.new.self in let q = after c in let a = c.append_block-to.result in
     let w = way_some b may.can may.other in
-    let stays = stays_landed p r s q v c.set_address.ensures.waiting c.put_block-to.ensures.put.items (ap vec_capacity c.put_block-to.ensures.put.waiting) refl refl
+    let stays = stays_landed p r s q v c.set_address.ensures.waiting c.append_block-to.ensures.put.items (ap vec_capacity c.append_block-to.ensures.put.waiting) refl refl
     c.move_live.ensures.others.rows c.forget.ensures.formed (ap (λ (x : Contents). x.lru) c.forget.ensures.contents ∙ forgotten_clean _ s.cache c.set_address.ensures.waiting.none_clean) in
     frames_only p r s q v b a w.0 w.1 (steps c w.0 w.1 w.2) (waited_parent p v may.is w.1 (may.parent w.0 w.1 w.2)) c.requires.files stays may.within c.move_live.ensures.kept (may.parent w.0 w.1 w.2)

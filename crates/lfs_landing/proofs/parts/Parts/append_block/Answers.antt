@@ -5,7 +5,7 @@ use Rattle.lfs_landing.specs.declared.parts.Parts.{Parts}
 use Rattle.lfs_landing.specs.Keys.{log_state}
 use Rattle.lfs_landing.specs.View.{tree_of}
 use Rattle.lfs_landing.proofs.PutLemmas.{blocks_put, next_some, record_put, unread_next}
-use Rattle.lfs_landing.proofs.parts.Parts.put_block.Goals as goal
+use Rattle.lfs_landing.proofs.parts.Parts.append_block.Goals as goal
 
 pub put-requires : goal.put-requires
 put-requires c = let fit = c.requires.expected.expects.fit in omega arith
