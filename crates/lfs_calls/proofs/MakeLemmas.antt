@@ -23,9 +23,9 @@ use Rattle.lfs_dirs.specs.Directory.{number_in}
 use Rattle.lfs_rules.specs.Grants.{grants_of}
 use Rattle.lfs_rules.specs.Locks.{is_immutable}
 use Rattle.lfs_model.specs.World.{Rows, child}
-use Rattle.lfs_model.specs.Rules.{Check, asks, first_failing, is_directory_row, row_grants, attrs_at, reached, walk, making, front, last}
+use Rattle.lfs_model.specs.Rules.{Check, first_failing, attrs_at, reached, walk, making, making_tests, front, last}
 use Rattle.lfs_model.specs.Effects.{least_unused}
-use Rattle.lfs_calls.specs.Content.{Shows, listed}
+use Rattle.lfs_calls.specs.Content.{Shows, listed, visible}
 use Rattle.lfs_calls.specs.Makes.{MakesFile}
 use Rattle.lfs_model.specs.Steps.{AllUsed}
 use Rattle.lfs_model.specs.Walks.{walked}
@@ -33,7 +33,7 @@ use Rattle.lfs_model.proofs.Deciding.{walk_denied, walk_passed, walked-reached}
 use Rattle.lfs_types.proofs.Maps.{get-insert_same, get-insert_other}
 use Rattle.lfs_types.proofs.Pieces.{splice-put_over, length-put_over}
 use Rattle.lfs_types.proofs.Somewhere.{present, is_some_and, there_of}
-use Rattle.lfs_calls.proofs.StepLemmas.{directory_reads, attrs_reads, grants_reads, child_listed}
+use Rattle.lfs_calls.proofs.StepLemmas.{shown_file, attrs_reads, child_listed}
 use Rattle.lfs_calls.proofs.Visible.{shown_of}
 
 -- ---- the last name of a path
@@ -54,15 +54,11 @@ last-last (y ∷ z ∷ zs) x = last-last (z ∷ zs) x
 pub last_of : (names parents : List (List ℕ)) (name : List ℕ) → names ≡ parents ++ name ∷ [] → last names ≡ name
 last_of names parents name e = ap last e ∙ last-last parents name
 
--- the tests behind the first, by the names before the last and the last
+-- the tests behind the walk, by the names before the last and the last
 abbrev in_parent : Rows → Caller → ℕ → List (List ℕ) → List ℕ → List Check
 in_parent rows caller path parents name =
-    (asks (is_directory_row (map.get rows (reached rows root parents))) IsDirectory path (length parents)
-    ∷ asks (row_grants caller bits.Search (map.get rows (reached rows root parents))) GrantsSearch path (length parents)
-    ∷ asks (is_none (child rows (reached rows root parents) name)) NameFree path (length parents + 1)
-    ∷ asks (not (is_immutable (attrs_at rows (reached rows root parents)))) IsMutable path (length parents)
-    ∷ asks (row_grants caller bits.Write (map.get rows (reached rows root parents))) GrantsWrite path (length parents)
-    ∷ [])
+    let dir = reached rows root parents in
+    making_tests caller (is_none (child rows dir name)) path (attrs_at rows dir) (length parents)
 
 -- no name may be given to the root
 pub make_root : (rows : Rows) (caller : Caller) (path : ℕ) (names : List (List ℕ)) → length names ≡ 0 → first_failing (making rows caller path names) ≡ Some (record { rule = NameFree; path = path; at = 0 })
@@ -116,14 +112,17 @@ module _ {c : Content} {w : World} {caller : Caller} {path : ℕ} {names parents
   to_tests : failing ≡ first_failing (in_parent w.rows caller path parents name)
   to_tests = to_walk w.rows caller path names parents name way.names_are way.count ∙ walk_passed w.rows caller path parents _ n way.leads
 
-  kind_test : is_directory_row (map.get w.rows (reached w.rows root parents)) ≡ is_directory_kind a.kind
-  kind_test = ap (λ m. is_directory_row (map.get w.rows m)) parent_is ∙ directory_reads c w way.shows n a way.shown
+  attrs_test : attrs_at w.rows (reached w.rows root parents) ≡ record a { size = length (visible (shown_file c n a way.shown).file).bytes }
+  attrs_test = ap (attrs_at w.rows) parent_is ∙ attrs_reads c w way.shows n a way.shown
 
-  grants_test : (bit : Bit) → row_grants caller bit (map.get w.rows (reached w.rows root parents)) ≡ grants_of caller a bit
-  grants_test bit = ap (λ m. row_grants caller bit (map.get w.rows m)) parent_is ∙ grants_reads c w way.shows n a way.shown caller bit
+  kind_test : is_directory_kind (attrs_at w.rows (reached w.rows root parents)).kind ≡ is_directory_kind a.kind
+  kind_test = ap (λ (x : Attrs). is_directory_kind x.kind) attrs_test
+
+  grants_test : (bit : Bit) → grants_of caller (attrs_at w.rows (reached w.rows root parents)) bit ≡ grants_of caller a bit
+  grants_test bit = ap (λ x. grants_of caller x bit) attrs_test
 
   mutable_test : not (is_immutable (attrs_at w.rows (reached w.rows root parents))) ≡ not (is_immutable a)
-  mutable_test = ap (λ m. not (is_immutable (attrs_at w.rows m))) parent_is ∙ ap (λ x. not (is_immutable x)) (attrs_reads c w way.shows n a way.shown)
+  mutable_test = ap (λ x. not (is_immutable x)) attrs_test
 
   -- a new name in a file is denied
   pub make_not_directory : is_directory_kind a.kind ≡ false → fails_by IsDirectory (length parents)

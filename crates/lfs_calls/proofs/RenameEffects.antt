@@ -70,7 +70,7 @@ module _ {c : Content} {w : World} (shows : Shows c w) (tree : IsTree w.rows) {c
   -- the row is no ancestor of its new parent
   apart : (k : ℕ) → ancestor w.rows k q ≢ n
   apart =
-      let may = may_make w.rows caller 1 to is.parent.allowed in
+      let may = may_make w.rows tree caller 1 to is.parent.allowed in
       let none = subst (λ m. is_on_way w.rows (front to) m ≡ false) is.removal.row (not_beneath w caller from to is.allowed is.removal.allowed is.parent.allowed) in
       subst (λ m. (k : ℕ) → ancestor w.rows k m ≢ n) is.parent.object
       (no_ancestor w.rows tree caller 1 n (reached w.rows root (front to)) (front to) may.way (hung shows tree goes).below none)

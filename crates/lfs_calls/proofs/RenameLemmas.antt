@@ -1,15 +1,17 @@
 -- What a Rename may be answered.
-use Rattle.std.proofs.Common.{◌≡◌, ℕ, ◌==◌, Bool, true, false, List, [], ◌∷◌, length, None, Some, sym, ap, ◌∙◌}
+use Rattle.std.proofs.Common.{◌≡◌, ℕ, ◌==◌, Bool, true, false, List, length, None, Some, sym, ap, ◌∙◌}
 use Rattle.std.specs.Prelude.{◌||◌, not}
 use Rattle.std.proofs.lemmas.Bool.{cond-true, cond-false, not-true}
-use Rattle.std.specs.FinMap as map
 use Rattle.lfs_types.specs.Caller.{Caller}
+use Rattle.lfs_types.specs.Kinds.{is_directory_kind}
 use Rattle.lfs_types.specs.Tree.{World, root}
+use Rattle.lfs_types.specs.declared.attrs.Attrs.{Attrs}
 use Rattle.lfs_types.specs.declared.attrs.Bit.TheVariants as bits
 use Rattle.lfs_types.specs.declared.request.Request.TheVariants.{Rename}
 use Rattle.lfs_types.specs.declared.rule.Denial.{Denial}
 use Rattle.lfs_types.specs.declared.rule.Rule.TheVariants.{IsNotBeneathItself, GrantsWrite}
-use Rattle.lfs_model.specs.Rules.{asks, first_failing, is_directory_row, row_grants, reached, front, visited, position, making, removing, decide}
+use Rattle.lfs_rules.specs.Grants.{grants_of}
+use Rattle.lfs_model.specs.Rules.{attrs_at, first_failing, moving_tests, reached, front, visited, position, making, removing, decide}
 use Rattle.lfs_model.specs.Walks.{is_on_way}
 use Rattle.lfs_model.proofs.Deciding.{failing-front, failing-behind, met_first, denied_at}
 
@@ -30,11 +32,13 @@ module _ (w : World) (caller : Caller) (from to : List (List ℕ)) where
       abbrev stays : Bool
       stays = reached w.rows root (front from) == reached w.rows root (front to)
 
-      abbrev may_leave : Bool
-      may_leave = not (is_directory_row (map.get w.rows moved)) || stays || row_grants caller bits.Write (map.get w.rows moved)
+      abbrev file : Attrs
+      file = attrs_at w.rows moved
 
-      to_last : decide w caller (Rename from to) ≡ first_failing
-          (asks (not (is_on_way w.rows (front to) moved)) IsNotBeneathItself 1 (position moved (visited w.rows root (front to))) ∷ asks may_leave GrantsWrite 0 (length from) ∷ [])
+      abbrev may_leave : Bool
+      may_leave = not (is_directory_kind file.kind) || stays || grants_of caller file bits.Write
+
+      to_last : decide w caller (Rename from to) ≡ first_failing (moving_tests caller moved (visited w.rows root (front to)) stays file (length from))
       to_last = failing-behind (removing w.rows caller from) _ removes ∙ failing-behind (making w.rows caller 1 to) _ makes
 
       -- a row on the way to its new place is denied

@@ -7,6 +7,7 @@ use Rattle.lfs_types.specs.Caller.{Caller}
 use Rattle.lfs_types.specs.Kinds.{is_directory_kind}
 use Rattle.lfs_types.specs.Stored.{bytes_of}
 use Rattle.lfs_types.specs.Tree.{World, Content, root}
+use Rattle.lfs_types.specs.declared.attrs.Attrs.{Attrs}
 use Rattle.lfs_types.specs.declared.request.Request.{Request}
 use Rattle.lfs_types.specs.declared.request.Request.TheVariants.{Unlink, Rmdir}
 use Rattle.lfs_types.specs.declared.rule.Denial.{Denial}
@@ -16,7 +17,7 @@ use Rattle.lfs_dirs.specs.Directory.{Entry, number_in}
 use Rattle.lfs_calls.specs.declared.making.Room.{Room}
 use Rattle.lfs_calls.specs.declared.removing.Removal.{Removal}
 use Rattle.lfs_model.specs.World.{Rows, child, children, IsTree}
-use Rattle.lfs_model.specs.Rules.{Check, asks, first_failing, decide, is_directory_row, last, reached, removing}
+use Rattle.lfs_model.specs.Rules.{Check, attrs_at, first_failing, decide, is_directory_row, last, reached, removing, rmdir_tests, unlink_tests}
 use Rattle.lfs_model.specs.Effects.{without_row}
 use Rattle.lfs_calls.specs.Content.{Shows, listed}
 use Rattle.lfs_types.specs.StoreStates.{StoreState}
@@ -29,7 +30,7 @@ use Rattle.lfs_model.proofs.Deciding.{failing-front, failing-behind, denied_at}
 use Rattle.lfs_calls.proofs.Directories.{bytes_listing}
 use Rattle.lfs_model.proofs.Members.{children-hang}
 use Rattle.lfs_model.proofs.Shrunk.{IsTree-shrunk}
-use Rattle.lfs_calls.proofs.StepLemmas.{directory_reads, child_listed}
+use Rattle.lfs_calls.proofs.StepLemmas.{attrs_reads, directory_reads, child_listed}
 use Rattle.lfs_calls.proofs.TakeLemmas.{shows_without}
 use Rattle.lfs_model.proofs.Trees.{no_parent}
 
@@ -50,23 +51,21 @@ some_entry (e ∷ es) h = omega arith
 -- ---- the rules behind those that files and directories share
 
 -- the tests of an Unlink's and of a Rmdir's own
-abbrev unlink_tests : Rows → List (List ℕ) → List Check
-unlink_tests rows names = asks (not (is_directory_row (map.get rows (reached rows root names)))) IsNoDirectory 0 (length names) ∷ []
+abbrev own_unlink : Rows → List (List ℕ) → List Check
+own_unlink rows names = unlink_tests (attrs_at rows (reached rows root names)) (length names)
 
-abbrev rmdir_tests : Rows → List (List ℕ) → List Check
-rmdir_tests rows names =
+abbrev own_rmdir : Rows → List (List ℕ) → List Check
+own_rmdir rows names =
     let dir = reached rows root names in
-    asks (is_directory_row (map.get rows dir)) IsDirectory 0 (length names)
-    ∷ asks (length (children rows dir) == 0) IsEmpty 0 (length names)
-    ∷ []
+    rmdir_tests (length (children rows dir) == 0) (attrs_at rows dir) (length names)
 
 -- where the shared tests deny, the call is denied
 pub unlink_denied : (w : World) (caller : Caller) (names : List (List ℕ)) (denial : Denial) → first_failing (removing w.rows caller names) ≡ Some denial → decide w caller (Unlink names) ≡ Some denial
-unlink_denied w caller names denial h = failing-front (removing w.rows caller names) (unlink_tests w.rows names) denial h
+unlink_denied w caller names denial h = failing-front (removing w.rows caller names) (own_unlink w.rows names) denial h
 
 -- and so for a Rmdir
 pub rmdir_denied : (w : World) (caller : Caller) (names : List (List ℕ)) (denial : Denial) → first_failing (removing w.rows caller names) ≡ Some denial → decide w caller (Rmdir names) ≡ Some denial
-rmdir_denied w caller names denial h = failing-front (removing w.rows caller names) (rmdir_tests w.rows names) denial h
+rmdir_denied w caller names denial h = failing-front (removing w.rows caller names) (own_rmdir w.rows names) denial h
 
 module _ (c : Content) (w : World) (shows : Shows c w) (caller : Caller) (names : List (List ℕ)) (removal : Removal) (is : IsRemoval c w.rows caller names removal) where
   abbrev n : ℕ
@@ -75,14 +74,14 @@ module _ (c : Content) (w : World) (shows : Shows c w) (caller : Caller) (names 
   kind_reads : is_directory_row (map.get w.rows n) ≡ is_directory_kind removal.file.attrs.kind
   kind_reads = directory_reads c w shows n removal.file.attrs is.shown_file
 
-  kind_test : is_directory_row (map.get w.rows (reached w.rows root names)) ≡ is_directory_kind removal.file.attrs.kind
-  kind_test = ap (λ m. is_directory_row (map.get w.rows m)) is.row ∙ kind_reads
+  kind_test : is_directory_kind (attrs_at w.rows (reached w.rows root names)).kind ≡ is_directory_kind removal.file.attrs.kind
+  kind_test = ap (λ m. is_directory_kind (attrs_at w.rows m).kind) is.row ∙ ap (λ (a : Attrs). is_directory_kind a.kind) (attrs_reads c w shows n removal.file.attrs is.shown_file)
 
-  to_unlink : decide w caller (Unlink names) ≡ first_failing (unlink_tests w.rows names)
-  to_unlink = failing-behind (removing w.rows caller names) (unlink_tests w.rows names) is.allowed
+  to_unlink : decide w caller (Unlink names) ≡ first_failing (own_unlink w.rows names)
+  to_unlink = failing-behind (removing w.rows caller names) (own_unlink w.rows names) is.allowed
 
-  to_rmdir : decide w caller (Rmdir names) ≡ first_failing (rmdir_tests w.rows names)
-  to_rmdir = failing-behind (removing w.rows caller names) (rmdir_tests w.rows names) is.allowed
+  to_rmdir : decide w caller (Rmdir names) ≡ first_failing (own_rmdir w.rows names)
+  to_rmdir = failing-behind (removing w.rows caller names) (own_rmdir w.rows names) is.allowed
 
   -- an Unlink of a directory is denied
   pub unlink_of_directory : is_directory_kind removal.file.attrs.kind ≡ true → decide w caller (Unlink names) ≡ Some (denied_at (length names) IsNoDirectory)

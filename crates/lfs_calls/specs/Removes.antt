@@ -1,37 +1,20 @@
 -- What judging and taking away a name come to, over a store.
-use Rattle.std.specs.Prelude.{◌≡◌, ◌≢◌, ℕ, ◌+◌, ◌*◌, ◌/◌, ◌<◌, not, true, List, [], ◌∷◌, length, None, Some, IsSome, Result, Ok, Err}
+use Rattle.std.specs.Prelude.{◌≡◌, ◌≢◌, ℕ, ◌*◌, ◌/◌, ◌<◌, true, List, length, None, Some, IsSome, Result, Ok, Err}
 use Rattle.std.specs.FinMap as map
 use Rattle.lfs_types.specs.Caller.{Caller}
 use Rattle.lfs_types.specs.Kinds.{is_directory_kind}
 use Rattle.lfs_types.specs.Splicing.{splice}
 use Rattle.lfs_types.specs.Stored.{shown_attrs, bytes_of}
 use Rattle.lfs_types.specs.Tree.{File, World, Content, root}
-use Rattle.lfs_types.specs.declared.attrs.Attrs.{Attrs}
-use Rattle.lfs_types.specs.declared.attrs.Bit.TheVariants as bits
 use Rattle.lfs_types.specs.declared.request.Request.{Request}
 use Rattle.lfs_types.specs.declared.rule.Denial.{Denial}
-use Rattle.lfs_types.specs.declared.rule.Rule.TheVariants.{IsMutable, IsNotAppendOnly, GrantsWrite, PassesSticky}
 use Rattle.lfs_dirs.specs.Directory.{IsDirectoryBlock, number_in, without}
 use Rattle.lfs_dirs.specs.Reading.{entries_of}
-use Rattle.lfs_rules.specs.Grants.{grants_of}
-use Rattle.lfs_rules.specs.Locks.{is_immutable, is_append_only}
-use Rattle.lfs_rules.specs.Sticky.{is_barred}
 use Rattle.lfs_calls.specs.declared.making.Room.{Room}
 use Rattle.lfs_calls.specs.declared.removing.Removal.{Removal}
 use Rattle.lfs_model.specs.World.{Rows, child}
-use Rattle.lfs_model.specs.Rules.{Check, asks, first_failing, decide, removing, front, last, reached}
+use Rattle.lfs_model.specs.Rules.{first_failing, decide, removing, front, last, reached}
 use Rattle.lfs_calls.specs.Content.{block_at}
-
--- the tests of a directory, which stands at component k, and of a file in it whose name is to be taken away
-abbrev pub barriers : Caller → Attrs → Attrs → ℕ → List Check
-barriers caller dir file k =
-    asks (not (is_immutable dir)) IsMutable 0 k
-    ∷ asks (grants_of caller dir bits.Write) GrantsWrite 0 k
-    ∷ asks (not (is_append_only dir)) IsNotAppendOnly 0 k
-    ∷ asks (not (is_barred caller dir file)) PassesSticky 0 (k + 1)
-    ∷ asks (not (is_immutable file)) IsMutable 0 (k + 1)
-    ∷ asks (not (is_append_only file)) IsNotAppendOnly 0 (k + 1)
-    ∷ []
 
 -- a row whose name may be taken away, and its directory, as the store shows them
 pub record IsRemoval (c : Content) (rows : Rows) (caller : Caller) (path : List (List ℕ)) (removal : Removal) : Type 0 where

@@ -5,11 +5,11 @@ ghost use Rattle.std.specs.FinMap.{get};
 ghost use Rattle.lfs_types.specs.Stored.{bytes_of};
 ghost use Rattle.lfs_types.specs.Tree.{World};
 ghost use Rattle.lfs_dirs.specs.Directory.{number_in};
-ghost use Rattle.lfs_model.specs.Rules.{first_failing, last};
+ghost use Rattle.lfs_model.specs.Rules.{first_failing, last, removing_tests};
 ghost use Rattle.lfs_calls.specs.Calls.{ChangesTo, IsCall};
 ghost use Rattle.lfs_calls.specs.Volumes.{HasWorld, InWorld, IsVolume};
 ghost use Rattle.lfs_calls.specs.Content.{AreBlocks, listed};
-ghost use Rattle.lfs_calls.specs.Removes.{JudgesRemoving, JudgesRow, HangsAs, IsTaking, TakesRow, barriers};
+ghost use Rattle.lfs_calls.specs.Removes.{JudgesRemoving, JudgesRow, HangsAs, IsTaking, TakesRow};
 
 use crate::directory::read_block;
 use crate::halt::Halt;
@@ -71,7 +71,7 @@ pub(crate) fn judge_remove<F: FileStore>(
 /// file's name.
 fn first_barrier(dir: &Attrs, file: &Attrs, cred: &Cred, at: u32) -> Option<Denial>
     requires { at < 1024 }
-    ensures { result ≡ first_failing (barriers cred.now dir.now file.now at) }
+    ensures { result ≡ first_failing (removing_tests cred.now dir.now file.now at) }
 {
     if immutable(dir) {
         return Some(denial(Rule::IsMutable, 0, at));

@@ -1,5 +1,5 @@
 -- The laws of new rows, of the level, of the tree, and of what is shown.
-use Rattle.std.proofs.Common.{◌≡◌, ◌≢◌, ℕ, ◌+◌, List, [], ◌∷◌, Option, None, Some, refl, sym, ap, subst, ◌∙◌, ⊎_elim, arith, eqb-true}
+use Rattle.std.proofs.Common.{◌≡◌, ◌≢◌, ℕ, List, [], ◌∷◌, Option, None, Some, refl, sym, ap, subst, ◌∙◌, ⊎_elim, arith, eqb-true}
 use Rattle.std.proofs.lemmas.Bool.{not-true, cases_eq, cases_lt}
 use Rattle.std.specs.Prelude.{min}
 use Rattle.std.specs.FinMap as map
@@ -20,7 +20,7 @@ use Rattle.lfs_types.specs.declared.request.Request.TheVariants.{Stat, Read, Wri
 use Rattle.lfs_rules.specs.Grants.{grants_of}
 use Rattle.lfs_rules.specs.Securelevel.{is_lower}
 use Rattle.lfs_model.specs.World.{Rows, file_at, IsTree}
-use Rattle.lfs_model.specs.Rules.{decide, first_failing, next, reached, front, last, walk, attrs_at}
+use Rattle.lfs_model.specs.Rules.{decide, first_failing, reached, front, last, walk, attrs_at}
 use Rattle.lfs_model.specs.Effects.{effect, least_unused, with_file, with_place, new_file, written, cut, given, read_max}
 use Rattle.lfs_model.specs.LawNew.{Makes, IsLeastUnused, MayMake, New}
 use Rattle.lfs_model.specs.LawLevel.{MayRelevel, Relevelled}
@@ -28,8 +28,7 @@ use Rattle.lfs_model.specs.LawTrees.{LeavesTree}
 use Rattle.lfs_model.specs.LawShown.{IsSeen, MayShow, Shown}
 use Rattle.lfs_model.specs.Rights.{LeadsTo, MayPlace}
 use Rattle.lfs_model.specs.Steps.{IsAnswer, LacksInodes, AllUsed, after_answer}
-use Rattle.lfs_model.proofs.Allowed.{child_there, may_make}
-use Rattle.lfs_model.proofs.Children.{child-is}
+use Rattle.lfs_model.proofs.Allowed.{may_make, walk_there}
 use Rattle.lfs_model.proofs.Deciding.{met_first, passes-append}
 use Rattle.lfs_model.proofs.Fates.{leads_last, placed}
 use Rattle.lfs_model.proofs.LawFlags.{LevelFate, level_fate, by_init}
@@ -105,18 +104,18 @@ module _ (numbers : ℕ) (w : World) (caller : Caller) (tree : IsTree w.rows) (n
   made_by (Write path place (b ∷ bs)) allowed room is = none_there _ s (file_absent _ w n _ (written caller place (b ∷ bs)) refl none) is
   made_by (SetLength path len) allowed room is = none_there _ s (file_absent _ w n _ (cut caller len) refl none) is
   made_by (Create path mode) allowed room is =
-      made_row (Create path mode) path Regular mode room (placed w caller tree 0 path (may_make w.rows caller 0 path allowed))
+      made_row (Create path mode) path Regular mode room (placed w caller tree 0 path (may_make w.rows tree caller 0 path allowed))
       (λ row e. (
         ap (λ (y : Row). y.file.kind) e,
         ap (λ (y : Row). y.file.mode) (sym e),
-        subst (λ (y : Row). LeadsTo w.rows path y.parent y.name) (sym e) (leads_last w caller 0 path (may_make w.rows caller 0 path allowed)),
+        subst (λ (y : Row). LeadsTo w.rows path y.parent y.name) (sym e) (leads_last w caller 0 path (may_make w.rows tree caller 0 path allowed)),
       )) is
   made_by (Mkdir path mode) allowed room is =
-      made_row (Mkdir path mode) path Directory mode room (placed w caller tree 0 path (may_make w.rows caller 0 path allowed))
+      made_row (Mkdir path mode) path Directory mode room (placed w caller tree 0 path (may_make w.rows tree caller 0 path allowed))
       (λ row e. (
         ap (λ (y : Row). y.file.kind) e,
         ap (λ (y : Row). y.file.mode) (sym e),
-        subst (λ (y : Row). LeadsTo w.rows path y.parent y.name) (sym e) (leads_last w caller 0 path (may_make w.rows caller 0 path allowed)),
+        subst (λ (y : Row). LeadsTo w.rows path y.parent y.name) (sym e) (leads_last w caller 0 path (may_make w.rows tree caller 0 path allowed)),
       )) is
   made_by (Unlink path) allowed room is = none_there _ s (removed_absent w.rows n (reached w.rows root path) none) is
   made_by (Rmdir path) allowed room is = none_there _ s (removed_absent w.rows n (reached w.rows root path) none) is
@@ -156,15 +155,6 @@ pub leaves_tree : LeavesTree
 leaves_tree numbers w caller request answer tree is = answer_tree numbers w caller request answer tree is
 
 -- ---- what is shown
-
--- a walk whose tests are met ends at a row that is there
-pub walk_there : (rows : Rows) (caller : Caller) (path k at : ℕ) (names : List (List ℕ)) → There (map.get rows at) → first_failing (walk rows caller path k at names) ≡ None
-    → There (map.get rows (reached rows at names))
-walk_there rows caller path k at [] there h = there
-walk_there rows caller path k at (name ∷ names) there h =
-    let c = met_first _ _ _ (met_first _ _ _ (met_first _ _ _ h).1).1 in
-    let hangs = child-is rows at name (next rows at name) (child_there _ _ c.0 refl) in
-    walk_there rows caller path (k + 1) (next rows at name) names (record { value = hangs.row; is = hangs.there }) c.1
 
 module _ (w : World) (caller : Caller) (tree : IsTree w.rows) (path : List (List ℕ)) (walks : first_failing (walk w.rows caller 0 0 root path) ≡ None) where
   -- the row at the end of a path

@@ -34,7 +34,7 @@ use Rattle.lfs_model.specs.LawOwner.{MayGive}
 use Rattle.lfs_model.specs.LawFlagged.{MayReflag}
 use Rattle.lfs_model.specs.Rights.{LeadsTo, Reaches, MayWrite, Owns, MayTakeAway, MayPlace, is_fixed}
 use Rattle.lfs_model.specs.Steps.{IsAnswer, LacksInodes, after_answer}
-use Rattle.lfs_model.proofs.Allowed.{MayChange, MayMake, MayRemove, fits_last, may_change, may_make, may_remove, split_last}
+use Rattle.lfs_model.proofs.Allowed.{MayChange, MayMake, MayRemove, fits_last, may_change, may_make, may_remove, regular_row, split_last}
 use Rattle.lfs_model.proofs.Children.{child-none}
 use Rattle.lfs_model.proofs.Deciding.{met_first, passes-append}
 use Rattle.lfs_model.proofs.LawBytes.{resized-keeps, splice-before, splice-inside, splice-behind, length-spliced}
@@ -295,7 +295,7 @@ module _ (numbers : ℕ) (w : World) (caller : Caller) (tree : IsTree w.rows) (n
   served_fate (Mkdir path mode) allowed room = Stays (get-insert_other w.rows _ _ n (old_not_new numbers w.rows n r room there) ∙ there)
   served_fate (Unlink path) allowed room =
       let two = passes-append (removing w.rows caller path) _ allowed in
-      let file = not-true _ (met_first _ _ _ two.1).0 in
+      let file = regular_row _ (not-true _ (met_first _ _ _ two.1).0) in
       removed_fate _ path (may_remove w.rows caller path two.0)
       (λ same. no_parent w.rows tree n (ap (λ m. is_directory_row (map.get w.rows m)) same ∙ file))
       (λ same. unlinks path r.file.kind (sym (row_directory _ same) ∙ file) (sym same))
@@ -305,14 +305,14 @@ module _ (numbers : ℕ) (w : World) (caller : Caller) (tree : IsTree w.rows) (n
       let empty = met_first _ _ _ dir.1 in
       removed_fate _ path (may_remove w.rows caller path two.0)
       (λ same. subst (λ m. (name : List ℕ) (q : ℕ) → IsChild w.rows m name q → ⊥) (sym same) (childless w.rows (reached w.rows root path) empty.0))
-      (λ same. rmdirs path r.file.kind (sym (row_directory _ same) ∙ dir.0) (sym same))
+      (λ same. rmdirs path r.file.kind (known w caller tree n r there (λ a. is_directory_kind a.kind ≡ true) _ same dir.0) (sym same))
   served_fate (Rename from to) allowed room =
       let one = passes-append (removing w.rows caller from) _ allowed in
       let two = passes-append (making w.rows caller 1 to) _ one.1 in
       let away = met_first _ _ _ two.1 in
       let writes = met_first _ _ _ away.1 in
       let out = may_remove w.rows caller from one.0 in
-      let into = may_make w.rows caller 1 to two.0 in
+      let into = may_make w.rows tree caller 1 to two.0 in
       ⊎_elim
       (λ same.
       let up = parent_is w caller tree n r there from same out in
@@ -323,9 +323,13 @@ module _ (numbers : ℕ) (w : World) (caller : Caller) (tree : IsTree w.rows) (n
         taken = taken w caller tree n r there from same out;
         placed = placed w caller tree 1 to into;
         directory = λ kind apart.
-            subst (λ m. row_grants caller bits.Write (map.get w.rows m) ≡ true) (sym same)
-            (moved_grants (is_directory_row (map.get w.rows (reached w.rows root from))) (reached w.rows root (front from) == reached w.rows root (front to)) (row_grants caller bits.Write (map.get w.rows (reached w.rows root from))) writes.0 (row_directory _ same ∙ directory_tested r.file.kind kind)
-            (ne_eqb (reached w.rows root (front from)) (reached w.rows root (front to)) (λ e. apart (sym e ∙ up))));
+            let moved = attrs_at w.rows (reached w.rows root from) in
+            let seen : moved ≡ attrs_of r.file = ap (attrs_at w.rows) (sym same) ∙ attrs_there w caller tree n r there in
+            ap (row_grants caller bits.Write) there
+            ∙ ap (λ a. grants_of caller a bits.Write) (sym seen)
+            ∙ moved_grants (is_directory_kind moved.kind) (reached w.rows root (front from) == reached w.rows root (front to)) (grants_of caller moved bits.Write) writes.0
+            (ap (λ (a : Attrs). is_directory_kind a.kind) seen ∙ directory_tested r.file.kind kind)
+            (ne_eqb (reached w.rows root (front from)) (reached w.rows root (front to)) (λ e. apart (sym e ∙ up)));
         asked = (sym same, leads_last w caller 1 to into);
       }))
       (λ other. Stays (place_unchanged (map.get w.rows (reached w.rows root from)) w n _ (reached w.rows root (front to)) (last to) other ∙ there))

@@ -16,8 +16,7 @@ use Rattle.lfs_model.specs.Effects.{effect, least_unused, written, cut, given}
 use Rattle.lfs_model.specs.LawOneThing.{IsAsBefore, DiffersInPlace, DiffersInBytes, DiffersInMode, DiffersInOwner, IsLooking, IsOneThing, OneThing}
 use Rattle.lfs_model.specs.LawThere.{AreThere, FindsRows}
 use Rattle.lfs_model.specs.LawsFlags.{DiffersInFlags}
-use Rattle.lfs_model.proofs.Allowed.{may_make, may_remove}
-use Rattle.lfs_model.proofs.CallLaws.{walk_there}
+use Rattle.lfs_model.proofs.Allowed.{may_make, may_remove, walk_there}
 use Rattle.lfs_model.proofs.Deciding.{passes-append}
 use Rattle.lfs_model.proofs.Fates.{Fate, fate}
 use Rattle.lfs_model.proofs.Fates.Fate.{Stays, Goes, Moves, Changes, Remodes, Gives, Reflags}
@@ -122,14 +121,14 @@ module _ (w : World) (caller : Caller) (tree : IsTree w.rows) where
   finds (Names path) h = there_along 0 path (passes-append (walk w.rows caller 0 0 root path) _ h).0
   finds (Write path place bytes) h = there_along 0 path (passes-append (walk w.rows caller 0 0 root path) _ h).0
   finds (SetLength path len) h = there_along 0 path (passes-append (walk w.rows caller 0 0 root path) _ h).0
-  finds (Create path mode) h = there_along 0 (front path) (may_make w.rows caller 0 path h).walks
-  finds (Mkdir path mode) h = there_along 0 (front path) (may_make w.rows caller 0 path h).walks
+  finds (Create path mode) h = there_along 0 (front path) (may_make w.rows tree caller 0 path h).walks
+  finds (Mkdir path mode) h = there_along 0 (front path) (may_make w.rows tree caller 0 path h).walks
   finds (Unlink path) h = present (may_remove w.rows caller path (passes-append (removing w.rows caller path) _ h).0).hangs.there
   finds (Rmdir path) h = present (may_remove w.rows caller path (passes-append (removing w.rows caller path) _ h).0).hangs.there
   finds (Rename from to) h =
       let one = passes-append (removing w.rows caller from) _ h in
       let two = passes-append (making w.rows caller 1 to) _ one.1 in
-      (present (may_remove w.rows caller from one.0).hangs.there, there_along 1 (front to) (may_make w.rows caller 1 to two.0).walks)
+      (present (may_remove w.rows caller from one.0).hangs.there, there_along 1 (front to) (may_make w.rows tree caller 1 to two.0).walks)
   finds (Chmod path mode) h = there_along 0 path (passes-append (walk w.rows caller 0 0 root path) _ h).0
   finds (Chown path uid gid) h = there_along 0 path (passes-append (walk w.rows caller 0 0 root path) _ h).0
   finds (Chflags path flags) h = there_along 0 path (passes-append (walk w.rows caller 0 0 root path) _ h).0

@@ -49,7 +49,7 @@ returns-in_err-dir-clause-judge g c w v =
 pub returns-then-not-is_directory-clause-judge : goal.returns-then-not-is_directory-clause-judge
 returns-then-not-is_directory-clause-judge g c w v =
     let at = goal.at.returns-then-not-is_directory-clause-judge g c in
-    move_of_file (g.F.FileStore.state c.args.store.now).content w v.shows c.args.cred.now c.args.from.now c.args.to.now c.in_ok-removal.removal c.in_ok-dir.dir
+    move_of_file (g.F.FileStore.state c.args.store.now).content w v.shows v.tree c.args.cred.now c.args.from.now c.args.to.now c.in_ok-removal.removal c.in_ok-dir.dir
     (removes g at.In_ok-removal w v) (makes g at.In_ok-dir w v) (sym c.if-not-is_directory.ensures)
 
 pub judge_way-requires-clause-world : goal.judge_way-requires-clause-world
@@ -61,7 +61,7 @@ pub judge_way-requires-clause-leads : goal.judge_way-requires-clause-leads
 judge_way-requires-clause-leads g c w v =
     let at = goal.at.judge_way-requires-clause-leads g c in
     let was = still (sym (c.judge_make.ensures.state ∙ c.judge_remove.ensures.state)) v in
-    way_leads (g.F.FileStore.state c.args.store.now).content w was.shows c.args.cred.now c.args.from.now c.args.to.now c.in_ok-removal.removal c.in_ok-dir.dir
+    way_leads (g.F.FileStore.state c.args.store.now).content w was.shows was.tree c.args.cred.now c.args.from.now c.args.to.now c.in_ok-removal.removal c.in_ok-dir.dir
     (removes g at.In_ok-removal w was) (makes g at.In_ok-dir w was) c.in-Some.parents.now c.in-Some.field-0-0.now c.in-Some.ensures.cases.0
 
 pub returns-in_err-judge_way-clause-judge : goal.returns-in_err-judge_way-clause-judge
@@ -71,7 +71,7 @@ returns-in_err-judge_way-clause-judge g c w v =
     let p = err_from_is_err_and c.from_residual-in_err-judge_way.result c.from_residual-in_err-judge_way.ensures.1 in
     let found = c.in_err-judge_way.ensures.beneath w here in
     subst (JudgesMove (g.F.FileStore.state c.args.store.now).content w c.args.cred.now c.args.from.now c.args.to.now) (sym (p.1 ∙ ap Err p.2))
-    (move_beneath (g.F.FileStore.state c.args.store.now).content w v.shows c.args.cred.now c.args.from.now c.args.to.now c.in_ok-removal.removal c.in_ok-dir.dir
+    (move_beneath (g.F.FileStore.state c.args.store.now).content w v.shows v.tree c.args.cred.now c.args.from.now c.args.to.now c.in_ok-removal.removal c.in_ok-dir.dir
     (removes g at.In_ok-removal w v) (makes g at.In_ok-dir w v) c.in-Some.parents.now c.in-Some.field-0-0.now c.in-Some.ensures.cases.0 found.0
     ∙ ap Some (sym found.1))
 
@@ -79,7 +79,7 @@ pub returns-then-removal-dir-clause-judge : goal.returns-then-removal-dir-clause
 returns-then-removal-dir-clause-judge g c w v =
     let at = goal.at.returns-then-removal-dir-clause-judge g c in
     let here = still (c.judge_make.ensures.state ∙ c.judge_remove.ensures.state) v in
-    move_that_stays (g.F.FileStore.state c.args.store.now).content w v.shows c.args.cred.now c.args.from.now c.args.to.now c.in_ok-removal.removal c.in_ok-dir.dir
+    move_that_stays (g.F.FileStore.state c.args.store.now).content w v.shows v.tree c.args.cred.now c.args.from.now c.args.to.now c.in_ok-removal.removal c.in_ok-dir.dir
     (removes g at.In_ok-removal w v) (makes g at.In_ok-dir w v) c.in-Some.parents.now c.in-Some.field-0-0.now c.in-Some.ensures.cases.0
     (c.in_ok-judge_way.ensures.apart w here) c.if-removal-dir.true
 
@@ -87,7 +87,7 @@ pub returns-then-not-grants-clause-judge : goal.returns-then-not-grants-clause-j
 returns-then-not-grants-clause-judge g c w v =
     let at = goal.at.returns-then-not-grants-clause-judge g c in
     let here = still (c.judge_make.ensures.state ∙ c.judge_remove.ensures.state) v in
-    same_denial (move_not_granted (g.F.FileStore.state c.args.store.now).content w v.shows c.args.cred.now c.args.from.now c.args.to.now c.in_ok-removal.removal c.in_ok-dir.dir
+    same_denial (move_not_granted (g.F.FileStore.state c.args.store.now).content w v.shows v.tree c.args.cred.now c.args.from.now c.args.to.now c.in_ok-removal.removal c.in_ok-dir.dir
     (removes g at.In_ok-removal w v) (makes g at.In_ok-dir w v) c.in-Some.parents.now c.in-Some.field-0-0.now c.in-Some.ensures.cases.0
     (c.in_ok-judge_way.ensures.apart w here) (sym c.if-not-is_directory.ensures) c.if-removal-dir.false (sym c.if-not-grants.ensures))
     c.component.ensures c.denial.ensures
@@ -96,6 +96,6 @@ pub returns-clause-judge : goal.returns-clause-judge
 returns-clause-judge g c w v =
     let at = goal.at.returns-clause-judge g c in
     let here = still (c.judge_make.ensures.state ∙ c.judge_remove.ensures.state) v in
-    move_granted (g.F.FileStore.state c.args.store.now).content w v.shows c.args.cred.now c.args.from.now c.args.to.now c.in_ok-removal.removal c.in_ok-dir.dir
+    move_granted (g.F.FileStore.state c.args.store.now).content w v.shows v.tree c.args.cred.now c.args.from.now c.args.to.now c.in_ok-removal.removal c.in_ok-dir.dir
     (removes g at.In_ok-removal w v) (makes g at.In_ok-dir w v) c.in-Some.parents.now c.in-Some.field-0-0.now c.in-Some.ensures.cases.0
     (c.in_ok-judge_way.ensures.apart w here) (sym c.if-not-grants.ensures)
