@@ -28,5 +28,7 @@ pub mod RunLemmas
 pub mod SameKeys
 pub mod Shrunk
 pub mod Trees
+pub mod ViewLaw
+pub mod ViewLemmas
 pub mod WalkLemmas
 pub mod Ways

@@ -16,6 +16,7 @@ pub mod LawSetId
 pub mod LawShown
 pub mod LawThere
 pub mod LawTrees
+pub mod LawView
 pub mod LawsAccess
 pub mod LawsBytes
 pub mod LawsFlags

@@ -7,6 +7,7 @@ use Rattle.lfs_types.specs.declared.answer.Answer.{Answer}
 use Rattle.lfs_types.specs.declared.attrs.Attrs.{Attrs}
 use Rattle.lfs_types.specs.declared.attrs.Bit.TheVariants as bits
 use Rattle.lfs_types.specs.declared.request.Request.{Request}
+use Rattle.lfs_types.specs.declared.request.Request.TheVariants.{Stat, Read, Write, List as Names, SetLength, Create, Mkdir, Unlink, Rmdir, Rename, Chmod, Chown, Chflags, SetLevel, Sync}
 use Rattle.lfs_rules.specs.Bits.{has_bit}
 use Rattle.lfs_rules.specs.Locks.{is_immutable, is_append_only}
 use Rattle.lfs_rules.specs.Owners.{is_owner_or_superuser}
@@ -58,6 +59,24 @@ pub record LeadsTo (rows : Rows) (path : List (List ℕ)) (parent : ℕ) (name :
   pub front : List (List ℕ)
   pub split : front ++ name ∷ [] ≡ path
   pub leads : reached rows root front ≡ parent
+
+-- the paths of a call, in order: of a Rename two, of a SetLevel and a Sync none
+abbrev pub paths : Request → List (List (List ℕ))
+paths (Stat path) = path ∷ []
+paths (Read path off len) = path ∷ []
+paths (Names path) = path ∷ []
+paths (Write path place bytes) = path ∷ []
+paths (SetLength path len) = path ∷ []
+paths (Create path mode) = path ∷ []
+paths (Mkdir path mode) = path ∷ []
+paths (Unlink path) = path ∷ []
+paths (Rmdir path) = path ∷ []
+paths (Rename from to) = from ∷ to ∷ []
+paths (Chmod path mode) = path ∷ []
+paths (Chown path uid gid) = path ∷ []
+paths (Chflags path flags) = path ∷ []
+paths (SetLevel level) = []
+paths Sync = []
 
 -- what holds of each call in each tree: of the world before it, who called what, the answer, and the world after it
 abbrev pub EachCall : (ℕ → World → Caller → Request → Answer → World → Type 0) → Type 0

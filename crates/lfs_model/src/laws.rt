@@ -17,6 +17,7 @@ ghost use Rattle.lfs_model.specs.LawSetId.{LosesSetIds};
 ghost use Rattle.lfs_model.specs.LawShown.{Shown};
 ghost use Rattle.lfs_model.specs.LawThere.{FindsRows};
 ghost use Rattle.lfs_model.specs.LawTrees.{LeavesTree};
+ghost use Rattle.lfs_model.specs.LawView.{View};
 ghost use Rattle.lfs_model.specs.LawsAccess.{NobodyReads, AnswersAlike, UnservedLeaves, NobodyChanges, OwnersMove};
 ghost use Rattle.lfs_model.specs.LawsBytes.{LastWritten};
 ghost use Rattle.lfs_model.specs.LawsFlags.{InitLowers, ImmutableStays, AppendOnlyGrows, SystemImmutableStays, SystemAppendOnlyGrows};
@@ -100,6 +101,15 @@ pub fn tells_little()
 /// a Chown, both the caller's groups.
 pub fn decides_alike()
     ensures { DecidesAlike }
+{}
+
+/// Two trees in which a caller has the same view of a call decide it alike, and where they allow it, answer it alike. The
+/// view is the level; along each path of the call what a Stat shows of each row, or that none is there, up to and
+/// including the first that is no directory which grants him search; and for a Read or a List of a row that he reaches
+/// and that grants him read, its bytes or its children's names. One thing more a Rmdir tells: whether the directory that
+/// it would remove is empty.
+pub fn same_view()
+    ensures { View }
 {}
 
 /// Each call leaves a tree where it found one.
