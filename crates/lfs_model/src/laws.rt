@@ -20,7 +20,7 @@ ghost use Rattle.lfs_model.specs.LawTrees.{LeavesTree};
 ghost use Rattle.lfs_model.specs.LawView.{View};
 ghost use Rattle.lfs_model.specs.LawsAccess.{NobodyReads, AnswersAlike, UnservedLeaves, NobodyChanges, OwnersMove};
 ghost use Rattle.lfs_model.specs.LawsBytes.{LastWritten};
-ghost use Rattle.lfs_model.specs.LawsFlags.{InitLowers, ImmutableStays, AppendOnlyGrows, SystemImmutableStays, SystemAppendOnlyGrows};
+ghost use Rattle.lfs_model.specs.LawsFlags.{ImmutableStays, AppendOnlyGrows, SystemImmutableStays, SystemAppendOnlyGrows};
 ghost use Rattle.lfs_model.specs.LawsRuns.{EachEntry, StaysTree, UsersAlone};
 
 /// A file or a directory is gone only by the Unlink of a file or the Rmdir of an empty directory, at the call's path, of
@@ -179,25 +179,20 @@ pub fn last_written()
     ensures { LastWritten }
 {}
 
-/// The securelevel falls only by a call of user 0 as init.
-pub fn level_falls_by_init()
-    ensures { InitLowers }
-{}
-
 /// An immutable file or directory stays in its directory with its name, its bytes and its attributes, whatever is
 /// called, until its flags are set.
 pub fn immutable_stays()
     ensures { ImmutableStays }
 {}
 
-/// An append-only file stays in its directory with its name, its owner and its group, its bytes stay in front of those
-/// that it gets, and its size never falls, whatever is called, until its flags are set.
+/// An append-only file stays in its directory with its name, its owner, its group and, but for the set-id bits, its mode;
+/// its bytes stay in front of those that it gets, and its size never falls, whatever is called, until its flags are set.
 pub fn append_only_grows()
     ensures { AppendOnlyGrows }
 {}
 
 /// Above level 0 nothing turns SF_IMMUTABLE or SF_APPEND off: what has the one keeps it and all but its other flags,
-/// and what has the other keeps it and only grows, whatever is called, until init lowers the level.
+/// and what has the other keeps it and only grows, whatever is called, until init lets the level fall to 0 or below.
 pub fn system_locks_stay()
     ensures immutable { SystemImmutableStays }
     ensures append_only { SystemAppendOnlyGrows }
