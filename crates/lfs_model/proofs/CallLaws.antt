@@ -21,12 +21,12 @@ use Rattle.lfs_rules.specs.Grants.{grants_of}
 use Rattle.lfs_rules.specs.Securelevel.{is_lower}
 use Rattle.lfs_model.specs.World.{Rows, file_at, IsTree}
 use Rattle.lfs_model.specs.Rules.{decide, first_failing, reached, front, last, walk, attrs_at}
-use Rattle.lfs_model.specs.Effects.{effect, least_unused, with_file, with_place, new_file, written, cut, given, read_max}
+use Rattle.lfs_model.specs.Effects.{effect, least_unused, with_file, with_place, new_file, written, cut, given, in_byte_order, names_in, read_max}
 use Rattle.lfs_model.specs.LawNew.{Makes, IsLeastUnused, MayMake, New}
 use Rattle.lfs_model.specs.LawLevel.{MayRelevel, Relevelled}
 use Rattle.lfs_model.specs.LawTrees.{LeavesTree}
 use Rattle.lfs_model.specs.LawShown.{IsSeen, MayShow, Shown}
-use Rattle.lfs_model.specs.Rights.{LeadsTo, MayPlace}
+use Rattle.lfs_model.specs.Rights.{EachCall, LeadsTo, MayPlace}
 use Rattle.lfs_model.specs.Steps.{IsAnswer, LacksInodes, AllUsed, after_answer}
 use Rattle.lfs_model.proofs.Allowed.{may_make, walk_there}
 use Rattle.lfs_model.proofs.Deciding.{met_first, passes-append}
@@ -35,6 +35,7 @@ use Rattle.lfs_model.proofs.LawFlags.{LevelFate, level_fate, by_init}
 use Rattle.lfs_model.proofs.LawFlags.LevelFate.{Same, Set}
 use Rattle.lfs_model.proofs.LawTree.{answer_tree}
 use Rattle.lfs_model.proofs.LawUnused.{new_unused, no_less, used_below}
+use Rattle.lfs_model.proofs.NameLists.{are_names}
 use Rattle.lfs_model.proofs.WalkLemmas.{directory_kind, regular_kind}
 use Rattle.lfs_model.proofs.Ways.{reaches_root, walk_reaches}
 use Rattle.lfs_types.proofs.Maps.{get-insert_same, get-insert_other, get-remove_same, get-remove_other}
@@ -90,7 +91,10 @@ module _ (numbers : ℕ) (w : World) (caller : Caller) (tree : IsTree w.rows) (n
       subst (λ (y : Row). MayMake numbers w caller request n y) made (record {
         placed = place;
         number = subst (IsLeastUnused numbers w.rows) (sym same) (least_number numbers w.rows room);
-        file = refl;
+        owner = refl;
+        group = refl;
+        flags = refl;
+        bytes = refl;
         asked = asked row refl;
       }))
       (λ other. none_there _ s none (sym (get-insert_other w.rows _ _ n other) ∙ is))
@@ -131,7 +135,7 @@ module _ (numbers : ℕ) (w : World) (caller : Caller) (tree : IsTree w.rows) (n
   new_by request (Denied denial) is after = none_there _ s none after
   new_by request (Refused resource) is after = none_there _ s none after
 
-pub new_law : New
+pub new_law : EachCall New
 new_law numbers w caller request answer tree is n s none after = new_by numbers w caller tree n s none request answer is after
 
 -- ---- the level
@@ -144,14 +148,14 @@ relevelled_by w caller request after (Set is super may) differs = record {
   asked = is;
 }
 
-pub relevelled_law : Relevelled
+pub relevelled_law : EachCall Relevelled
 relevelled_law numbers w caller request (Served shown) tree is differs = relevelled_by w caller request _ (level_fate numbers w caller request is.0) differs
 relevelled_law numbers w caller request (Denied denial) tree is differs = absurd (differs refl)
 relevelled_law numbers w caller request (Refused resource) tree is differs = absurd (differs refl)
 
 -- ---- the tree
 
-pub leaves_tree : LeavesTree
+pub leaves_tree : EachCall LeavesTree
 leaves_tree numbers w caller request answer tree is = answer_tree numbers w caller request answer tree is
 
 -- ---- what is shown
@@ -195,7 +199,7 @@ shown_by numbers w caller (Names path) (Served shown) tree is =
     seen w caller tree path walks.0 _ (λ r at. let e = row_attrs w.rows _ r at in (
       directory_kind r.file.kind (ap (λ (x : Attrs). is_directory_kind x.kind) (sym e) ∙ a.0),
       ap (λ x. grants_of caller x bits.Read) (sym e) ∙ b.0,
-      is.2,
+      (in_byte_order (names_in w.rows (reached w.rows root path)), is.2, are_names w.rows tree (reached w.rows root path)),
     ))
 shown_by numbers w caller (Write path place bytes) (Served shown) tree is = is.2
 shown_by numbers w caller (SetLength path len) (Served shown) tree is = is.2
@@ -211,5 +215,5 @@ shown_by numbers w caller (SetLevel level) (Served shown) tree is = is.2
 shown_by numbers w caller Sync (Served shown) tree is = is.2
 shown_by numbers w caller request answer tree is = tt
 
-pub shown_law : Shown
+pub shown_law : EachCall Shown
 shown_law numbers w caller request answer tree is = shown_by numbers w caller request answer tree is

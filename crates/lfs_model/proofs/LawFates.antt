@@ -21,7 +21,8 @@ use Rattle.std.specs.Prelude.{nat_le}
 use Rattle.lfs_model.specs.World.{Rows, file_at}
 use Rattle.lfs_model.specs.Rules.{decide, reached, front, last, row_grants, attrs_at, asks, start_of, file_max, is_end, walk, removing}
 use Rattle.lfs_model.specs.Effects.{effect, with_file, with_place, written, cut, given}
-use Rattle.lfs_model.specs.LawsFlags.{KeepsMode, SetsFlags}
+use Rattle.lfs_model.specs.LawsFlags.{SetsFlags}
+use Rattle.lfs_model.specs.LawOneThing.{KeepsMode}
 use Rattle.lfs_model.specs.Steps.{LacksInodes}
 use Rattle.lfs_model.proofs.Allowed.{MayChange, MayRemove, may_change, may_remove}
 use Rattle.lfs_model.proofs.Deciding.{met_first, passes-append}
@@ -130,7 +131,7 @@ owner_keeps : (caller : Caller) (attrs : Attrs) (uid gid : ℕ) → may_set_owne
 owner_keeps caller attrs uid gid h other = eqb-true uid attrs.uid (kept (is_the_superuser caller) (is_the_owner caller attrs) (uid == attrs.uid) _ h other)
 
 -- a change of bytes keeps the mode, or takes the set-id bits away
-kept_mode : (super : Bool) (mode : ℕ) → KeepsMode mode (cond super mode (set_id_cleared mode))
+pub kept_mode : (super : Bool) (mode : ℕ) → KeepsMode mode (cond super mode (set_id_cleared mode))
 kept_mode true mode = inl refl
 kept_mode false mode = inr refl
 

@@ -19,7 +19,8 @@ use Rattle.lfs_model.specs.declared.journal.Event.{Event}
 use Rattle.lfs_model.specs.declared.journal.Event.TheVariants.{User, Cleaner}
 use Rattle.lfs_model.specs.Rules.{decide}
 use Rattle.lfs_model.specs.Effects.{effect}
-use Rattle.lfs_model.specs.LawsFlags.{SetsFlags, DropsLevel, DiffersInFlags, Grows, KeepsMode, ImmutableStays, AppendOnlyGrows, SystemImmutableStays, SystemAppendOnlyGrows}
+use Rattle.lfs_model.specs.LawOneThing.{DiffersInFlags, KeepsMode}
+use Rattle.lfs_model.specs.LawsFlags.{SetsFlags, DropsLevel, Grows, ImmutableStays, AppendOnlyGrows, SystemImmutableStays, SystemAppendOnlyGrows}
 use Rattle.lfs_model.specs.LawsRuns.{IsServed, NoneServed}
 use Rattle.lfs_model.specs.Steps.{IsEvent, IsLegal, after_event, world_after}
 use Rattle.lfs_model.proofs.Deciding.{met_first}

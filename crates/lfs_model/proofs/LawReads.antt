@@ -22,7 +22,7 @@ use Rattle.lfs_rules.specs.Grants.{grants_of}
 use Rattle.lfs_model.specs.World.{Rows, hangs_in, hangs_as, child, children, name_of, file_at}
 use Rattle.lfs_model.specs.Rules.{first_failing, asks, is_directory_row, row_grants, attrs_at, next, reached, front, last, Check, walk, visited, making, making_tests, removing, removing_tests, unlink_tests, rmdir_tests, moving_tests, reaching, stat_tests, read_tests, list_tests, write_tests, length_tests, chmod_tests, chown_tests, chflags_tests, level_tests, rule_table, decide}
 use Rattle.lfs_model.specs.Effects.{read_max, in_byte_order, answer_of}
-use Rattle.lfs_model.specs.LawsAccess.{NumberLooksAlike, DifferUnread}
+use Rattle.lfs_model.specs.LawUnread.{NumberLooksAlike, DifferUnread}
 use Rattle.lfs_model.specs.Steps.{AllUsed, LacksInodes, IsCrowded, MayLack, IsAnswer}
 use Rattle.lfs_model.proofs.Deciding.{met_first, passes-append}
 use Rattle.lfs_model.proofs.SameKeys.{same_keys}
@@ -174,7 +174,7 @@ module _ (caller : Caller) (w v : World) (differ : DifferUnread caller w v) wher
   table_same Sync = refl
 
   -- the rules say the same in both worlds
-  pub decide_same : (request : Request) → decide w caller request ≡ decide v caller request
+  decide_same : (request : Request) → decide w caller request ≡ decide v caller request
   decide_same request = ap first_failing (table_same request)
 
   -- ---- the answers
@@ -183,7 +183,7 @@ module _ (caller : Caller) (w v : World) (differ : DifferUnread caller w v) wher
   read_granted path off len h = (met_first _ _ _ (met_first _ _ _ (passes-append (walk w.rows caller 0 0 root path) _ h).1).1).0
 
   -- a call that they allow shows the same
-  pub answer_same : (request : Request) → decide w caller request ≡ None → answer_of w request ≡ answer_of v request
+  answer_same : (request : Request) → decide w caller request ≡ None → answer_of w request ≡ answer_of v request
   answer_same (Stat path) h = λ i. served.Stat (reached_same i root path) (attributes i (reached_same i root path))
   answer_same (Read path off len) h =
       let n = reached w.rows root path in

@@ -3,7 +3,7 @@ use Rattle.std.proofs.Common.{◌≡◌, ◌≢◌, ℕ, ◌+◌, ◌==◌, Bool
 use Rattle.std.proofs.lemmas.Bool.{not-true}
 use Rattle.std.specs.FinMap as map
 use Rattle.lfs_types.specs.Caller.{Caller}
-use Rattle.lfs_types.specs.Tree.{File, Row, World, root, opening_world}
+use Rattle.lfs_types.specs.Tree.{File, Row, World, root}
 use Rattle.lfs_types.specs.declared.answer.Answer.{Answer}
 use Rattle.lfs_types.specs.declared.answer.Answer.TheVariants.{Served, Denied, Refused}
 use Rattle.lfs_types.specs.declared.attrs.Kind.{Kind}
@@ -18,7 +18,6 @@ use Rattle.std.specs.Prelude.{nat_le}
 use Rattle.lfs_model.specs.World.{Rows, child, children, ancestor, IsChild, IsTree}
 use Rattle.lfs_model.specs.Rules.{decide, is_directory_row, reached, front, last, asks, start_of, file_max, is_end, removing, making}
 use Rattle.lfs_model.specs.Effects.{effect, least_unused, with_file, with_place, new_file, written, cut, given}
-use Rattle.lfs_model.specs.LawsRuns.{StaysTree}
 use Rattle.lfs_model.specs.Steps.{IsAnswer, IsEvent, IsLegal, LacksInodes, AllUsed, after_answer, after_event, world_after}
 use Rattle.lfs_model.proofs.Changed.{IsTree-changed}
 use Rattle.lfs_model.proofs.Grown.{IsTree-grown}
@@ -28,7 +27,6 @@ use Rattle.lfs_model.proofs.LawUnused.{new_unused, new_below}
 use Rattle.lfs_model.proofs.Members.{children-has}
 use Rattle.lfs_model.proofs.Moved.{IsTree-moved}
 use Rattle.lfs_model.proofs.MovedWay.{no_ancestor}
-use Rattle.lfs_model.proofs.RunLemmas.{opening_tree}
 use Rattle.lfs_model.proofs.Shrunk.{IsTree-shrunk}
 use Rattle.lfs_model.proofs.WalkLemmas.{directory_kind}
 use Rattle.lfs_model.proofs.Trees.{no_directory, no_parent}
@@ -143,7 +141,3 @@ event_tree numbers segments w caller (Cleaner kind outcome) tree is = tree
 pub entries_tree : (numbers segments : ℕ) (entries : List Entry) (w : World) → IsTree w.rows → IsLegal numbers segments entries w → IsTree (world_after numbers entries w).rows
 entries_tree numbers segments [] w tree legal = tree
 entries_tree numbers segments (e ∷ es) w tree legal = entries_tree numbers segments es (after_event numbers w e.cred e.event) (event_tree numbers segments w e.cred e.event tree legal.0) legal.1
-
--- each legal journal leaves a tree
-pub stays_tree : StaysTree
-stays_tree numbers segments entries legal = entries_tree numbers segments entries opening_world opening_tree legal

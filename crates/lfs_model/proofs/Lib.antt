@@ -7,11 +7,11 @@ pub mod Changed
 pub mod Children
 pub mod Deciding
 pub mod DeniedLemmas
+pub mod EachLemmas
 pub mod EntryLemmas
 pub mod Fates
 pub mod Grown
 pub mod LawBytes
-pub mod LawChanges
 pub mod LawFates
 pub mod LawFlags
 pub mod LawReads
@@ -22,6 +22,7 @@ pub mod Members
 pub mod Moved
 pub mod MovedRows
 pub mod MovedWay
+pub mod NameLists
 pub mod OneThingLemmas
 pub mod RowLaws
 pub mod RunLemmas

@@ -24,6 +24,7 @@ use Rattle.lfs_model.specs.LawView.{HasSameView, MayRead, TellsEmpty, View}
 use Rattle.lfs_model.proofs.Allowed.{directory_attrs, grants_attrs, last_step, path_there, split_last}
 use Rattle.lfs_model.proofs.CallLaws.{shown_law}
 use Rattle.lfs_model.proofs.Deciding.{met_first, passes-append}
+use Rattle.lfs_model.proofs.NameLists.{names_alike}
 use Rattle.lfs_model.proofs.ViewLemmas.{Ends, Sees, alike_behind, alike_cons, attrs_alike, first_same, second_same, sees_first, sees_step, walk_alike, walk_ends}
 use Rattle.lfs_types.proofs.Somewhere.{There}
 
@@ -135,7 +136,7 @@ module _ (path : List (List ℕ)) where
 
 -- ---- each call
 
-module _ (w v : World) (caller : Caller) (tree : IsTree w.rows) where
+module _ (w v : World) (caller : Caller) (tree : IsTree w.rows) (other : IsTree v.rows) where
   abbrev Decided : Request → Type 0
   Decided request = (decide w caller request ≡ decide v caller request) ⊎ TellsEmpty request (decide w caller request) (decide v caller request)
 
@@ -207,7 +208,8 @@ module _ (w v : World) (caller : Caller) (tree : IsTree w.rows) where
       let end = read_end path (list_tests caller) (first_same _ _ _ _ h.rows) allowed in
       let s = shown_law 0 w caller (Names path) (Served (answer_of w (Names path))) tree (allowed, (λ x. x), refl) in
       let may : MayRead w caller path = record { number = s.number; row = s.row; there = s.there; named = s.named; reaches = s.reaches; holds = s.holds.1 } in
-      s.holds.2 ∙ ap served.Names (h.contents may ∙ ap (λ n. in_byte_order (names_in v.rows n)) (sym s.named ∙ end.same))
+      ap (λ n. served.Names (in_byte_order (names_in w.rows n))) s.named
+      ∙ ap served.Names (names_alike w.rows v.rows tree other s.number (h.contents may) ∙ ap (λ n. in_byte_order (names_in v.rows n)) (sym s.named ∙ end.same))
   answered (Write path place bytes) h allowed = refl
   answered (SetLength path len) h allowed = refl
   answered (Create path mode) h allowed = refl
@@ -222,4 +224,4 @@ module _ (w v : World) (caller : Caller) (tree : IsTree w.rows) where
   answered Sync h allowed = refl
 
 pub view : View
-view w v caller request tree other h = (decided w v caller tree request h, answered w v caller tree request h)
+view w v caller request tree other h = (decided w v caller tree other request h, answered w v caller tree other request h)

@@ -1,5 +1,5 @@
 -- Nothing else makes a difference: two trees in which a caller has the same view decide his call alike, and answer it alike.
-use Rattle.std.specs.Prelude.{◌≡◌, ◌⊎◌, ℕ, ◌&&◌, Bool, true, false, List, [], ◌∷◌, Option, None, Some, option_map, if◌then◌else◌}
+use Rattle.std.specs.Prelude.{◌≡◌, ◌⊎◌, ◌↔◌, ℕ, ◌&&◌, Bool, true, false, List, [], ◌∷◌, Option, None, Some, option_map, if◌then◌else◌}
 use Rattle.std.specs.Prelude as lists
 use Rattle.std.specs.FinMap as map
 use Rattle.lfs_types.specs.Caller.{Caller}
@@ -11,9 +11,9 @@ use Rattle.lfs_types.specs.declared.request.Request.TheVariants.{Read, List as N
 use Rattle.lfs_types.specs.declared.rule.Denial.{Denial}
 use Rattle.lfs_types.specs.declared.rule.Rule.TheVariants.{IsEmpty}
 use Rattle.lfs_rules.specs.Grants.{grants_of}
-use Rattle.lfs_model.specs.World.{Rows, file_at, IsTree}
+use Rattle.lfs_model.specs.World.{Rows, file_at, IsChild, IsTree}
 use Rattle.lfs_model.specs.Rules.{decide, is_directory_row, row_grants}
-use Rattle.lfs_model.specs.Effects.{answer_of, in_byte_order, names_in}
+use Rattle.lfs_model.specs.Effects.{answer_of}
 use Rattle.lfs_model.specs.LawDenied.{child_of}
 use Rattle.lfs_model.specs.LawShown.{IsSeen}
 use Rattle.lfs_model.specs.Rights.{paths}
@@ -43,12 +43,13 @@ views w caller request = lists.map (seen w.rows caller (Some root)) (paths reque
 abbrev pub MayRead : World → Caller → List (List ℕ) → Type 0
 MayRead w caller path = IsSeen w caller path (λ n r. grants_of caller (attrs_of r.file) bits.Read ≡ true)
 
--- what a Read or a List may show is the same in another world: the bytes of its row, or its children's names
+-- what a Read or a List may show is the same in another world: the bytes of its row, or the names of its children
 abbrev pub ShowsAlike : World → World → Caller → Request → Type 0
 ShowsAlike w v caller (Read path off len) =
     (may : MayRead w caller path) → may.row.file.bytes ≡ (file_at (map.get v.rows may.number)).bytes
 ShowsAlike w v caller (Names path) =
-    (may : MayRead w caller path) → in_byte_order (names_in w.rows may.number) ≡ in_byte_order (names_in v.rows may.number)
+    (may : MayRead w caller path) (name : List ℕ)
+    → ((n : ℕ) × IsChild w.rows may.number name n) ↔ ((n : ℕ) × IsChild v.rows may.number name n)
 ShowsAlike w v caller request = Unit {0}
 
 -- a caller has the same view of a call in two worlds

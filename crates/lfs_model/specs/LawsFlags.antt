@@ -1,5 +1,5 @@
 -- What flags keep, through any list of calls.
-use Rattle.std.specs.Prelude.{◌≡◌, ◌⊎◌, ℕ, ◌≤◌, true, false, List, ◌++◌, length, Some, IsSomeAnd}
+use Rattle.std.specs.Prelude.{◌≡◌, ℕ, ◌≤◌, true, false, List, ◌++◌, length, Some, IsSomeAnd}
 use Rattle.std.specs.FinMap as map
 use Rattle.lfs_types.specs.Caller.{Caller}
 use Rattle.lfs_types.specs.Tree.{Row, World, root, attrs_of}
@@ -8,10 +8,10 @@ use Rattle.lfs_types.specs.declared.request.Request.TheVariants.{Chflags, SetLev
 use Rattle.lfs_rules.specs.Bits.{has_bit}
 use Rattle.lfs_rules.specs.Locks.{is_immutable, is_append_only}
 use Rattle.lfs_rules.specs.Securelevel.{is_above_zero}
-use Rattle.lfs_rules.specs.SetId.{set_id_cleared}
 use Rattle.lfs_model.specs.declared.journal.Entry.{Entry}
 use Rattle.lfs_model.specs.Rules.{reached}
-use Rattle.lfs_model.specs.LawsAccess.{HangsStill}
+use Rattle.lfs_model.specs.LawMoved.{HangsStill}
+use Rattle.lfs_model.specs.LawOneThing.{DiffersInFlags, KeepsMode}
 use Rattle.lfs_model.specs.LawsRuns.{NoneServed}
 use Rattle.lfs_model.specs.Steps.{IsLegal, world_after}
 
@@ -25,14 +25,6 @@ abbrev pub DropsLevel : World → Caller → Request → Type 0
 DropsLevel w caller (SetLevel level) =
     (caller.init ≡ true) × (is_above_zero w.level ≡ true) × (is_above_zero level ≡ false)
 DropsLevel w caller request = ⊥
-
--- a row is what it was in all but its flags
-abbrev pub DiffersInFlags : Row → Row → Type 0
-DiffersInFlags old new = new ≡ record old { file = record old.file { flags = new.file.flags } }
-
--- a mode is what it was, or has lost its set-id bits
-abbrev pub KeepsMode : ℕ → ℕ → Type 0
-KeepsMode old new = (new ≡ old) ⊎ (new ≡ set_id_cleared old)
 
 -- a row hangs where it hung, with its kind, owner and group and, but for its set-id bits, its mode; its bytes are those
 -- that it had and maybe more

@@ -36,6 +36,11 @@ pub record Owns (rows : Rows) (caller : Caller) (n : ℕ) : Type 0 where
 abbrev pub is_fixed : Attrs → Bool
 is_fixed attrs = is_immutable attrs || is_append_only attrs
 
+-- A caller may change a row's mode, owner or group: he owns it, and it isn't fixed.
+pub record MayRetitle (rows : Rows) (caller : Caller) (n : ℕ) : Type 0 where
+  pub owns : Owns rows caller n
+  pub loose : is_fixed (attrs_at rows n) ≡ false
+
 -- A caller may take a row away from its parent: he reaches the row and may write the parent, neither is fixed, and
 -- if the parent is sticky, he is the superuser or the owner of one of the two.
 pub record MayTakeAway (rows : Rows) (caller : Caller) (n parent : ℕ) : Type 0 where
@@ -78,10 +83,15 @@ paths (Chflags path flags) = path ∷ []
 paths (SetLevel level) = []
 paths Sync = []
 
--- what holds of each call in each tree: of the world before it, who called what, the answer, and the world after it
-abbrev pub EachCall : (ℕ → World → Caller → Request → Answer → World → Type 0) → Type 0
-EachCall Law =
+-- what is said of a call: of how many inode numbers there are, the world before it, who called what, the answer, and the
+-- world after it
+abbrev pub Law : Type 1
+Law = ℕ → World → Caller → Request → Answer → World → Type 0
+
+-- it holds of each call in each tree
+abbrev pub EachCall : Law → Type 0
+EachCall law =
     (numbers : ℕ) (w : World) (caller : Caller) (request : Request) (answer : Answer)
     → IsTree w.rows
     → IsAnswer numbers w caller request answer
-    → Law numbers w caller request answer (after_answer numbers w caller request answer)
+    → law numbers w caller request answer (after_answer numbers w caller request answer)
