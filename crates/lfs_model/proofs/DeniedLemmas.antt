@@ -1,7 +1,7 @@
 -- What the denials of a walk and of the tests behind it tell.
 use Rattle.std.proofs.Common.{◌≡◌, ℕ, ◌+◌, ◌==◌, ◌||◌, not, Bool, true, false, cond, List, [], ◌∷◌, ◌++◌, length, Option, None, Some, refl, sym, ap, subst, ◌∙◌, arith, append_assoc, append-nil, length-append, eqb-true}
 use Rattle.std.proofs.lemmas.Bool.{not-true}
-use Rattle.std.specs.Prelude.{is_some, is_none, nat_le, IsSome}
+use Rattle.std.specs.Prelude.{is_some, is_none, nat_le, slice_get, IsSome, IsSomeAnd}
 use Rattle.std.specs.List.{list_any}
 use Rattle.std.specs.FinMap as map
 use Rattle.lfs_types.specs.Caller.{Caller}
@@ -13,10 +13,10 @@ use Rattle.lfs_types.specs.declared.request.Request.{Request}
 use Rattle.lfs_types.specs.declared.request.Request.TheVariants.{Stat, Read, Write, List as Names, SetLength, Create, Mkdir, Unlink, Rmdir, Rename, Chmod, Chown, Chflags, SetLevel, Sync}
 use Rattle.lfs_types.specs.declared.rule.Denial.{Denial}
 use Rattle.lfs_types.specs.declared.rule.Rule.{Rule}
-use Rattle.lfs_types.specs.declared.rule.Rule.TheVariants.{IsDirectory, GrantsSearch, NameThere, NameFree, IsNoDirectory, IsEmpty, IsNotRoot, IsNotBeneathItself, IsMutable, IsNotAppendOnly, GrantsRead, GrantsWrite, PassesSticky, IsOwner, MaySetOwner, IsSuperuser, MaySetFlags, KeepsSystemLocks, MaySetLevel, FitsFile}
+use Rattle.lfs_types.specs.declared.rule.Rule.TheVariants.{IsDirectory, GrantsSearch, NameThere, NameFree, IsNoDirectory, IsEmpty, IsNotRoot, IsNotBeneathItself, IsMutable, IsNotAppendOnly, GrantsRead, GrantsWrite, PassesSticky, IsOwner, MaySetOwner, MaySetFlags, KeepsSystemLocks, FitsFile}
 use Rattle.lfs_model.specs.World.{Rows, child, children, IsTree}
 use Rattle.lfs_model.specs.Rules.{Check, asks, attrs_at, change_tests, chflags_tests, chmod_tests, chown_tests, file_max, is_end, length_tests, level_tests, list_tests, read_tests, start_of, stat_tests, write_tests, decide, first_failing, front, last, making, moving_tests, next, position, reached, reaching, removing, removing_tests, rmdir_tests, unlink_tests, row_grants, is_directory_row, visited, walk}
-use Rattle.lfs_model.specs.LawDenied.{child_of, led, MayEnter, MayPass, Says, Tells, TellsLittle, path_of}
+use Rattle.lfs_model.specs.LawDenied.{child_of, led, MayEnter, MayPass, Says, Tells, Told, TellsLittle}
 use Rattle.lfs_rules.specs.Grants.{grants_of}
 use Rattle.lfs_rules.specs.Locks.{is_immutable}
 use Rattle.lfs_model.proofs.Allowed.{child_there, directory_attrs, grants_attrs, last_step, may_make, regular_row, split_last}
@@ -264,24 +264,25 @@ module _ (rows : Rows) (caller : Caller) (tree : IsTree rows) (path : List (List
 -- ---- each call
 
 module _ (w : World) (caller : Caller) (tree : IsTree w.rows) where
+  -- what a denial tells of the only path of a call
+  abbrev Along : List (List ℕ) → Denial → Type 0
+  Along path d = IsSomeAnd (slice_get (path ∷ []) d.path) (λ p. Tells w.rows caller p d.rule d.at)
+
   -- a call of what a path leads to
   by_path : (path : List (List ℕ)) (tests : Attrs → ℕ → List Check)
       → ((n : ℕ) (a : At w.rows caller path n (length path)) (denial : Denial) → first_failing (tests (attrs_at w.rows n) (length path)) ≡ Some denial
-      → Tells w.rows caller path denial.rule denial.at)
-      → (denial : Denial) → first_failing (reaching w.rows caller path tests) ≡ Some denial → Tells w.rows caller path denial.rule denial.at
-  by_path path tests on = at_path w.rows caller tree path 0 (λ d. Tells w.rows caller path d.rule d.at) (λ rule k t. t) tests on
+      → Along path denial)
+      → (denial : Denial) → first_failing (reaching w.rows caller path tests) ≡ Some denial → Along path denial
+  by_path path tests on = at_path w.rows caller tree path 0 (Along path) (λ rule k t. t) tests on
 
   -- a test of a row that is there
   asked : (path : List (List ℕ)) (n k : ℕ) → At w.rows caller path n k → (rule : Rule) → Says w.rows caller rule (Some n) → Tells w.rows caller path rule k
   asked path n k a rule says = here w.rows caller tree path n k a rule says
 
-  abbrev Told : List (List ℕ) → Denial → Type 0
-  Told path d = Tells w.rows caller path d.rule d.at
-
   change_told : (path : List (List ℕ)) (appends : Bool) (fits : Attrs → Bool) (n : ℕ) (a : At w.rows caller path n (length path)) (denial : Denial)
-      → first_failing (change_tests caller appends (attrs_at w.rows n) (length path) ++ (asks (fits (attrs_at w.rows n)) FitsFile 0 (length path) ∷ [])) ≡ Some denial → Told path denial
+      → first_failing (change_tests caller appends (attrs_at w.rows n) (length path) ++ (asks (fits (attrs_at w.rows n)) FitsFile 0 (length path) ∷ [])) ≡ Some denial → Along path denial
   change_told path appends fits n a =
-      each (Told path) (change_tests caller appends (attrs_at w.rows n) (length path) ++ (asks (fits (attrs_at w.rows n)) FitsFile 0 (length path) ∷ [])) (
+      each (Along path) (change_tests caller appends (attrs_at w.rows n) (length path) ++ (asks (fits (attrs_at w.rows n)) FitsFile 0 (length path) ∷ [])) (
         λ f. asked path n _ a IsNoDirectory a.there,
         (
           λ f. asked path n _ a IsMutable a.there,
@@ -303,7 +304,7 @@ module _ (w : World) (caller : Caller) (tree : IsTree w.rows) where
       moving_tests caller moved (visited w.rows root (front to)) stays (attrs_at w.rows moved) (length from)
 
   abbrev ToldOf : List (List ℕ) → List (List ℕ) → Denial → Type 0
-  ToldOf from to d = Tells w.rows caller (path_of (Rename from to) d.path) d.rule d.at
+  ToldOf from to d = IsSomeAnd (slice_get (from ∷ to ∷ []) d.path) (λ p. Tells w.rows caller p d.rule d.at)
 
   beneath : (from to : List (List ℕ)) → first_failing (making w.rows caller 1 to) ≡ None → list_any (λ n. n == reached w.rows root from) (visited w.rows root (front to)) ≡ true
       → Tells w.rows caller to IsNotBeneathItself (position (reached w.rows root from) (visited w.rows root (front to)))
@@ -324,58 +325,55 @@ module _ (w : World) (caller : Caller) (tree : IsTree w.rows) where
         (λ f. let a = taken_end w.rows caller tree from out in asked from (reached w.rows root from) (length from) a GrantsWrite a.there, tt),
       )))
 
-  told : (request : Request) (denial : Denial) → decide w caller request ≡ Some denial → Tells w.rows caller (path_of request denial.path) denial.rule denial.at
-  told (Stat path) = by_path path stat_tests (λ n a. none_fails (Told path))
-  told (Read path off len) = by_path path (read_tests caller) (λ n a. each (Told path) (read_tests caller (attrs_at w.rows n) (length path)) (
+  told : (request : Request) (denial : Denial) → decide w caller request ≡ Some denial → Told w caller request denial
+  told (Stat path) = by_path path stat_tests (λ n a. none_fails (Along path))
+  told (Read path off len) = by_path path (read_tests caller) (λ n a. each (Along path) (read_tests caller (attrs_at w.rows n) (length path)) (
     λ f. asked path n _ a IsNoDirectory a.there,
     (λ f. asked path n _ a GrantsRead a.there, tt),
   ))
-  told (Names path) = by_path path (list_tests caller) (λ n a. each (Told path) (list_tests caller (attrs_at w.rows n) (length path)) (
+  told (Names path) = by_path path (list_tests caller) (λ n a. each (Along path) (list_tests caller (attrs_at w.rows n) (length path)) (
     λ f. asked path n _ a IsDirectory (a.there, regular_row (map.get w.rows n) f),
     (λ f. asked path n _ a GrantsRead a.there, tt),
   ))
   told (Write path place bytes) = by_path path (write_tests caller place (length bytes))
       (change_told path (is_end place) (λ attrs. nat_le (start_of place attrs.size + length bytes) file_max))
   told (SetLength path len) = by_path path (length_tests caller len) (change_told path false (λ attrs. nat_le len file_max))
-  told (Create path mode) = made w.rows caller tree path 0 (Told path) (λ rule k t. t)
-  told (Mkdir path mode) = made w.rows caller tree path 0 (Told path) (λ rule k t. t)
+  told (Create path mode) = made w.rows caller tree path 0 (Along path) (λ rule k t. t)
+  told (Mkdir path mode) = made w.rows caller tree path 0 (Along path) (λ rule k t. t)
   told (Unlink path) =
       let rest = unlink_tests (attrs_at w.rows (reached w.rows root path)) (length path) in
-      fails-append (Told path) (removing w.rows caller path) rest (removed w.rows caller tree path (Told path) (λ rule k t. t))
-      (λ out. let a = taken_end w.rows caller tree path out in each (Told path) rest (λ f. asked path _ _ a IsNoDirectory a.there, tt))
+      fails-append (Along path) (removing w.rows caller path) rest (removed w.rows caller tree path (Along path) (λ rule k t. t))
+      (λ out. let a = taken_end w.rows caller tree path out in each (Along path) rest (λ f. asked path _ _ a IsNoDirectory a.there, tt))
   told (Rmdir path) =
       let dir = reached w.rows root path in
       let rest = rmdir_tests (length (children w.rows dir) == 0) (attrs_at w.rows dir) (length path) in
-      fails-append (Told path) (removing w.rows caller path) rest (removed w.rows caller tree path (Told path) (λ rule k t. t))
+      fails-append (Along path) (removing w.rows caller path) rest (removed w.rows caller tree path (Along path) (λ rule k t. t))
       (λ out. let a = taken_end w.rows caller tree path out in
-      each (Told path) rest (λ f. asked path _ _ a IsDirectory (a.there, regular_row _ f), (λ f. asked path _ _ a IsEmpty a.there, tt)))
+      each (Along path) rest (λ f. asked path _ _ a IsDirectory (a.there, regular_row _ f), (λ f. asked path _ _ a IsEmpty a.there, tt)))
   told (Rename from to) = renamed_told from to
-  told (Chmod path mode) = by_path path (chmod_tests caller) (λ n a. each (Told path) (chmod_tests caller (attrs_at w.rows n) (length path)) (
+  told (Chmod path mode) = by_path path (chmod_tests caller) (λ n a. each (Along path) (chmod_tests caller (attrs_at w.rows n) (length path)) (
     λ f. asked path n _ a IsMutable a.there,
     (
       λ f. asked path n _ a IsNotAppendOnly a.there,
       (λ f. asked path n _ a IsOwner a.there, tt),
     ),
   ))
-  told (Chown path uid gid) = by_path path (chown_tests caller uid gid) (λ n a. each (Told path) (chown_tests caller uid gid (attrs_at w.rows n) (length path)) (
+  told (Chown path uid gid) = by_path path (chown_tests caller uid gid) (λ n a. each (Along path) (chown_tests caller uid gid (attrs_at w.rows n) (length path)) (
     λ f. asked path n _ a IsMutable a.there,
     (
       λ f. asked path n _ a IsNotAppendOnly a.there,
       (λ f. asked path n _ a MaySetOwner a.there, tt),
     ),
   ))
-  told (Chflags path flags) = by_path path (chflags_tests caller w.level flags) (λ n a. each (Told path) (chflags_tests caller w.level flags (attrs_at w.rows n) (length path)) (
+  told (Chflags path flags) = by_path path (chflags_tests caller w.level flags) (λ n a. each (Along path) (chflags_tests caller w.level flags (attrs_at w.rows n) (length path)) (
     λ f. asked path n _ a IsOwner a.there,
     (
       λ f. asked path n _ a MaySetFlags a.there,
       (λ f. asked path n _ a KeepsSystemLocks a.there, tt),
     ),
   ))
-  told (SetLevel level) = let a = start w.rows caller tree [] in each (Told []) (level_tests caller w.level level) (
-    λ f. asked [] root 0 a IsSuperuser a.there,
-    (λ f. asked [] root 0 a MaySetLevel a.there, tt),
-  )
-  told Sync = none_fails (Told [])
+  told (SetLevel level) = each (Told w caller (SetLevel level)) (level_tests caller w.level level) (λ f. (refl, refl), (λ f. (refl, refl), tt))
+  told Sync = none_fails (Told w caller Sync)
 
 pub tells_little : TellsLittle
 tells_little w caller request denial tree h = told w caller tree request denial h
