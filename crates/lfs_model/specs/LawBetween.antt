@@ -16,7 +16,8 @@ use Rattle.lfs_model.specs.Steps.{IsLegal, after_event, world_after}
 
 -- what a call made of a row that was there: it is gone, by a caller who might remove it; or it differs, by one who might
 -- change it so
-abbrev pub IsTurn : (Row → Row → Type 0) → (World → Caller → Request → Row → Row → Type 0) → World → Caller → Request → World → ℕ → Row → Type 0
+abbrev pub IsTurn : (Row → Row → Type 0) → (World → Caller → Request → Row → Row → Type 0)
+    → World → Caller → Request → World → ℕ → Row → Type 0
 IsTurn Differs MayChange w caller request after n row =
     ((map.get after.rows n ≡ None) × MayRemove w caller request n row)
     ⊎ ((new : Row) × (map.get after.rows n ≡ Some new) × Differs row new × MayChange w caller request row new)
@@ -50,8 +51,12 @@ Between Differs MayChange =
 
 -- other bytes
 abbrev pub BytesBetween : Type 0
-BytesBetween = Between (λ old new. new.file.bytes ≢ old.file.bytes) (λ n w caller request row new. MayRewrite w caller request n row new.file.bytes)
+BytesBetween = Between
+    (λ old new. new.file.bytes ≢ old.file.bytes)
+    (λ n w caller request row new. MayRewrite w caller request n row new.file.bytes)
 
 -- another parent or another name
 abbrev pub PlaceBetween : Type 0
-PlaceBetween = Between (λ old new. HangsStill old new → ⊥) (λ n w caller request row new. MayMove w caller request n row new.parent new.name)
+PlaceBetween = Between
+    (λ old new. HangsStill old new → ⊥)
+    (λ n w caller request row new. MayMove w caller request n row new.parent new.name)

@@ -30,7 +30,8 @@ pub record IsSound (rows : Rows) : Type 0 where
   pub fits : (n : ℕ) (r : Row) → map.get rows n ≡ Some r → length r.file.bytes ≤ file_max
 
 -- the laws of what one call changes and shows
-pub record MeetsLaws (numbers : ℕ) (w : World) (caller : Caller) (request : Request) (answer : Answer) (after : World) : Type 0 where
+pub record MeetsLaws (numbers : ℕ) (w : World) (caller : Caller) (request : Request) (answer : Answer) (after : World)
+    : Type 0 where
   pub gone : Gone numbers w caller request answer after
   pub new : New numbers w caller request answer after
   pub moved : Moved numbers w caller request answer after
@@ -44,12 +45,13 @@ pub record MeetsLaws (numbers : ℕ) (w : World) (caller : Caller) (request : Re
   pub shown : Shown numbers w caller request answer after
 
 -- An entry stands lawfully between two worlds: it may happen in the first, both are sound trees, a user's call meets the
--- laws, and a cleaner's call changes nothing.
+-- laws, and a cleaner's call changes nothing. What is said of each tree, of decide and its denials, holds there too.
 pub record IsLawful (numbers segments : ℕ) (w : World) (entry : Entry) (after : World) : Type 0 where
   pub may : IsEvent numbers segments w entry.cred entry.event
   pub before : IsSound w.rows
   pub sound : IsSound after.rows
-  pub user : (request : Request) (answer : Answer) → entry.event ≡ User request answer → MeetsLaws numbers w entry.cred request answer after
+  pub user : (request : Request) (answer : Answer) → entry.event ≡ User request answer
+      → MeetsLaws numbers w entry.cred request answer after
   pub cleaner : (kind : CleanerKind) (outcome : CleanerOutcome) → entry.event ≡ Cleaner kind outcome → after ≡ w
 
 -- so does each entry of a legal list from the opening world
