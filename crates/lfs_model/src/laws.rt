@@ -33,7 +33,8 @@ pub fn gone()
 {}
 
 /// A new row is made by a Create or a Mkdir, at the call's path, of a caller who may place it there. Its number is the
-/// least that no row has, its owner the caller, its group the parent's; it has the call's mode, no flags and no bytes.
+/// least from 4 up that no row has, its owner the caller, its group the parent's; it has the call's mode, no flags and no
+/// bytes.
 pub fn new()
     ensures { EachCall New }
 {}
@@ -45,8 +46,9 @@ pub fn moved()
 {}
 
 /// The bytes of a file change only by a Write or a SetLength at its path, of a caller who may write it. They are then as
-/// many as the call says, and no more than fit a file; each is the one that the call brings there, else the old one, else
-/// 0. What is append-only keeps its bytes, followed by just those that the call brings.
+/// many as the call says, and no more than a file may have, if it didn't have more before; each is the one that the call
+/// brings there, else the old one, else 0. What is append-only keeps its bytes, followed by just those that the call
+/// brings.
 pub fn rewritten()
     ensures { EachCall Rewritten }
 {}
@@ -109,8 +111,8 @@ pub fn decides_alike()
 /// Two trees in which a caller has the same view of a call decide it alike, and where they allow it, answer it alike. The
 /// view is the level; along each path of the call what a Stat shows of each row, or that none is there, up to and
 /// including the first that is no directory which grants him search; and for a Read or a List of a row that he reaches
-/// and that grants him read, its bytes or its children's names. One thing more a Rmdir tells: whether the directory that
-/// it would remove is empty.
+/// and that grants him read, its bytes or its children's names. One thing more an Rmdir tells: whether the directory that
+/// it would remove is empty. This says nothing of refusals for want of a resource, nor of the number of a new row.
 pub fn same_view()
     ensures { View }
 {}
