@@ -28,7 +28,7 @@ use Rattle.lfs_model.specs.Rules.{decide, first_failing, reached, front, last, r
 use Rattle.lfs_model.specs.Effects.{effect, with_file, with_place, mode_after, written, cut, given}
 use Rattle.lfs_model.specs.LawGone as gone
 use Rattle.lfs_model.specs.LawMoved.{MayMove}
-use Rattle.lfs_model.specs.LawRewritten.{MayRewrite}
+use Rattle.lfs_model.specs.LawRewritten.{Appends, MayRewrite}
 use Rattle.lfs_model.specs.LawMode.{SetsMode}
 use Rattle.lfs_model.specs.LawOwner.{SetsOwner}
 use Rattle.lfs_model.specs.LawFlagged.{MayReflag}
@@ -219,7 +219,7 @@ module _ (w : World) (caller : Caller) (tree : IsTree w.rows) (n : ℕ) (r : Row
             (cases_lt i start);
         appends = λ append.
             let at = at_end place (is_append_only (attrs_of r.file)) (known (λ a. (is_end place || not (is_append_only a)) ≡ true) _ same may.keeps) append in
-            ap (λ p. splice r.file.bytes (start_of p (length r.file.bytes)) (b ∷ bs)) at ∙ splice_end r.file.bytes b bs;
+            (subst (λ p. Appends (Write path p (b ∷ bs))) (sym at) tt, ap (λ p. splice r.file.bytes (start_of p (length r.file.bytes)) (b ∷ bs)) at ∙ splice_end r.file.bytes b bs);
         asked = sym same;
       }
 

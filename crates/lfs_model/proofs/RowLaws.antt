@@ -94,7 +94,7 @@ module _ (w : World) (caller : Caller) (request : Request) (v : World) (n : ℕ)
     remoded_by (Changes bytes e x) differs =
         let same = row_of _ _ s e is in
         let other = mode_changed caller r.file.mode (λ q. differs (ap mode_in same ∙ q)) in
-        inr (record { cleared = ap mode_in same ∙ mode_ordinary caller r.file.mode other; ordinary = other; allowed = inr (x.regular, x.writes, x.asked) })
+        inr (record { cleared = ap mode_in same ∙ mode_ordinary caller r.file.mode other; ordinary = other; allowed = inr (x.regular, x.writes, x.asked, λ only. (x.appends only).0) })
     remoded_by (Remodes mode e x) differs =
         inl (subst (λ (y : Row). IsChmod w caller request n r y) (sym (row_of _ _ s e is)) (record { allowed = x.allowed; asked = x.asked; rest = refl }))
     remoded_by (Gives uid gid e x) differs =

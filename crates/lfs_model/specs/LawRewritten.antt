@@ -4,6 +4,7 @@ use Rattle.std.specs.FinMap as map
 use Rattle.lfs_types.specs.Caller.{Caller}
 use Rattle.lfs_types.specs.Tree.{Row, World, root, attrs_of}
 use Rattle.lfs_types.specs.declared.attrs.Kind.TheVariants.{File as Regular}
+use Rattle.lfs_types.specs.declared.request.Place.TheVariants.{End}
 use Rattle.lfs_types.specs.declared.request.Request.{Request}
 use Rattle.lfs_types.specs.declared.request.Request.TheVariants.{Write, SetLength}
 use Rattle.lfs_rules.specs.Locks.{is_append_only}
@@ -27,6 +28,11 @@ abbrev pub brought : Request → List ℕ
 brought (Write path place bytes) = bytes
 brought request = []
 
+-- the call is to put bytes at the end
+abbrev pub Appends : Request → Type 0
+Appends (Write path End bytes) = Unit {0}
+Appends request = ⊥
+
 -- how many bytes a file of this size has after the call
 abbrev pub new_size : Request → ℕ → ℕ
 new_size (Write path place bytes) size = max size (start_of place size + length bytes)
@@ -34,8 +40,8 @@ new_size (SetLength path len) size = len
 new_size request size = size
 
 -- A caller may give a file these bytes by this call: they are as many as the call says, and no more than fit a file, if
--- the old ones did; each is the one that the call brings there, else the old one, else 0. An append-only file has its old
--- bytes, followed by just those that the call brings.
+-- the old ones did; each is the one that the call brings there, else the old one, else 0. An append-only file is
+-- written at its end, and has its old bytes, followed by just those that the call brings.
 pub record MayRewrite (w : World) (caller : Caller) (request : Request) (n : ℕ) (r : Row) (bytes : List ℕ) : Type 0 where
   pub regular : r.file.kind ≡ Regular
   pub writes : MayWrite w.rows caller n
@@ -44,7 +50,7 @@ pub record MayRewrite (w : World) (caller : Caller) (request : Request) (n : ℕ
   pub brings : (i value : ℕ) → Brings request (length r.file.bytes) i value → get_or bytes i 0 ≡ value
   pub keeps : (i : ℕ) → ((value : ℕ) → Brings request (length r.file.bytes) i value → ⊥) → i < length bytes
       → get_or bytes i 0 ≡ get_or r.file.bytes i 0
-  pub appends : is_append_only (attrs_of r.file) ≡ true → bytes ≡ r.file.bytes ++ brought request
+  pub appends : is_append_only (attrs_of r.file) ≡ true → Appends request × (bytes ≡ r.file.bytes ++ brought request)
   pub asked : Rewrites w n request
 
 -- a file that has other bytes was written by whoever may

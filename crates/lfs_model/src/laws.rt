@@ -47,15 +47,15 @@ pub fn moved()
 
 /// The bytes of a file change only by a Write or a SetLength at its path, of a caller who may write it. They are then as
 /// many as the call says, and no more than a file may have, if it didn't have more before; each is the one that the call
-/// brings there, else the old one, else 0. What is append-only keeps its bytes, followed by just those that the call
-/// brings.
+/// brings there, else the old one, else 0. An append-only file changes only by a Write to its end, and keeps its bytes,
+/// followed by just those that the call brings.
 pub fn rewritten()
     ensures { EachCall Rewritten }
 {}
 
 /// A mode changes only by a Chmod at the row's path, of its owner or user 0 who reaches it, where no flag fixes it; or it
 /// loses just its set-id bits by a call of another than user 0 at the row's path: a Chown of whoever owns the row so, or
-/// a Write or a SetLength of whoever may write the file.
+/// a Write or a SetLength of whoever may write the file; of an append-only file only a Write to its end.
 pub fn remoded()
     ensures { EachCall Remoded }
 {}
