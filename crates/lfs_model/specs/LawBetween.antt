@@ -14,8 +14,8 @@ use Rattle.lfs_model.specs.LawMoved.{HangsStill, MayMove}
 use Rattle.lfs_model.specs.LawRewritten.{MayRewrite}
 use Rattle.lfs_model.specs.Steps.{IsLegal, after_event, world_after}
 
--- what a call made of a row that was there: it is gone, by a caller who might remove it; or it differs, by one who might
--- change it so
+-- what a call made of a row that was there: it is gone, by a caller who might remove it; or it differs, by one who
+-- might change it so
 abbrev pub IsTurn : (Row → Row → Type 0) → (World → Caller → Request → Row → Row → Type 0)
     → World → Caller → Request → World → ℕ → Row → Type 0
 IsTurn Differs MayChange w caller request after n row =

@@ -1,5 +1,5 @@
--- A denial tells only of a row on the call's path that the caller may ask for: every row before it is a directory that he
--- may search.
+-- A denial tells only of a row on the call's path that the caller may ask for: every row before it is a directory that
+-- he may search.
 use Rattle.std.specs.Prelude.{◌≡◌, ℕ, true, false, List, [], ◌∷◌, ◌++◌, length, slice_get, Option, None, Some, IsSome, IsSomeAnd}
 use Rattle.std.specs.FinMap as map
 use Rattle.lfs_types.specs.Caller.{Caller}
@@ -35,8 +35,8 @@ abbrev pub MayPass : Rows → Caller → Option ℕ → List (List ℕ) → Type
 MayPass rows caller o [] = Unit {0}
 MayPass rows caller o (name ∷ names) = MayEnter rows caller o × MayPass rows caller (child_of rows o name) names
 
--- what a denial by a rule says of the row at its component: that it is no directory, that it is a directory that doesn't
--- grant search, that it isn't there; or, by any other rule, no more than that it is there
+-- what a denial by a rule says of the row at its component: that it is no directory, that it is a directory that
+-- doesn't grant search, that it isn't there; or, by any other rule, no more than that it is there
 abbrev pub Says : Rows → Caller → Rule → Option ℕ → Type 0
 Says rows caller NameThere None = Unit {0}
 Says rows caller rule None = ⊥

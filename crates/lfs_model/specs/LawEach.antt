@@ -44,8 +44,9 @@ pub record MeetsLaws (numbers : ℕ) (w : World) (caller : Caller) (request : Re
   pub one_thing : OneThing numbers w caller request answer after
   pub shown : Shown numbers w caller request answer after
 
--- An entry stands lawfully between two worlds: it may happen in the first, both are sound trees, a user's call meets the
--- laws, and a cleaner's call changes nothing. What is said of each tree, of decide and its denials, holds there too.
+-- An entry stands lawfully between two worlds: it may happen in the first, both are sound trees, a user's call meets
+-- the laws, and a cleaner's call changes nothing. What is said of each tree, of decide and its denials, holds there
+-- too.
 pub record IsLawful (numbers segments : ℕ) (w : World) (entry : Entry) (after : World) : Type 0 where
   pub may : IsEvent numbers segments w entry.cred entry.event
   pub before : IsSound w.rows

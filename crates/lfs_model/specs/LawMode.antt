@@ -24,8 +24,8 @@ pub record IsChmod (w : World) (caller : Caller) (request : Request) (n : ℕ) (
   pub asked : SetsMode w n s.file.mode request
   pub rest : s ≡ record r { file = record r.file { mode = s.file.mode } }
 
--- the set-id bits are lost by a caller other than the superuser, who gives the row away, or writes the file, at its end if
--- it is append-only
+-- the set-id bits are lost by a caller other than the superuser, who gives the row away, or writes the file, at its
+-- end if it is append-only
 pub record LosesSetId (w : World) (caller : Caller) (request : Request) (n : ℕ) (r s : Row) : Type 0 where
   pub cleared : s.file.mode ≡ set_id_cleared r.file.mode
   pub ordinary : caller.uid ≢ 0

@@ -20,8 +20,10 @@ pub record HangsStill (old new : Row) : Type 0 where
   pub parents : new.parent ≡ old.parent
   pub names : new.name ≡ old.name
 
--- a caller may move a row to this parent and this name by this call; a directory that gets another parent grants him write
-pub record MayMove (w : World) (caller : Caller) (request : Request) (n : ℕ) (r : Row) (parent : ℕ) (name : List ℕ) : Type 0 where
+-- a caller may move a row to this parent and this name by this call; a directory that gets another parent grants him
+-- write
+pub record MayMove (w : World) (caller : Caller) (request : Request) (n : ℕ) (r : Row) (parent : ℕ) (name : List ℕ)
+    : Type 0 where
   pub taken : MayTakeAway w.rows caller n r.parent
   pub placed : MayPlace w.rows caller parent name
   pub directory : r.file.kind ≡ Directory → parent ≢ r.parent → row_grants caller bits.Write (map.get w.rows n) ≡ true

@@ -26,7 +26,8 @@ pub record IsLeastUnused (numbers : ℕ) (rows : Rows) (n : ℕ) : Type 0 where
   pub unused : map.get rows n ≡ None
   pub least : (k : ℕ) → FIRST_INODE ≤ k → k < n → IsSome (map.get rows k)
 
--- A caller may make this row by this call: he is its owner, its group is its parent's, and it has no flags and no bytes.
+-- A caller may make this row by this call: he is its owner, its group is its parent's, and it has no flags and no
+-- bytes.
 pub record MayMake (numbers : ℕ) (w : World) (caller : Caller) (request : Request) (n : ℕ) (s : Row) : Type 0 where
   pub placed : MayPlace w.rows caller s.parent s.name
   pub number : IsLeastUnused numbers w.rows n

@@ -19,7 +19,8 @@ pub record SameOwner (old new : File) : Type 0 where
   pub uid : new.uid ≡ old.uid
   pub gid : new.gid ≡ old.gid
 
--- A caller may give a row this owner and this group: he is the superuser, or keeps the owner and gives one of his groups.
+-- A caller may give a row this owner and this group: he is the superuser, or keeps the owner and gives one of his
+-- groups.
 pub record MayGive (w : World) (caller : Caller) (request : Request) (n : ℕ) (r : Row) (uid gid : ℕ) : Type 0 where
   pub allowed : MayRetitle w.rows caller n
   pub giving : (caller.uid ≡ 0) ⊎ ((uid ≡ r.file.uid) × (is_in_group caller gid ≡ true))

@@ -42,7 +42,8 @@ new_size request size = size
 -- A caller may give a file these bytes by this call: they are as many as the call says, and no more than fit a file, if
 -- the old ones did; each is the one that the call brings there, else the old one, else 0. An append-only file is
 -- written at its end, and has its old bytes, followed by just those that the call brings.
-pub record MayRewrite (w : World) (caller : Caller) (request : Request) (n : ℕ) (r : Row) (bytes : List ℕ) : Type 0 where
+pub record MayRewrite (w : World) (caller : Caller) (request : Request) (n : ℕ) (r : Row) (bytes : List ℕ)
+    : Type 0 where
   pub regular : r.file.kind ≡ Regular
   pub writes : MayWrite w.rows caller n
   pub size : length bytes ≡ new_size request (length r.file.bytes)

@@ -11,7 +11,8 @@ pub record SameBytesAndOwner (old new : File) : Type 0 where
   pub bytes : new.bytes ≡ old.bytes
   pub owner : SameOwner old new
 
--- a row that has other bytes, another owner or another group after a call of another than the superuser has no set-id bits
+-- a row that has other bytes, another owner or another group after a call of another than the superuser has no set-id
+-- bits
 abbrev pub LosesSetIds : Law
 LosesSetIds numbers w caller request answer after =
     (n : ℕ) (r s : Row) → map.get w.rows n ≡ Some r → map.get after.rows n ≡ Some s

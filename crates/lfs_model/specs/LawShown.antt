@@ -1,4 +1,5 @@
--- What a Stat, a Read or a List shows is of the row at the call's path, which the caller reaches and, but for Stat, may read.
+-- What a Stat, a Read or a List shows is of the row at the call's path, which the caller reaches and, but for Stat,
+-- may read.
 use Rattle.std.specs.Prelude.{◌≡◌, ◌↔◌, ℕ, true, List, Contains, min, Some}
 use Rattle.std.specs.Cmp.Lexicographic.{slice_cmp}
 use Rattle.std.specs.FinMap as map

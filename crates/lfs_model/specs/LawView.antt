@@ -1,4 +1,5 @@
--- Nothing else makes a difference: two trees in which a caller has the same view decide his call alike, and answer it alike.
+-- Nothing else makes a difference: two trees in which a caller has the same view decide his call alike, and answer it
+-- alike.
 use Rattle.std.specs.Prelude.{◌≡◌, ◌⊎◌, ◌↔◌, ℕ, ◌&&◌, Bool, true, false, List, [], ◌∷◌, Option, None, Some, option_map, if◌then◌else◌}
 use Rattle.std.specs.Prelude as lists
 use Rattle.std.specs.FinMap as map

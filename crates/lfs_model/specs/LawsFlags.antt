@@ -72,7 +72,8 @@ SystemImmutableStays =
     → is_above_zero w.level ≡ true
     → map.get w.rows n ≡ Some r
     → has_bit r.file.flags 0x2_0000 ≡ true
-    → IsSomeAnd (map.get (world_after numbers entries w).rows n) (λ s. DiffersInFlags r s × (has_bit s.file.flags 0x2_0000 ≡ true))
+    → IsSomeAnd (map.get (world_after numbers entries w).rows n)
+    (λ s. DiffersInFlags r s × (has_bit s.file.flags 0x2_0000 ≡ true))
 
 -- above level 0 a row with SF_APPEND keeps it and only grows, through any such calls
 abbrev pub SystemAppendOnlyGrows : Type 0
@@ -83,4 +84,5 @@ SystemAppendOnlyGrows =
     → is_above_zero w.level ≡ true
     → map.get w.rows n ≡ Some r
     → has_bit r.file.flags 0x4_0000 ≡ true
-    → IsSomeAnd (map.get (world_after numbers entries w).rows n) (λ s. Grows r s × (has_bit s.file.flags 0x4_0000 ≡ true))
+    → IsSomeAnd (map.get (world_after numbers entries w).rows n)
+    (λ s. Grows r s × (has_bit s.file.flags 0x4_0000 ≡ true))

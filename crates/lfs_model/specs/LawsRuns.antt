@@ -21,7 +21,8 @@ IsServed IsOne (Cleaner kind outcome) = ⊥
 abbrev pub NoneServed : (World → Caller → Request → Type 0) → ℕ → List Entry → World → Type 0
 NoneServed IsOne numbers [] w = Unit {0}
 NoneServed IsOne numbers (entry ∷ entries) w =
-    (IsServed (IsOne w entry.cred) entry.event → ⊥) × NoneServed IsOne numbers entries (after_event numbers w entry.cred entry.event)
+    (IsServed (IsOne w entry.cred) entry.event → ⊥)
+    × NoneServed IsOne numbers entries (after_event numbers w entry.cred entry.event)
 
 -- the entries without the cleaner's, the Syncs and those refused for a resource are legal between the same worlds
 abbrev pub UsersAlone : Type 0

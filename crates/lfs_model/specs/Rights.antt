@@ -83,8 +83,8 @@ paths (Chflags path flags) = path ∷ []
 paths (SetLevel level) = []
 paths Sync = []
 
--- what is said of a call: of how many inode numbers there are, the world before it, who called what, the answer, and the
--- world after it
+-- what is said of a call: of how many inode numbers there are, the world before it, who called what, the answer, and
+-- the world after it
 abbrev pub Law : Type 1
 Law = ℕ → World → Caller → Request → Answer → World → Type 0
 
