@@ -1,3 +1,4 @@
+mod EqualityLemmas
 pub mod Allowed
 pub mod BetweenLemmas
 pub mod BroughtLemmas

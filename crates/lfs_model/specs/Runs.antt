@@ -24,21 +24,6 @@ user_event request (Refused NoMemory) = None
 user_event request (Refused JournalFull) = None
 user_event request answer = Some (User request answer)
 
--- what the journal tells of a cleaner's answer: nothing where memory or the journal's room ran out
-abbrev pub outcome_of : CleanerAnswer → Option CleanerOutcome
-outcome_of (cleaner.Refused resource) = None
-outcome_of (cleaner.Denied denial) = Some outcomes.Denied
-outcome_of (cleaner.Fault fault) = Some (outcomes.Fault fault)
-outcome_of (cleaner.Ifile bytes) = Some (outcomes.Done (length bytes))
-outcome_of (cleaner.Infos infos) = Some (outcomes.Done (length infos))
-outcome_of (cleaner.Bmapv infos) = Some (outcomes.Done (length infos))
-outcome_of (cleaner.Marked count) = Some (outcomes.Done count)
-outcome_of cleaner.Cleaned = Some (outcomes.Done 0)
-
--- the event of a cleaner's call that was answered so
-abbrev pub cleaner_event : CleanerKind → CleanerAnswer → Option Event
-cleaner_event kind answer = option_map (Cleaner kind) (outcome_of answer)
-
 -- the entry of an event of a session, if there is one
 abbrev pub entry_of : ℕ → Caller → Option Event → List Entry
 entry_of session caller None = []
@@ -59,17 +44,6 @@ abbrev pub IsUnserved : Answer → Type 0
 IsUnserved (Served shown) = ⊥
 IsUnserved (Denied denial) = Unit {0}
 IsUnserved (Refused resource) = Unit {0}
-
--- Answers to calls made one after another on a journal: JournalFull exactly where it has its limit by then, and
--- NoMemory only at a call that may lack memory.
-abbrev pub AreAnswers : ℕ → Bool → List Entry → List Call → List Answer → Type 0
-AreAnswers limit can_lack journal [] [] = Unit {0}
-AreAnswers limit can_lack journal [] (answer ∷ answers) = ⊥
-AreAnswers limit can_lack journal (call ∷ calls) [] = ⊥
-AreAnswers limit can_lack journal (call ∷ calls) (answer ∷ answers) =
-    ((answer ≡ Refused JournalFull) ↔ (length journal ≡ limit))
-    × (answer ≡ Refused NoMemory → MayLackMemory can_lack call.request)
-    × AreAnswers limit can_lack (journal ++ kept_entry call.session call.cred call.request answer) calls answers
 
 -- ---- users alone
 

@@ -56,7 +56,7 @@ fn has_cleaner_line(plan: &Plan) -> bool {
 }
 
 /// A fresh volume over the plain store.
-fn fresh_volume(alloc: Global, params: Params) -> Result<Volume<FlatFiles>, LinesFault> {
+pub(crate) fn fresh_volume(alloc: Global, params: Params) -> Result<Volume<FlatFiles>, LinesFault> {
     let store = match FlatFiles::new(alloc, params.inodes) {
         Ok(store) => store,
         Err(fault) => return Err(LinesFault::Format(fault)),

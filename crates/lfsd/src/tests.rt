@@ -6,6 +6,7 @@ mod rules;
 mod sizes;
 mod streams;
 mod texts;
+mod volume;
 
 use crate::fault::LinesFault;
 use crate::options::DEFAULTS;

@@ -413,3 +413,22 @@ fn rename_within_a_directory_of_long_names(rt: HostRuntime) -> Result<(), Fail> 
     expected.push_str("0 ok\n")?;
     expect(&rt, alloc, script.as_str(), expected.as_str())
 }
+
+#[test]
+fn names_are_listed_in_byte_order(rt: HostRuntime) -> Result<(), Fail> {
+    let script = "\
+create /b 0644
+create /a. 0644
+create /B 0644
+create /a 0644
+list /
+";
+    let expected = "\
+0 ok
+0 ok
+0 ok
+0 ok
+0 names B a a. b
+";
+    expect(&rt, rt.alloc(), script, expected)
+}
