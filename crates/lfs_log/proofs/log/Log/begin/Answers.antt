@@ -1,0 +1,14 @@
+use Rattle.std.proofs.Common.{◌+◌, ap, subst, ◌∙◌, arith}
+use Rattle.lfs_segments.specs.Log.{Extends}
+use Rattle.lfs_segments.specs.Memory.{next_address}
+use Rattle.lfs_log.specs.Parts.{IsParts, LogParts}
+use Rattle.lfs_log.proofs.NameLemmas.{Writes-extended}
+use Rattle.lfs_log.proofs.log.Log.begin.Goals as goal
+
+pub returns-clause-step : goal.returns-clause-step
+returns-clause-step c = λ at.
+    let view = c.self.view_is in
+    Writes-extended c.args.self.now _ at (subst IsParts view c.self.invariant) (omega arith)
+    (subst (λ (p : LogParts). Extends p.memory c.begin.new.self) view c.begin.ensures.extends)
+    (ap (λ (p : LogParts). p.tables) view) (ap (λ (p : LogParts). p.clean) view)
+    (c.begin.ensures.next ∙ ap (λ (p : LogParts). next_address p.memory + 1) view)

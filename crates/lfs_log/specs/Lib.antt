@@ -1,0 +1,4 @@
+pub mod Infos
+pub mod Names
+pub mod Packing
+pub mod Parts
