@@ -1,0 +1,5 @@
+pub mod FileLemmas
+pub mod KeyLemmas
+pub mod OpeningLemmas
+pub mod ReadLemmas
+pub mod ViewLemmas
