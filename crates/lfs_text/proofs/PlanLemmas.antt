@@ -4,12 +4,12 @@ use Rattle.std.specs.List.{All, count_by}
 use Rattle.std.specs.Result.{IfErr}
 use Rattle.std.proofs.lemmas.Bool.{ne_eqb}
 use Rattle.std.proofs.lemmas.List.Splits.{slice_split_at, slice_split_none, length-slice_split}
-use Rattle.lfs_text.specs.Lines.{HasNoLineFeed, IsFirstLine}
+use Rattle.lfs_words.specs.Lines.{HasNoLineFeed, IsFirstLine}
 use Rattle.lfs_text.specs.PlanTypes.{Drafted, Planned}
 use Rattle.lfs_text.specs.Plans.{added, at_line, line_said, lines_of, plan_from, planned}
-use Rattle.lfs_text.specs.Wording.{is_bare}
-use Rattle.lfs_text.specs.declared.fault.FaultKind.{FaultKind}
-use Rattle.lfs_text.specs.declared.fault.FaultKind.TheVariants.{Cut}
+use Rattle.lfs_words.specs.Wording.{is_bare}
+use Rattle.lfs_words.specs.declared.fault.FaultKind.{FaultKind}
+use Rattle.lfs_words.specs.declared.fault.FaultKind.TheVariants.{Cut}
 use Rattle.lfs_text.specs.declared.fault.ScriptFault.{ScriptFault}
 use Rattle.lfs_text.specs.declared.plan.Line.{Line}
 

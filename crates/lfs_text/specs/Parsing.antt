@@ -2,7 +2,7 @@
 use Rattle.std.specs.Prelude.{◌≡◌, ◌≢◌, ℕ, ◌≤◌, List, Result, Ok, Err, IfErr}
 use Rattle.lfs_text.specs.PlanTypes.{Planned}
 use Rattle.lfs_text.specs.Plans.{plan_of}
-use Rattle.lfs_text.specs.declared.fault.FaultKind.TheVariants.{Memory}
+use Rattle.lfs_words.specs.declared.fault.FaultKind.TheVariants.{Memory}
 use Rattle.lfs_text.specs.declared.fault.ScriptFault.{ScriptFault}
 
 -- The plan, or the first fault. Memory may run out at a line before which there is no fault.

@@ -3,10 +3,10 @@
 ghost use Rattle.std.specs.Prelude.{◌≡◌, OnOk};
 ghost use Rattle.lfs_text.specs.Plans.{added, first_draft, planned};
 
-use crate::caller::first_caller;
 use lfs_types::cleaner::CleanerCall;
 use lfs_types::cred::Cred;
 use lfs_types::request::Request;
+use lfs_words::caller::first_caller;
 use std::alloc::{AllocError, Global};
 use std::marker::Model;
 
