@@ -1,8 +1,9 @@
 //! Lines of a script.
 
-ghost use Rattle.std.specs.Prelude.{◌≡◌, ◌≢◌, ◌^◌, ◌<◌, ◌+◌, ℕ, length, Err, map, IfOk, MatchResult};
+ghost use Rattle.std.specs.Prelude.{◌≡◌, ◌≢◌, ◌^◌, ◌<◌, ◌+◌, ◌∷◌, ℕ, List, length, true, Err, map, IfOk, MatchResult};
 ghost use Rattle.lfs_words.specs.Faults.{Reads};
-ghost use Rattle.lfs_text.specs.Parsing.{ParsesScript};
+ghost use Rattle.lfs_words.specs.Lines.{is_printable};
+ghost use Rattle.lfs_text.specs.Parsing.{BeginsReadable, ParsesScript};
 ghost use Rattle.lfs_text.specs.Plans.{line_said, lines_of, plan_from, verb_said, words_said};
 ghost use Rattle.lfs_words.specs.declared.fault.FaultKind.TheVariants.{Memory};
 
@@ -44,6 +45,9 @@ fn take_line<'a>(alloc: Global, text: &'a [u8], draft: &mut Draft) -> Result<&'a
         (λ rest. (line : ℕ) → plan_from line draft.old (lines_of text.now) ≡ plan_from (line + 1) draft.new (lines_of rest.now))
         (λ kind. kind ≢ Memory → (line : ℕ) →
         plan_from line draft.old (lines_of text.now) ≡ Err (record { line = line; kind = kind })) }
+    ensures lines { MatchResult result
+        (λ rest. (first : List ℕ) × (lines_of text.now ≡ first ∷ lines_of rest.now))
+        (λ kind. kind ≡ Memory → BeginsReadable text.now) }
 {
     match cut_line(text) {
         Some((line, rest)) => {
@@ -58,7 +62,10 @@ fn take_line<'a>(alloc: Global, text: &'a [u8], draft: &mut Draft) -> Result<&'a
 /// What a line says, which is given without its line feed.
 #[tactic(auto, unfolding(crate::specs::Plans::line_said))]
 fn parse_line(alloc: Global, line: &[u8]) -> Result<Line, FaultKind>
-    ensures { Reads (line_said line.now) result }
+    ensures said { Reads (line_said line.now) result }
+    ensures printable { MatchResult result
+        (λ _. is_printable line.now ≡ true)
+        (λ kind. kind ≡ Memory → is_printable line.now ≡ true) }
 {
     let text = text_of(line)?;
     if is_skipped(text) {
