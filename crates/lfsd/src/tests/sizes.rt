@@ -1,6 +1,6 @@
 //! Scripts at the greatest sizes, lines of sessions, and lines that the program doesn't run.
 
-use super::{expect, output, output_with};
+use super::{expect, expect_with, output};
 use crate::fault::LinesFault;
 use crate::options::DEFAULTS;
 use crate::tell::tell;
@@ -74,9 +74,7 @@ fn list_of_280_names_of_251_bytes(rt: HostRuntime) -> Result<(), Fail> {
         inodes: 512,
         ..DEFAULTS
     };
-    let written = output_with(alloc, script.as_str(), params)?;
-    assert_eq!(rt; written.as_slice(), expected.as_bytes());
-    Ok(())
+    expect_with(&rt, alloc, script.as_str(), params, expected.as_str())
 }
 
 #[test]
@@ -96,9 +94,7 @@ fn list_of_4092_names(rt: HostRuntime) -> Result<(), Fail> {
         inodes: 4096,
         ..DEFAULTS
     };
-    let written = output_with(alloc, script.as_str(), params)?;
-    assert_eq!(rt; written.as_slice(), expected.as_bytes());
-    Ok(())
+    expect_with(&rt, alloc, script.as_str(), params, expected.as_str())
 }
 
 /// Appends the `create` or the `unlink` of a name of `length` bytes that ends with this number, and its answer's line.
