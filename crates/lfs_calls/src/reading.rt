@@ -14,8 +14,9 @@ use lfs_rules::access::grants;
 use lfs_types::answer::{Resource, Served};
 use lfs_types::attrs::{Attrs, Bit};
 use lfs_types::cred::Cred;
+use lfs_types::limits::TRANSFER_BYTES;
 use lfs_types::path::Path;
-use lfs_types::payload::{Bytes, PAYLOAD_MAX};
+use lfs_types::payload::Bytes;
 use lfs_types::request::Request;
 use lfs_types::rule::{Denial, Rule};
 use lfs_types::store::FileStore;
@@ -60,7 +61,7 @@ pub fn read<F: FileStore>(
 {
     let file = find(store, cred, path)?;
     may_read(&file.attrs, cred, depth(path))?;
-    let count = (len as usize).min(PAYLOAD_MAX);
+    let count = (len as usize).min(TRANSFER_BYTES);
     match read_bytes(alloc, store, file.number, off, file.attrs.size, count) {
         Some(bytes) => Ok(Served::Bytes(Bytes::from(bytes))),
         None => Err(Halt::Refused(Resource::NoMemory)),

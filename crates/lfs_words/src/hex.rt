@@ -9,7 +9,8 @@ ghost use Rattle.std.specs.List.{list_all};
 
 use crate::fault::FaultKind;
 use lfs_types::file_flags::FileFlags;
-use lfs_types::payload::{PAYLOAD_MAX, Payload};
+use lfs_types::limits::TRANSFER_BYTES;
+use lfs_types::payload::Payload;
 use std::alloc::{AllocError, Global};
 
 /// The most digits of flags.
@@ -23,7 +24,7 @@ pub fn payload(alloc: Global, word: &str) -> Result<Payload, FaultKind>
     if is_dash(digits) {
         return Ok(payload_of(Vec::new(alloc)));
     }
-    if digits.len() > 2 * PAYLOAD_MAX {
+    if digits.len() > 2 * TRANSFER_BYTES {
         return Err(FaultKind::Range);
     }
     if !is_hex(digits) {

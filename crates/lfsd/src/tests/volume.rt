@@ -10,8 +10,7 @@ use lfs_types::path::Path;
 use lfs_types::payload::{Bytes, Payload};
 use lfs_types::request::{Place, Request};
 use lfs_types::rule::{Denial, Rule};
-use lfs_types::store::Params;
-use lfs_volume::journal::Call;
+use lfs_volume::journal::{Call, Entry, Event};
 use std::alloc::Global;
 use std::test::Fail;
 
@@ -33,57 +32,74 @@ fn write(alloc: Global, bytes: &[u8]) -> Result<Request, Fail> {
     })
 }
 
-/// The superuser makes `/a` and writes it; user 5 reads it and would write it.
-fn calls(alloc: Global) -> Result<Vec<Call>, Fail> {
-    let create = Request::Create {
+fn create(alloc: Global) -> Result<Request, Fail> {
+    Ok(Request::Create {
         path: Path::parse(alloc, "/a")?,
         mode: Mode::new(0o644).ok_or("mode")?,
-    };
-    let read = Request::Read {
+    })
+}
+
+fn read(alloc: Global) -> Result<Request, Fail> {
+    Ok(Request::Read {
         path: Path::parse(alloc, "/a")?,
         off: 0,
         len: 10,
-    };
-    Ok(vec![in alloc;
-        call(0, create)?,
-        call(0, write(alloc, b"abc")?)?,
-        call(5, read)?,
-        call(5, write(alloc, b"d")?)?,
-    ]?)
+    })
+}
+
+/// That a test of the path of the call fails at component 1.
+fn denied(rule: Rule) -> Answer {
+    Answer::Denied(Denial {
+        rule,
+        path: 0,
+        at: 1,
+    })
+}
+
+/// The superuser makes `/a` and writes it.
+fn owners_calls(alloc: Global) -> Result<Vec<Call>, Fail> {
+    Ok(vec![in alloc; call(0, create(alloc)?)?, call(0, write(alloc, b"abc")?)?]?)
+}
+
+/// User 5 reads `/a` and would write it.
+fn strangers_calls(alloc: Global) -> Result<Vec<Call>, Fail> {
+    Ok(vec![in alloc; call(5, read(alloc)?)?, call(5, write(alloc, b"d")?)?]?)
 }
 
 #[test]
 fn run_answers_each_call_and_enters_it(rt: HostRuntime) -> Result<(), Fail> {
     let alloc = rt.alloc();
-    let params = Params {
-        journal: 4,
-        ..DEFAULTS
-    };
-    let mut volume = fresh_volume(alloc, params)?;
-    let answers = volume.run(calls(alloc)?)?;
-    let denied = Answer::Denied(Denial {
-        rule: Rule::GrantsWrite,
-        path: 0,
-        at: 1,
-    });
+    let mut volume = fresh_volume(alloc, DEFAULTS)?;
+    let mut calls = owners_calls(alloc)?;
+    calls.append(&mut strangers_calls(alloc)?)?;
+    let answers = volume.run(calls)?;
     let expected = [
         Answer::Served(Served::Done),
         Answer::Served(Served::Done),
         Answer::Served(Served::Bytes(Bytes::from(Vec::from_slice(alloc, b"abc")?))),
-        denied.try_clone(alloc)?,
+        denied(Rule::GrantsWrite),
     ];
     assert_eq!(rt; answers.as_slice(), expected.as_slice());
-    let stranger = Cred::new(5, &[5], false)?;
-    let asked = write(alloc, b"d")?;
     assert_eq!(rt; volume.journal().len(), 4);
-    let last = volume.journal().last().ok_or("no entry")?;
-    assert!(rt; last.is_call(2, &stranger, &asked, &denied));
-    assert!(rt; !last.is_call(3, &stranger, &asked, &denied));
-    assert!(rt; !last.is_call(2, &Cred::new(6, &[5], false)?, &asked, &denied));
-    assert!(rt; !last.is_call(2, &stranger, &write(alloc, b"e")?, &denied));
-    assert!(rt; !last.is_call(2, &stranger, &asked, &Answer::Served(Served::Done)));
-    assert_eq!(rt; volume.journal_limit(), 4);
     assert_eq!(rt; volume.level(), Level::Insecure);
     assert_eq!(rt; volume.clean_segments(), 1024);
+    Ok(())
+}
+
+#[test]
+fn entry_tells_whether_it_is_a_call(rt: HostRuntime) -> Result<(), Fail> {
+    let alloc = rt.alloc();
+    let cred = Cred::new(5, &[5], false)?;
+    let asked = read(alloc)?;
+    let answer = denied(Rule::NameThere);
+    let entry = Entry {
+        session: 2,
+        cred,
+        event: Event::User(read(alloc)?, denied(Rule::NameThere)),
+    };
+    assert!(rt; entry.is_call(2, &cred, &asked, &answer));
+    assert!(rt; !entry.is_call(3, &cred, &asked, &answer));
+    let other = denied(Rule::GrantsRead);
+    assert!(rt; !entry.is_call(2, &cred, &asked, &other));
     Ok(())
 }
