@@ -1,5 +1,5 @@
 -- Texts grow line by line, and writers by what is collected.
-use Rattle.std.proofs.Common.{◌≡◌, ℕ, zero, suc, ◌+◌, ◌<◌, Bool, List, [], ◌∷◌, ◌++◌, length, map, take, get_or, Option, None, Some, Result, Ok, Err, OnOk, IfSome, refl, sym, ap, subst, ◌∙◌, arith, append_assoc}
+use Rattle.std.proofs.Common.{◌≡◌, ℕ, zero, suc, ◌+◌, ◌<◌, Bool, List, [], ◌∷◌, ◌++◌, length, map, take, get_or, Option, None, Some, Result, Ok, Err, OnOk, refl, sym, ap, subst, ◌∙◌, arith, append_assoc}
 use Rattle.std.proofs.lemmas.List.{append-nil, map-append}
 use Rattle.std.specs.Io.KnownBytes.{Appends, Keeps, append_known}
 use Rattle.lfs_types.specs.StoreStates.{Shape, StoreState}
@@ -11,16 +11,13 @@ use Rattle.lfs_model.specs.declared.journal.Call.{Call}
 use Rattle.lfs_model.specs.declared.journal.Entry.{Entry}
 use Rattle.lfs_model.specs.Runs.{AreAnswers, kept}
 use Rattle.lfs_model.specs.Steps.{IsLegal}
-use Rattle.lfs_flatfiles.specs.FlatFiles.{shape_of}
 use Rattle.lfs_volume.specs.Journals.{IsJournal}
 use Rattle.lfs_text.specs.AnswerText.{answer_line}
-use Rattle.lfs_text.specs.PlanTypes.{Planned}
-use Rattle.lfs_text.specs.Plans.{plan_of}
 use Rattle.lfs_text.specs.ReportText.{report_text}
 use Rattle.lfs_text.specs.declared.plan.Act.{Act}
 use Rattle.lfs_text.specs.declared.plan.Act.TheVariants.{User}
 use Rattle.lfs_text.specs.declared.plan.Step.{Step}
-use Rattle.lfsd.specs.Output.{IsOutput, IsRun, lines_text, step_of}
+use Rattle.lfsd.specs.Output.{IsRun, lines_text, step_of}
 
 lines_more : (sessions : List ℕ) (answers : List Answer) (k : ℕ) (d : Answer) → length sessions ≡ length answers → k < length answers → lines_text (take (suc k) sessions) (take (suc k) answers) ≡ lines_text (take k sessions) (take k answers) ++ answer_line (get_or sessions k 0) (get_or answers k d)
 lines_more [] [] k d same lt = absurd (omega (arith, lt))
@@ -106,9 +103,3 @@ whole_run limit after_limit old new level before after shown calls answers told 
 pub on_ok : {A E X Y : Type 0} (result : Result A E) → OnOk result X → (X → Y) → OnOk result Y
 on_ok (Ok a) x next = next x
 on_ok (Err e) x next = tt
-
--- a run of the calls of a script that was read from bytes that are known
-pub known_output : (remaining : Option (List ℕ)) (script shown : List ℕ) (inodes limit : ℕ) (start left : Option (List ℕ)) → IfSome remaining (λ bytes. script ≡ bytes) → shown ≡ script → (plan : Planned) (calls : List Call) → plan_of shown ≡ Ok plan → map step_of calls ≡ plan.steps → ((text : List ℕ) × IsRun limit (shape_of inodes) calls text × Appends start left text) → IfSome remaining (λ bytes. (text : List ℕ) × IsOutput bytes inodes limit text × Appends start left text)
-known_output None script shown inodes limit start left whole same plan calls parsed asked run = tt
-known_output (Some bytes) script shown inodes limit start left whole same plan calls parsed asked (text, run, written) =
-    (text, record { plan = plan; calls = calls; parsed = subst (λ (s : List ℕ). plan_of s ≡ Ok plan) (same ∙ whole) parsed; asked = asked; run = run }, written)
