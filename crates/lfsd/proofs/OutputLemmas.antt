@@ -9,9 +9,9 @@ use Rattle.lfs_types.specs.declared.level.Level.{Level}
 use Rattle.lfs_types.specs.declared.request.Request.{Request}
 use Rattle.lfs_model.specs.declared.journal.Call.{Call}
 use Rattle.lfs_model.specs.declared.journal.Entry.{Entry}
-use Rattle.lfs_model.specs.Runs.{AreAnswers, kept}
+use Rattle.lfs_model.specs.Runs.{kept}
 use Rattle.lfs_model.specs.Steps.{IsLegal}
-use Rattle.lfs_volume.specs.Journals.{IsJournal}
+use Rattle.lfs_volume.specs.Journals.{AreAnswers, IsJournal}
 use Rattle.lfs_text.specs.AnswerText.{answer_line}
 use Rattle.lfs_text.specs.ReportText.{report_text}
 use Rattle.lfs_text.specs.declared.plan.Act.{Act}
@@ -59,11 +59,11 @@ piece_written (Some x) None text p = p
 piece_written (Some x) (Some y) text p = append-nil y ∙ p
 
 -- there are as many answers as calls
-pub answers_count : (limit : ℕ) (can_lack : Bool) (journal : List Entry) (calls : List Call) (answers : List Answer) → AreAnswers limit can_lack journal calls answers → length answers ≡ length calls
-answers_count limit can_lack journal [] [] are = refl
-answers_count limit can_lack journal [] (a ∷ answers) are = absurd are
-answers_count limit can_lack journal (c ∷ calls) [] are = absurd are
-answers_count limit can_lack journal (c ∷ calls) (a ∷ answers) (full, lack, are) = ap suc (answers_count limit can_lack _ calls answers are)
+pub answers_count : (old : StoreState) (limit : ℕ) (journal : List Entry) (calls : List Call) (answers : List Answer) → AreAnswers old limit journal calls answers → length answers ≡ length calls
+answers_count old limit journal [] [] are = refl
+answers_count old limit journal [] (a ∷ answers) are = absurd are
+answers_count old limit journal (c ∷ calls) [] are = absurd are
+answers_count old limit journal (c ∷ calls) (a ∷ answers) (full, lack, are) = ap suc (answers_count old limit _ calls answers are)
 
 -- a step that asks for a user's call is the step of that call
 pub step_asked : (step : Step) (request : Request) → step.act ≡ User request → step_of (record { session = step.session; cred = step.cred; request = request }) ≡ step
@@ -77,10 +77,10 @@ calls_more calls steps step call so_far here =
 
 -- a run that was answered, and of which all is written
 pub whole_run : (limit after_limit : ℕ) (old new : StoreState) (level : Level) (before after shown : List Entry) (calls : List Call) (answers told : List Answer) (sessions empty text whole out : List ℕ) (start known written left : Option (List ℕ))
-    → before ≡ [] → AreAnswers limit old.shape.can_lack_memory before calls answers → after ≡ before ++ kept calls answers → IsJournal new level after after_limit → new.shape ≡ old.shape
+    → before ≡ [] → AreAnswers old limit before calls answers → after ≡ before ++ kept calls answers → IsJournal new level after after_limit → new.shape ≡ old.shape
     → sessions ≡ map (λ (call : Call). call.session) calls → told ≡ answers → shown ≡ after → empty ≡ []
     → Appends (append_known start empty) (append_known known text) (lines_text sessions told) → whole ≡ text ++ report_text shown → out ≡ whole → Appends known written out → Keeps written left
-    → (all : List ℕ) × IsRun limit old.shape calls all × Appends start left all
+    → (all : List ℕ) × IsRun limit old calls all × Appends start left all
 whole_run limit after_limit old new level before after shown calls answers told sessions empty text whole out start known written left none are entered journal shape asked same shows nothing printed grown is wrote stays =
     let from_empty : Appends (append_known start []) (append_known known text) (lines_text sessions told) = subst (λ (e : List ℕ). Appends (append_known start e) (append_known known text) (lines_text sessions told)) nothing printed in
     let of_calls : Appends (append_known start []) (append_known known text) (lines_text (map (λ (call : Call). call.session) calls) told) = subst (λ (s : List ℕ). Appends (append_known start []) (append_known known text) (lines_text s told)) asked from_empty in
@@ -92,7 +92,7 @@ whole_run limit after_limit old new level before after shown calls answers told 
       lines_text (map (λ (call : Call). call.session) calls) answers ++ report_text (kept calls answers),
       record {
         answers = answers;
-        answered = subst (λ (j : List Entry). AreAnswers limit old.shape.can_lack_memory j calls answers) none are;
+        answered = subst (λ (j : List Entry). AreAnswers old limit j calls answers) none are;
         legal = subst (λ (j : List Entry). IsLegal old.shape.numbers old.shape.segments j opening_world) entries shaped;
         printed = refl;
       },

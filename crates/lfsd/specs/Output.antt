@@ -1,12 +1,13 @@
 -- What a run of a script prints.
 use Rattle.std.specs.Prelude.{◌≡◌, ℕ, List, [], ◌∷◌, ◌++◌, map, Ok}
-use Rattle.lfs_types.specs.StoreStates.{Shape}
+use Rattle.lfs_types.specs.StoreStates.{StoreState}
 use Rattle.lfs_types.specs.Tree.{opening_world}
 use Rattle.lfs_types.specs.declared.answer.Answer.{Answer}
 use Rattle.lfs_model.specs.declared.journal.Call.{Call}
-use Rattle.lfs_model.specs.Runs.{AreAnswers, kept}
+use Rattle.lfs_model.specs.Runs.{kept}
 use Rattle.lfs_model.specs.Steps.{IsLegal}
-use Rattle.lfs_flatfiles.specs.FlatFiles.{shape_of}
+use Rattle.lfs_volume.specs.Journals.{AreAnswers}
+use Rattle.lfs_flatfiles.specs.FlatFiles.{opening_state}
 use Rattle.lfs_text.specs.AnswerText.{answer_line}
 use Rattle.lfs_text.specs.PlanTypes.{Planned}
 use Rattle.lfs_text.specs.Plans.{plan_of}
@@ -24,12 +25,12 @@ lines_text [] answers = []
 lines_text (session ∷ sessions) [] = []
 lines_text (session ∷ sessions) (answer ∷ answers) = answer_line session answer ++ lines_text sessions answers
 
--- A text is that of a run of calls on a fresh volume of this shape, whose journal may have so many entries: the line of
--- each call's answer, then the report of the journal that they leave, which is legal from the opening tree.
-pub record IsRun (limit : ℕ) (shape : Shape) (calls : List Call) (text : List ℕ) : Type 0 where
+-- A text is that of a run of calls on a volume over a fresh store in this state, whose journal may have so many entries:
+-- the line of each call's answer, then the report of the journal that they leave, which is legal from the opening tree.
+pub record IsRun (limit : ℕ) (store : StoreState) (calls : List Call) (text : List ℕ) : Type 0 where
   pub answers : List Answer
-  pub answered : AreAnswers limit shape.can_lack_memory [] calls answers
-  pub legal : IsLegal shape.numbers shape.segments (kept calls answers) opening_world
+  pub answered : AreAnswers store limit [] calls answers
+  pub legal : IsLegal store.shape.numbers store.shape.segments (kept calls answers) opening_world
   pub printed : text ≡ lines_text (map (λ call. call.session) calls) answers ++ report_text (kept calls answers)
 
 -- a text is that of a run of the calls that a script asks for, in the order of its lines, each of them a user's
@@ -38,4 +39,4 @@ pub record IsOutput (script : List ℕ) (inodes limit : ℕ) (text : List ℕ) :
   pub calls : List Call
   pub parsed : plan_of script ≡ Ok plan
   pub asked : map step_of calls ≡ plan.steps
-  pub run : IsRun limit (shape_of inodes) calls text
+  pub run : IsRun limit (opening_state inodes) calls text

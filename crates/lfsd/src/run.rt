@@ -2,7 +2,7 @@
 
 ghost use Rattle.std.specs.Prelude.{◌≡◌, ◌<◌, ◌^◌, ℕ, List, [], Ok, length, map, IfOk, IfSome, OnOk};
 ghost use Rattle.std.specs.Io.KnownBytes.{Appends};
-ghost use Rattle.lfs_flatfiles.specs.FlatFiles.{shape_of};
+ghost use Rattle.lfs_flatfiles.specs.FlatFiles.{opening_state};
 ghost use Rattle.lfs_text.specs.PlanTypes.{Planned};
 ghost use Rattle.lfs_text.specs.Plans.{plan_of};
 ghost use Rattle.lfsd.specs.Output.{IsOutput, IsRun, step_of};
@@ -78,7 +78,7 @@ fn run_calls<F: FileStore + Drop, W: Write>(
 ) -> Result<(), LinesFault>
     requires { volume.old.journal ≡ [] }
     ensures { OnOk result ((text : List ℕ)
-        × IsRun volume.old.limit (F.state volume.old.store).shape calls.items text
+        × IsRun volume.old.limit (F.state volume.old.store) calls.items text
         × Appends (W.contents writer.old) (W.contents writer.new) text) }
 {
     let sessions = sessions_of(alloc, calls.as_slice())?;
@@ -106,7 +106,7 @@ fn sessions_of(alloc: Global, calls: &[Call]) -> Result<Vec<u8>, AllocError>
 /// A fresh volume over the plain store.
 pub(crate) fn fresh_volume(alloc: Global, params: Params) -> Result<Volume<FlatFiles>, LinesFault>
     ensures { IfOk result (λ volume. (volume.journal ≡ []) × (volume.limit ≡ params.journal)
-        × ((⟦<FlatFiles as FileStore>⟧.state volume.store).shape ≡ shape_of params.inodes)) }
+        × (⟦<FlatFiles as FileStore>⟧.state volume.store ≡ opening_state params.inodes)) }
 {
     let store = match FlatFiles::new(alloc, params.inodes) {
         Ok(store) => store,
