@@ -3,7 +3,7 @@
 ghost use Rattle.std.specs.Prelude.{◌≡◌, ◌<◌, ◌≤◌, [], ◌∷◌, IsSome, length};
 ghost use Rattle.std.specs.FinMap.{get};
 ghost use Rattle.lfs_types.specs.Tree.{root};
-ghost use Rattle.lfs_model.specs.Rules.{asks, judged};
+ghost use Rattle.lfs_model.specs.Rules.{asks, front, judged, last};
 ghost use Rattle.lfs_model.specs.Walks.{stepped, walked};
 ghost use Rattle.lfs_calls.specs.Reaches.{Reaches};
 ghost use Rattle.lfs_calls.specs.Volumes.{HasWorld, InWorld};
@@ -130,6 +130,22 @@ pub(crate) fn component(names: &[Name]) -> u32
     ensures { result ≡ length names.now }
 {
     names.len() as u32
+}
+
+/// The names before the last of some.
+pub(crate) fn parents_of(names: &[Name]) -> &[Name]
+    requires { 0 < length names.now }
+    ensures names { result.now ≡ front names.now }
+{
+    &names[..names.len() - 1]
+}
+
+/// The last of some names.
+pub(crate) fn last_name(names: &[Name]) -> &Name
+    requires { 0 < length names.now }
+    ensures name { result.now ≡ last names.now }
+{
+    &names[names.len() - 1]
 }
 
 /// A rule that fails at a component of the path of this index.
