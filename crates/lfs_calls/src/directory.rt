@@ -30,7 +30,8 @@ pub(crate) fn look_up<F: FileStore>(store: &mut F, dir: u32, size: u64, name: &N
     requires used { IsSome (get (F.state store.old).content dir) }
     requires size { size ≡ length (bytes_of (F.state store.old).content dir) }
     requires whole { size % 512 ≡ 0 }
-    ensures found { result ≡ number_in name.now (listed (bytes_of (F.state store.old).content dir)) }
+    ensures found { result ≡ number_in name.now (listed
+        (bytes_of (F.state store.old).content dir)) }
     ensures state { F.state store.new ≡ F.state store.old }
 {
     let block_size = BLOCK_SIZE as u64;
@@ -47,7 +48,8 @@ pub(crate) fn look_up<F: FileStore>(store: &mut F, dir: u32, size: u64, name: &N
 pub(crate) fn child_of<F: FileStore>(store: &mut F, dir: &Reached, name: &Name) -> Option<u32>
     requires world { HasWorld (F.state store.old) }
     requires shown { Some dir.now.attrs ≡ shown_attrs (F.state store.old).content dir.now.number }
-    ensures child { InWorld (F.state store.old) (λ w. result ≡ child w.rows dir.now.number name.now) }
+    ensures child { InWorld (F.state store.old)
+        (λ w. result ≡ child w.rows dir.now.number name.now) }
     ensures state { F.state store.new ≡ F.state store.old }
 {
     if dir.attrs.kind.is_directory() {

@@ -92,10 +92,12 @@ pub(crate) fn find_room<F: FileStore>(
     requires size { size ≡ length (bytes_of (F.state store.old).content dir) }
     requires whole { size % 512 ≡ 0 }
     requires bounded { size ≤ 71680 }
-    requires taken { IfSome taken (λ room. StandsIn (bytes_of (F.state store.old).content dir) room.now) }
+    requires taken { IfSome taken
+        (λ room. StandsIn (bytes_of (F.state store.old).content dir) room.now) }
     requires blocks { AreBlocks (with_block (bytes_of (F.state store.old).content dir) taken) }
     requires above { 0 < number }
-    requires free { number_in name.now (listed (with_block (bytes_of (F.state store.old).content dir) taken))
+    requires free { number_in name.now (listed (with_block
+        (bytes_of (F.state store.old).content dir) taken))
         ≡ None }
     ensures room { MatchOption result
         (FitsNowhere (with_block (bytes_of (F.state store.old).content dir) taken.entry)
@@ -125,7 +127,8 @@ fn seen_block<F: FileStore>(store: &mut F, dir: u32, off: u64, taken: Option<&Ro
     requires used { IsSome (get (F.state store.old).content dir) }
     requires aligned { off % 512 ≡ 0 }
     requires within { off + 512 ≤ length (bytes_of (F.state store.old).content dir) }
-    requires taken { IfSome taken (λ room. StandsIn (bytes_of (F.state store.old).content dir) room.now) }
+    requires taken { IfSome taken
+        (λ room. StandsIn (bytes_of (F.state store.old).content dir) room.now) }
     ensures block { result ≡ take 512
         (drop off (with_block (bytes_of (F.state store.old).content dir) taken.entry)) }
     ensures state { F.state store.new ≡ F.state store.old }
@@ -204,7 +207,8 @@ pub fn mkdir<F: FileStore>(
     mode: Mode,
 ) -> Result<Served, Halt>
     requires { HasWorld (F.state store.old) }
-    ensures { IsCall (F.state store.old) (F.state store.new) cred.now (Request.Mkdir path.now mode) result }
+    ensures { IsCall (F.state store.old) (F.state store.new) cred.now (Request.Mkdir path.now mode)
+        result }
 {
     make(store, cred, path, Kind::Directory, mode)
 }

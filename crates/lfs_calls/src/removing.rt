@@ -85,7 +85,8 @@ pub(crate) fn take_name<F: FileStore>(store: &mut F, dir: u32, size: u64, name: 
     requires whole { size % 512 ≡ 0 }
     requires bounded { size ≤ 71680 }
     requires blocks { AreBlocks (bytes_of (F.state store.old).content dir) }
-    requires listed { IsSome (number_in name.now (listed (bytes_of (F.state store.old).content dir))) }
+    requires listed { IsSome (number_in name.now (listed
+        (bytes_of (F.state store.old).content dir))) }
     ensures room { (k : ℕ) × IsTaking (bytes_of (F.state store.old).content dir) name.now result k }
     ensures state { F.state store.new ≡ F.state store.old }
 {
@@ -126,7 +127,8 @@ fn take_row<F: FileStore>(store: &mut F, removal: &Removal, name: &Name) -> Resu
 /// Removes a file.
 pub fn unlink<F: FileStore>(store: &mut F, cred: &Cred, path: &Path) -> Result<Served, Halt>
     requires { HasWorld (F.state store.old) }
-    ensures { IsCall (F.state store.old) (F.state store.new) cred.now (Request.Unlink path.now) result }
+    ensures { IsCall (F.state store.old) (F.state store.new) cred.now (Request.Unlink path.now)
+        result }
 {
     let names = path.names();
     let removal = judge_unlink(store, cred, names)?;
@@ -158,7 +160,8 @@ fn may_unlink(file: &Attrs, at: u32) -> Result<(), Denial>
 /// Removes an empty directory.
 pub fn rmdir<F: FileStore>(store: &mut F, cred: &Cred, path: &Path) -> Result<Served, Halt>
     requires { HasWorld (F.state store.old) }
-    ensures { IsCall (F.state store.old) (F.state store.new) cred.now (Request.Rmdir path.now) result }
+    ensures { IsCall (F.state store.old) (F.state store.new) cred.now (Request.Rmdir path.now)
+        result }
 {
     let names = path.names();
     let removal = judge_rmdir(store, cred, names)?;

@@ -110,7 +110,8 @@ fn judge_way<F: FileStore>(
     requires short { length names.now ≤ 1024 }
     requires leads { InWorld (F.state store.old)
         (λ w. (n : ℕ) × (walked w.rows cred.now 1 0 root names.now ≡ Ok n)) }
-    ensures apart { OnOk result (InWorld (F.state store.old) (λ w. is_on_way w.rows names.now number ≡ false)) }
+    ensures apart { OnOk result (InWorld (F.state store.old)
+        (λ w. is_on_way w.rows names.now number ≡ false)) }
     ensures beneath { IfErr result (λ denial. InWorld (F.state store.old) (λ w.
         (is_on_way w.rows names.now number ≡ true)
         × (denial ≡ record {
@@ -172,7 +173,8 @@ fn put_blocks<F: FileStore>(
     room: &Room,
 ) -> Result<(), StoreRefusal>
     requires old { IsBlockOf (F.state store.old).content old_dir taken.now }
-    requires old_within { taken.now.off + 512 ≤ length (bytes_of (F.state store.old).content old_dir) }
+    requires old_within { taken.now.off + 512 ≤ length
+        (bytes_of (F.state store.old).content old_dir) }
     requires new { IsBlockOf (F.state store.old).content dir room.now }
     ensures { ChangesTo (F.state store.old)
         (λ after. WritesBlocks (F.state store.old).content after old_dir taken.now dir room.now)
@@ -202,7 +204,8 @@ pub fn rename<F: FileStore>(
     to: &Path,
 ) -> Result<Served, Halt>
     requires { HasWorld (F.state store.old) }
-    ensures { IsCall (F.state store.old) (F.state store.new) cred.now (Request.Rename from.now to.now)
+    ensures { IsCall (F.state store.old) (F.state store.new) cred.now
+        (Request.Rename from.now to.now)
         result }
 {
     let (from, to) = (from.names(), to.names());

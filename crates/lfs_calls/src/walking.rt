@@ -43,7 +43,8 @@ pub(crate) fn step<F: FileStore>(
     requires world { HasWorld (F.state store.old) }
     requires used { IsSome (get (F.state store.old).content dir) }
     requires short { at < 1024 }
-    ensures step { InWorld (F.state store.old) (λ w. result ≡ stepped w.rows cred.now path at dir name.now) }
+    ensures step { InWorld (F.state store.old)
+        (λ w. result ≡ stepped w.rows cred.now path at dir name.now) }
     ensures state { F.state store.new ≡ F.state store.old }
 {
     let Some(attrs) = store.attrs(dir) else {
@@ -68,7 +69,8 @@ pub(crate) fn walk<F: FileStore>(
 ) -> Result<u32, Denial>
     requires world { HasWorld (F.state store.old) }
     requires short { length names.now ≤ 1024 }
-    ensures walk { InWorld (F.state store.old) (λ w. result ≡ walked w.rows cred.now path 0 root names.now) }
+    ensures walk { InWorld (F.state store.old)
+        (λ w. result ≡ walked w.rows cred.now path 0 root names.now) }
     ensures state { F.state store.new ≡ F.state store.old }
 {
     let mut dir = ROOT;

@@ -19,7 +19,7 @@ use Rattle.lfs_model.specs.Steps.{AllUsed}
 use Rattle.lfs_calls.proofs.CreateLemmas.{dir_free, room_ready, crowded_in, not_all_used, roomy, shows_after, tree_after}
 use Rattle.lfs_calls.proofs.Directories.{size_whole, size_bounded, bytes_listing}
 use Rattle.lfs_calls.proofs.MakeLemmas.{all_used}
-use Rattle.lfs_calls.proofs.MakeOutcomes.{make_denial, make_after, make_no_inodes, make_full, make_done, make_refused}
+use Rattle.lfs_calls.proofs.MakeOutcomes.{make_changing, make_looks, make_denial, make_after, make_no_inodes, make_full, make_done, make_refused}
 use Rattle.lfs_calls.proofs.making.make.Goals as goal
 use Rattle.lfs_calls.proofs.making.make.Goals.{In-Some}
 
@@ -126,7 +126,7 @@ returns-in_default-find_room g c level = lacking level (c.find_room.ensures.stat
 pub returns-in_err-put_new : goal.returns-in_err-put_new
 returns-in_err-put_new g c level =
     let p = err_from_is_err_and c.from_residual-in_err-put_new.result c.from_residual-in_err-put_new.ensures.1 in
-    rw (p.1, p.2) (refused_so level (c.find_room.ensures.state ∙ c.judge_make.ensures.state) c.in_err-put_new.field-0.0 (λ w v at_level.
+    rw (p.1, p.2) (refused_so level (c.find_room.ensures.state ∙ c.judge_make.ensures.state) c.in_err-put_new.field-0.0 (make_changing c.args.path.now c.args.mode c.args.kind) (λ w v at_level.
     let k = (goal.at.returns-in_err-put_new g c).In-Some in
     let is = parent g k w v in
     let found = c.in-Some-find_room.ensures.room in
@@ -135,7 +135,7 @@ returns-in_err-put_new g c level =
     (subst (λ s. MayRefuse s.clean s.shape.can_lack_memory c.in_err-put_new.field-0.0) (c.find_room.ensures.state ∙ c.judge_make.ensures.state) c.in_err-put_new.ensures.refused)) c.in_err-put_new.ensures)
 
 pub returns : goal.returns
-returns g c level = done_so level (c.find_room.ensures.state ∙ c.judge_make.ensures.state)
+returns g c level = done_so level (c.find_room.ensures.state ∙ c.judge_make.ensures.state) (make_looks _ _ c.args.path.now c.args.mode c.args.kind)
     (λ w v at_level.
     let k = (goal.at.returns g c).In-Some in
     let is = parent g k w v in

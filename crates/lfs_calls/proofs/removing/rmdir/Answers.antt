@@ -49,7 +49,7 @@ returns g c level =
     let new = g.F.FileStore.state c.take_row.new.store in
     let names = c.names-names.result.now in
     subst (λ path. IsCallAt level old new c.args.cred.now (Rmdir path) (Ok Done)) c.names-names.ensures.value
-    (done level c.judge_rmdir.ensures.state
+    (done level c.judge_rmdir.ensures.state tt
     (λ w v at. record { allowed = (c.in_ok-removal.ensures.judge w v).0; numbered = λ h. h; roomy = λ h. h })
     (λ w. refl)
     (row_taken new names c.in_ok-removal.removal c.judge_rmdir.ensures.state (λ w v. (c.in_ok-removal.ensures.judge w v).1)

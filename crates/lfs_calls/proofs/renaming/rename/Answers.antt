@@ -111,7 +111,7 @@ returns-in_default g c level = lacking level (c.find_places.ensures.state ∙ c.
 pub returns-in_err-put_blocks : goal.returns-in_err-put_blocks
 returns-in_err-put_blocks g c level =
     let p = err_from_is_err_and c.from_residual-in_err-put_blocks.result c.from_residual-in_err-put_blocks.ensures.1 in
-    rw (p.1, p.2) (refused_so level (c.find_places.ensures.state ∙ c.judge_rename.ensures.state) c.in_err-put_blocks.field-0.0 (λ w v at_level.
+    rw (p.1, p.2) (refused_so level (c.find_places.ensures.state ∙ c.judge_rename.ensures.state) c.in_err-put_blocks.field-0.0 tt (λ w v at_level.
     let k = (goal.at.returns-in_err-put_blocks g c).After-last_name-new in
     let is = move g k w v in
     refused_outcome (g.F.FileStore.state c.args.store.now) w c.args.cred.now (Rename c.args.from.now c.args.to.now) c.in_err-put_blocks.field-0.0
@@ -119,7 +119,7 @@ returns-in_err-put_blocks g c level =
     (judged_so g k w v).0 (λ none. none) tt (not_full v.shows v.tree c.args.cred.now is (places_are g k _ c.in-Some.ensures.places))) c.in_err-put_blocks.ensures)
 
 pub returns : goal.returns
-returns g c level = done_so level (c.find_places.ensures.state ∙ c.judge_rename.ensures.state)
+returns g c level = done_so level (c.find_places.ensures.state ∙ c.judge_rename.ensures.state) tt
     (λ w v at_level.
     let k = (goal.at.returns g c).After-last_name-new in
     let is = move g k w v in
