@@ -35,7 +35,7 @@ use Rattle.lfs_calls.proofs.StepLemmas.{ShownFile, attrs_reads, child_listed}
 use Rattle.lfs_calls.proofs.Visible.{Stored, shown_of, unused_of}
 
 -- a directory in which a new name may be put
-module _ {c : Content} {w : World} (shows : Shows c w) {caller : Caller} {index : ℕ} {path : List (List ℕ)} {dir : Reached} (is : IsParent c w.rows caller index path dir) where
+module _ {c : Content} {w : World} (shows : Shows c w) {path : List (List ℕ)} {dir : Reached} (is : IsParent c w.rows path dir) where
   abbrev f : ShownFile c dir.number dir.attrs
   f = dir_file shows dir.number dir.attrs is.shown is.directory
 
@@ -53,7 +53,7 @@ module _ {c : Content} {w : World} (shows : Shows c w) {caller : Caller} {index 
   dir_free = child_listed c w shows dir.number dir.attrs is.shown is.directory (last path) ∙ is.free
 
   -- a new row of an unused number
-  module _ (tree : IsTree w.rows) (numbers number : ℕ) (least : IsLeastFree numbers c (Some number)) (kind : Kind) (mode : ℕ) where
+  module _ (caller : Caller) (tree : IsTree w.rows) (numbers number : ℕ) (least : IsLeastFree numbers c (Some number)) (kind : Kind) (mode : ℕ) where
     absent : map.get w.rows number ≡ None
     absent = unused_of c w shows number least.2
 

@@ -1,5 +1,5 @@
 -- What a call that takes away a name may be answered.
-use Rattle.std.proofs.Common.{◌≡◌, ℕ, ◌+◌, ◌<◌, List, [], ◌∷◌, ◌++◌, length, Option, None, Some, Result, Ok, Err, refl, sym, ap, ◌∙◌, arith}
+use Rattle.std.proofs.Common.{◌≡◌, ℕ, ◌+◌, ◌<◌, List, [], ◌∷◌, ◌++◌, length, Option, Some, Result, Ok, Err, refl, sym, ap, ◌∙◌, arith}
 use Rattle.std.specs.Prelude.{not, unwrap_or}
 use Rattle.std.proofs.lemmas.Bool.{cond-true, ne_eqb}
 use Rattle.lfs_types.specs.Caller.{Caller}
@@ -91,10 +91,9 @@ module _ {c : Content} {w : World} {caller : Caller} {names parents : List (List
           ∙ ap (λ x. first_failing (removing_tests caller x (attrs_at w.rows n) at)) (attrs_reads c w way.shows d a way.shown)
           ∙ ap (λ x. first_failing (removing_tests caller a x at)) (attrs_reads c w way.shows n b shown)
 
-      -- where none of them fails, the name may be taken away
-      pub removal_is : None ≡ first_failing (removing_tests caller a b at) → IsRemoval c w.rows caller names (record { dir = record { number = d; attrs = a }; file = record { number = n; attrs = b } })
-      removal_is none = record {
-        allowed = remove_decided ∙ sym none;
+      -- the row and its directory
+      pub removal_is : IsRemoval c w.rows names (record { dir = record { number = d; attrs = a }; file = record { number = n; attrs = b } })
+      removal_is = record {
         some = omega (arith, way.count);
         object = make_object way;
         row = row_is;

@@ -10,7 +10,7 @@ use Rattle.lfs_types.specs.declared.request.Request.TheVariants.{Rename}
 use Rattle.lfs_calls.specs.declared.renaming.Move.{Move}
 use Rattle.lfs_calls.specs.declared.renaming.Places.{Places}
 use Rattle.lfs_model.specs.World.{ancestor, children, IsTree}
-use Rattle.lfs_model.specs.Rules.{front, last, reached}
+use Rattle.lfs_model.specs.Rules.{decide, front, last, making, reached, removing}
 use Rattle.lfs_model.specs.Effects.{with_place, effect}
 use Rattle.lfs_calls.specs.Content.{Shows, FitsNowhere}
 use Rattle.lfs_calls.specs.Makes.{IsRoom}
@@ -18,6 +18,7 @@ use Rattle.lfs_calls.specs.Outcomes.{FillsDirectory, taken_from}
 use Rattle.lfs_model.specs.Walks.{is_on_way}
 use Rattle.lfs_calls.specs.Renames.{IsMove, GoesTo, ArePlaces, IsBlockOf, WritesBlocks, name_left}
 use Rattle.lfs_model.proofs.Allowed.{may_make}
+use Rattle.lfs_model.proofs.Deciding.{passes-append}
 use Rattle.lfs_calls.proofs.Crowded.{crowded}
 use Rattle.lfs_calls.proofs.Directories.{dir_file, file_kind, file_bytes, file_length, bytes_listing}
 use Rattle.lfs_model.proofs.Moved.{IsTree-moved}
@@ -28,7 +29,7 @@ use Rattle.lfs_calls.proofs.RenameLemmas.{not_beneath}
 use Rattle.lfs_types.proofs.Somewhere.{is_some_and}
 use Rattle.lfs_calls.proofs.Visible.{shown_of}
 
-module _ {c : Content} {w : World} (shows : Shows c w) (tree : IsTree w.rows) {caller : Caller} {from to : List (List ℕ)} {move : Move} (is : IsMove c w caller from to move) where
+module _ {c : Content} {w : World} (shows : Shows c w) (tree : IsTree w.rows) (caller : Caller) {from to : List (List ℕ)} {move : Move} (is : IsMove c w.rows from to move) where
   abbrev p : ℕ
   p = move.removal.dir.number
 
@@ -68,10 +69,12 @@ module _ {c : Content} {w : World} (shows : Shows c w) (tree : IsTree w.rows) {c
   row = (hung shows tree goes).row
 
   -- the row is no ancestor of its new parent
-  apart : (k : ℕ) → ancestor w.rows k q ≢ n
-  apart =
-      let may = may_make w.rows tree caller 1 to is.parent.allowed in
-      let none = subst (λ m. is_on_way w.rows (front to) m ≡ false) is.removal.row (not_beneath w caller from to is.allowed is.removal.allowed is.parent.allowed) in
+  apart : decide w caller (Rename from to) ≡ None → (k : ℕ) → ancestor w.rows k q ≢ n
+  apart allowed =
+      let one = passes-append (removing w.rows caller from) _ allowed in
+      let two = passes-append (making w.rows caller 1 to) _ one.1 in
+      let may = may_make w.rows tree caller 1 to two.0 in
+      let none = subst (λ m. is_on_way w.rows (front to) m ≡ false) is.removal.row (not_beneath w caller from to allowed) in
       subst (λ m. (k : ℕ) → ancestor w.rows k m ≢ n) is.parent.object
       (no_ancestor w.rows tree caller 1 n (reached w.rows root (front to)) (front to) may.way (hung shows tree goes).below none)
 
@@ -82,13 +85,13 @@ module _ {c : Content} {w : World} (shows : Shows c w) (tree : IsTree w.rows) {c
       ∙ ap (λ o. with_place o n q (last to) w) (hung shows tree goes).there
 
   -- the rows after it are a tree
-  pub tree_after : (numbers : ℕ) → IsTree (effect numbers w caller (Rename from to)).rows
-  tree_after numbers =
+  pub tree_after : decide w caller (Rename from to) ≡ None → (numbers : ℕ) → IsTree (effect numbers w caller (Rename from to)).rows
+  tree_after allowed numbers =
       let d = dir_file shows q move.dir.attrs is.parent.shown is.parent.directory in
       let r = shown_of c w shows q d.file d.stored in
       let kind : r.row.file.kind ≡ Directory = ap (λ (x : File). x.kind) (sym r.same) ∙ file_kind shows q move.dir.attrs is.parent.shown is.parent.directory in
       subst (λ (x : World). IsTree x.rows) (sym (world_is numbers))
-      (IsTree-moved w.rows tree n row (hung shows tree goes).there (hung shows tree goes).below q (last to) r.row r.there kind is.parent.free apart)
+      (IsTree-moved w.rows tree n row (hung shows tree goes).there (hung shows tree goes).below q (last to) r.row r.there kind is.parent.free (apart allowed))
 
   -- ---- the store
 

@@ -1,8 +1,7 @@
 -- What judging and making a new row come to, over a store.
-use Rattle.std.specs.Prelude.{◌≡◌, ◌≢◌, ℕ, ◌+◌, ◌*◌, ◌/◌, ◌%◌, ◌<◌, ◌≤◌, true, List, [], ◌∷◌, ◌++◌, length, Option, None, Some, Result, Ok, Err}
+use Rattle.std.specs.Prelude.{◌≡◌, ◌≢◌, ℕ, ◌+◌, ◌*◌, ◌/◌, ◌%◌, ◌<◌, ◌≤◌, true, List, [], ◌∷◌, ◌++◌, length, Option, None, Some}
 use Rattle.std.specs.Borrow.{Bor}
 use Rattle.std.specs.FinMap as map
-use Rattle.lfs_types.specs.Caller.{Caller}
 use Rattle.lfs_types.specs.Kinds.{is_directory_kind}
 use Rattle.lfs_types.specs.Splicing.{splice}
 use Rattle.lfs_types.specs.Stored.{shown_attrs}
@@ -11,27 +10,21 @@ use Rattle.lfs_types.specs.declared.attrs.Kind.{Kind}
 use Rattle.lfs_types.specs.declared.attrs.Kind.TheVariants.{File as Regular, Directory}
 use Rattle.lfs_types.specs.declared.request.Request.{Request}
 use Rattle.lfs_types.specs.declared.request.Request.TheVariants.{Create, Mkdir}
-use Rattle.lfs_types.specs.declared.rule.Denial.{Denial}
 use Rattle.lfs_dirs.specs.Directory.{IsDirectoryBlock, used_of}
 use Rattle.lfs_dirs.specs.Reading.{entries_of}
 use Rattle.lfs_calls.specs.declared.making.Room.{Room}
 use Rattle.lfs_calls.specs.declared.walking.Reached.{Reached}
 use Rattle.lfs_model.specs.World.{Rows, child}
-use Rattle.lfs_model.specs.Rules.{first_failing, making, front, last, reached}
+use Rattle.lfs_model.specs.Rules.{front, last, reached}
 use Rattle.lfs_calls.specs.Content.{block_at}
 
--- a directory in which a new name may be put, as the store shows it
-pub record IsParent (c : Content) (rows : Rows) (caller : Caller) (index : ℕ) (path : List (List ℕ)) (dir : Reached) : Type 0 where
-  pub allowed : first_failing (making rows caller index path) ≡ None
+-- a directory that a path's names before the last lead to, and that hasn't the last name, as the store shows it
+pub record IsParent (c : Content) (rows : Rows) (path : List (List ℕ)) (dir : Reached) : Type 0 where
+  pub some : 0 < length path
   pub object : reached rows root (front path) ≡ dir.number
   pub shown : Some dir.attrs ≡ shown_attrs c dir.number
   pub directory : is_directory_kind dir.attrs.kind ≡ true
   pub free : child rows dir.number (last path) ≡ None
-
--- the directory in which the new name of the path of this index may be put, or the denial
-abbrev pub JudgesMaking : Content → Rows → Caller → ℕ → List (List ℕ) → Result Reached Denial → Type 0
-JudgesMaking c rows caller index path (Ok dir) = IsParent c rows caller index path dir
-JudgesMaking c rows caller index path (Err denial) = first_failing (making rows caller index path) ≡ Some denial
 
 -- the request that makes an empty file of this kind
 abbrev pub request_for : Kind → List (List ℕ) → ℕ → Request

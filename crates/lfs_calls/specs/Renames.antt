@@ -1,33 +1,23 @@
 -- What judging and making a Rename come to, over a store.
-use Rattle.std.specs.Prelude.{◌≡◌, ◌==◌, ℕ, ◌%◌, ◌<◌, ◌≤◌, true, List, length, Option, None, Some, Result, Ok, Err, IsSomeAnd, if◌then◌else◌}
+use Rattle.std.specs.Prelude.{◌≡◌, ◌==◌, ℕ, ◌%◌, ◌<◌, ◌≤◌, true, List, length, Option, None, Some, IsSomeAnd, if◌then◌else◌}
 use Rattle.std.specs.FinMap as map
-use Rattle.lfs_types.specs.Caller.{Caller}
 use Rattle.lfs_types.specs.Changes.{changed_at}
 use Rattle.lfs_types.specs.Kinds.{is_directory_kind}
 use Rattle.lfs_types.specs.Splicing.{splice}
 use Rattle.lfs_types.specs.Stored.{shown_attrs, bytes_of}
-use Rattle.lfs_types.specs.Tree.{World, Content}
+use Rattle.lfs_types.specs.Tree.{Content}
 use Rattle.lfs_types.specs.declared.attrs.Kind.TheVariants.{Directory}
-use Rattle.lfs_types.specs.declared.request.Request.TheVariants.{Rename}
-use Rattle.lfs_types.specs.declared.rule.Denial.{Denial}
 use Rattle.lfs_calls.specs.declared.making.Room.{Room}
 use Rattle.lfs_calls.specs.declared.renaming.Move.{Move}
 use Rattle.lfs_calls.specs.declared.renaming.Places.{Places}
 use Rattle.lfs_model.specs.World.{Rows, child}
-use Rattle.lfs_model.specs.Rules.{decide}
 use Rattle.lfs_calls.specs.Makes.{IsParent, IsRoom}
 use Rattle.lfs_calls.specs.Removes.{IsRemoval, HangsAs, IsTaking}
 
--- a row that may get another place, and the directory of that place, as the store shows them
-pub record IsMove (c : Content) (w : World) (caller : Caller) (from to : List (List ℕ)) (move : Move) : Type 0 where
-  pub allowed : decide w caller (Rename from to) ≡ None
-  pub removal : IsRemoval c w.rows caller from move.removal
-  pub parent : IsParent c w.rows caller 1 to move.dir
-
--- the row that may get another place, or the denial
-abbrev pub JudgesMove : Content → World → Caller → List (List ℕ) → List (List ℕ) → Result Move Denial → Type 0
-JudgesMove c w caller from to (Ok move) = IsMove c w caller from to move
-JudgesMove c w caller from to (Err denial) = decide w caller (Rename from to) ≡ Some denial
+-- the row that a path leads to, and the directory that is to list it at another path, as the store shows them
+pub record IsMove (c : Content) (rows : Rows) (from to : List (List ℕ)) (move : Move) : Type 0 where
+  pub removal : IsRemoval c rows from move.removal
+  pub parent : IsParent c rows to move.dir
 
 -- the content after a block of a directory was written
 abbrev pub block_put : ℕ → Room → Content → Content

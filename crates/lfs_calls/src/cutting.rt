@@ -30,7 +30,8 @@ pub fn set_length<F: FileStore>(
     len: u64,
 ) -> Result<Served, Halt>
     requires { HasWorld (F.state store.old) }
-    ensures { IsCall (F.state store.old) (F.state store.new) cred.now (Request.SetLength path.now len)
+    ensures { IsCall (F.state store.old) (F.state store.new) cred.now
+        (Request.SetLength path.now len)
         result }
 {
     let file = find(store, cred, path)?;

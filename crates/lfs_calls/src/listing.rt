@@ -39,7 +39,8 @@ pub fn list<F: FileStore>(
     path: &Path,
 ) -> Result<Served, Halt>
     requires { HasWorld (F.state store.old) }
-    ensures call { IsCall (F.state store.old) (F.state store.new) cred.now (Request.List path.now) result }
+    ensures call { IsCall (F.state store.old) (F.state store.new) cred.now (Request.List path.now)
+        result }
     ensures state { F.state store.new ≡ F.state store.old }
 {
     let dir = find(store, cred, path)?;

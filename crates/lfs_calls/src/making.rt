@@ -7,14 +7,15 @@ ghost use Rattle.lfs_types.specs.Stored.{bytes_of};
 ghost use Rattle.lfs_types.specs.Tree.{file_of};
 ghost use Rattle.lfs_dirs.specs.Directory.{IsDirectoryBlock, number_in};
 ghost use Rattle.lfs_dirs.specs.Reading.{entries_of};
+ghost use Rattle.lfs_model.specs.Rules.{Judges, judged, making, making_tests};
 ghost use Rattle.lfs_calls.specs.Calls.{ChangesTo, IsCall};
 ghost use Rattle.lfs_calls.specs.Volumes.{HasWorld, InWorld};
 ghost use Rattle.lfs_calls.specs.Content.{listed, FitsNowhere, AreBlocks};
-ghost use Rattle.lfs_calls.specs.Makes.{JudgesMaking, request_for, IsRoom, StandsIn, with_block, MakesFile};
+ghost use Rattle.lfs_calls.specs.Makes.{IsParent, request_for, IsRoom, StandsIn, with_block, MakesFile};
 
-use crate::directory::{look_up, read_block};
+use crate::directory::{child_of, read_block};
 use crate::halt::Halt;
-use crate::walking::{Reached, component, denial, reach};
+use crate::walking::{Reached, ask, component, denial, last_name, reach};
 use lfs_dirs::added;
 use lfs_rules::access::grants;
 use lfs_rules::flags::immutable;
@@ -49,8 +50,8 @@ pub(crate) fn judge_make<F: FileStore>(
 ) -> Result<Reached, Denial>
     requires world { HasWorld (F.state store.old) }
     requires short { length names.now ≤ 1024 }
-    ensures judge { InWorld (F.state store.old)
-        (λ w. JudgesMaking (F.state store.old).content w.rows cred.now path names.now result) }
+    ensures judge { InWorld (F.state store.old) (λ w. Judges (making w.rows cred.now path names.now)
+        (IsParent (F.state store.old).content w.rows names.now) result) }
     ensures state { F.state store.new ≡ F.state store.old }
 {
     let Some((name, parents)) = names.split_last() else {
@@ -58,22 +59,22 @@ pub(crate) fn judge_make<F: FileStore>(
     };
     let at = component(parents);
     let dir = reach(store, cred, path, parents)?;
-    if !dir.attrs.kind.is_directory() {
-        return Err(denial(Rule::IsDirectory, path, at));
-    }
-    if !grants(&dir.attrs, cred, Bit::Search) {
-        return Err(denial(Rule::GrantsSearch, path, at));
-    }
-    if look_up(store, dir.number, dir.attrs.size, name).is_some() {
-        return Err(denial(Rule::NameFree, path, at + 1));
-    }
-    if immutable(&dir.attrs) {
-        return Err(denial(Rule::IsMutable, path, at));
-    }
-    if !grants(&dir.attrs, cred, Bit::Write) {
-        return Err(denial(Rule::GrantsWrite, path, at));
-    }
+    let free = child_of(store, &dir, name).is_none();
+    may_make(&dir.attrs, cred, free, path, at)?;
     Ok(dir)
+}
+
+/// Whether a caller may put a name, which may be free, into a directory, which stands at component `at` of the path of
+/// this index, or the first rule that fails.
+fn may_make(dir: &Attrs, cred: &Cred, free: bool, path: u8, at: u32) -> Result<(), Denial>
+    requires { at < 1024 }
+    ensures { result ≡ judged (making_tests cred.now free path dir.now at) }
+{
+    ask(dir.kind.is_directory(), Rule::IsDirectory, path, at)?;
+    ask(grants(dir, cred, Bit::Search), Rule::GrantsSearch, path, at)?;
+    ask(free, Rule::NameFree, path, at + 1)?;
+    ask(!immutable(dir), Rule::IsMutable, path, at)?;
+    ask(grants(dir, cred, Bit::Write), Rule::GrantsWrite, path, at)
 }
 
 /// The first block of a directory that has room for a new entry, with that entry, else a new block at the end; None
@@ -91,10 +92,12 @@ pub(crate) fn find_room<F: FileStore>(
     requires size { size ≡ length (bytes_of (F.state store.old).content dir) }
     requires whole { size % 512 ≡ 0 }
     requires bounded { size ≤ 71680 }
-    requires taken { IfSome taken (λ room. StandsIn (bytes_of (F.state store.old).content dir) room.now) }
+    requires taken { IfSome taken
+        (λ room. StandsIn (bytes_of (F.state store.old).content dir) room.now) }
     requires blocks { AreBlocks (with_block (bytes_of (F.state store.old).content dir) taken) }
     requires above { 0 < number }
-    requires free { number_in name.now (listed (with_block (bytes_of (F.state store.old).content dir) taken))
+    requires free { number_in name.now (listed (with_block
+        (bytes_of (F.state store.old).content dir) taken))
         ≡ None }
     ensures room { MatchOption result
         (FitsNowhere (with_block (bytes_of (F.state store.old).content dir) taken.entry)
@@ -124,7 +127,8 @@ fn seen_block<F: FileStore>(store: &mut F, dir: u32, off: u64, taken: Option<&Ro
     requires used { IsSome (get (F.state store.old).content dir) }
     requires aligned { off % 512 ≡ 0 }
     requires within { off + 512 ≤ length (bytes_of (F.state store.old).content dir) }
-    requires taken { IfSome taken (λ room. StandsIn (bytes_of (F.state store.old).content dir) room.now) }
+    requires taken { IfSome taken
+        (λ room. StandsIn (bytes_of (F.state store.old).content dir) room.now) }
     ensures block { result ≡ take 512
         (drop off (with_block (bytes_of (F.state store.old).content dir) taken.entry)) }
     ensures state { F.state store.new ≡ F.state store.old }
@@ -203,7 +207,8 @@ pub fn mkdir<F: FileStore>(
     mode: Mode,
 ) -> Result<Served, Halt>
     requires { HasWorld (F.state store.old) }
-    ensures { IsCall (F.state store.old) (F.state store.new) cred.now (Request.Mkdir path.now mode) result }
+    ensures { IsCall (F.state store.old) (F.state store.new) cred.now (Request.Mkdir path.now mode)
+        result }
 {
     make(store, cred, path, Kind::Directory, mode)
 }
@@ -222,9 +227,7 @@ fn make<F: FileStore>(
 {
     let names = path.names();
     let dir = judge_make(store, cred, 0, names)?;
-    let Some((name, _)) = names.split_last() else {
-        unreachable!()
-    };
+    let name = last_name(names);
     prove!(name.as_bytes().len() <= NAME_MAX);
     let Some(number) = store.least_free() else {
         return Err(Halt::Refused(Resource::NoInodes));

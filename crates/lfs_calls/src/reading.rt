@@ -25,7 +25,8 @@ use std::alloc::Global;
 /// The number and the attributes of a file.
 pub fn stat<F: FileStore>(store: &mut F, cred: &Cred, path: &Path) -> Result<Served, Halt>
     requires { HasWorld (F.state store.old) }
-    ensures call { IsCall (F.state store.old) (F.state store.new) cred.now (Request.Stat path.now) result }
+    ensures call { IsCall (F.state store.old) (F.state store.new) cred.now (Request.Stat path.now)
+        result }
     ensures state { F.state store.new ≡ F.state store.old }
 {
     let file = find(store, cred, path)?;
@@ -55,7 +56,8 @@ pub fn read<F: FileStore>(
     len: u32,
 ) -> Result<Served, Halt>
     requires { HasWorld (F.state store.old) }
-    ensures call { IsCall (F.state store.old) (F.state store.new) cred.now (Request.Read path.now off len)
+    ensures call { IsCall (F.state store.old) (F.state store.new) cred.now
+        (Request.Read path.now off len)
         result }
     ensures state { F.state store.new ≡ F.state store.old }
 {
@@ -87,7 +89,8 @@ fn read_bytes<F: FileStore>(
 ) -> Option<Vec<u8>>
     requires used { IsSome (get (F.state store.old).content ino) }
     requires size { size ≡ length (bytes_of (F.state store.old).content ino) }
-    ensures bytes { IfSome result (λ v. v.items ≡ slice_of (bytes_of (F.state store.old).content ino) off count) }
+    ensures bytes { IfSome result
+        (λ v. v.items ≡ slice_of (bytes_of (F.state store.old).content ino) off count) }
     ensures state { F.state store.new ≡ F.state store.old }
 {
     let left = size.saturating_sub(off);

@@ -3,7 +3,7 @@
 ghost use Rattle.std.specs.Prelude.{◌≡◌, ◌<◌, ◌≤◌, [], ◌∷◌, IsSome, length};
 ghost use Rattle.std.specs.FinMap.{get};
 ghost use Rattle.lfs_types.specs.Tree.{root};
-ghost use Rattle.lfs_model.specs.Rules.{asks, judged};
+ghost use Rattle.lfs_model.specs.Rules.{asks, front, judged, last};
 ghost use Rattle.lfs_model.specs.Walks.{stepped, walked};
 ghost use Rattle.lfs_calls.specs.Reaches.{Reaches};
 ghost use Rattle.lfs_calls.specs.Volumes.{HasWorld, InWorld};
@@ -43,7 +43,8 @@ pub(crate) fn step<F: FileStore>(
     requires world { HasWorld (F.state store.old) }
     requires used { IsSome (get (F.state store.old).content dir) }
     requires short { at < 1024 }
-    ensures step { InWorld (F.state store.old) (λ w. result ≡ stepped w.rows cred.now path at dir name.now) }
+    ensures step { InWorld (F.state store.old)
+        (λ w. result ≡ stepped w.rows cred.now path at dir name.now) }
     ensures state { F.state store.new ≡ F.state store.old }
 {
     let Some(attrs) = store.attrs(dir) else {
@@ -68,7 +69,8 @@ pub(crate) fn walk<F: FileStore>(
 ) -> Result<u32, Denial>
     requires world { HasWorld (F.state store.old) }
     requires short { length names.now ≤ 1024 }
-    ensures walk { InWorld (F.state store.old) (λ w. result ≡ walked w.rows cred.now path 0 root names.now) }
+    ensures walk { InWorld (F.state store.old)
+        (λ w. result ≡ walked w.rows cred.now path 0 root names.now) }
     ensures state { F.state store.new ≡ F.state store.old }
 {
     let mut dir = ROOT;
@@ -130,6 +132,22 @@ pub(crate) fn component(names: &[Name]) -> u32
     ensures { result ≡ length names.now }
 {
     names.len() as u32
+}
+
+/// The names before the last of some.
+pub(crate) fn parents_of(names: &[Name]) -> &[Name]
+    requires { 0 < length names.now }
+    ensures names { result.now ≡ front names.now }
+{
+    &names[..names.len() - 1]
+}
+
+/// The last of some names.
+pub(crate) fn last_name(names: &[Name]) -> &Name
+    requires { 0 < length names.now }
+    ensures name { result.now ≡ last names.now }
+{
+    &names[names.len() - 1]
 }
 
 /// A rule that fails at a component of the path of this index.

@@ -15,7 +15,7 @@ use Rattle.lfs_types.specs.declared.rule.Denial.{Denial}
 use Rattle.lfs_types.specs.declared.rule.Rule.{Rule}
 use Rattle.lfs_types.specs.declared.rule.Rule.TheVariants.{IsDirectory, GrantsSearch, NameThere, NameFree, IsNoDirectory, IsEmpty, IsNotRoot, IsNotBeneathItself, IsMutable, IsNotAppendOnly, GrantsRead, GrantsWrite, PassesSticky, IsOwner, MaySetOwner, MaySetFlags, KeepsSystemLocks, FitsFile}
 use Rattle.lfs_model.specs.World.{Rows, child, children, IsTree}
-use Rattle.lfs_model.specs.Rules.{Check, asks, attrs_at, change_tests, chflags_tests, chmod_tests, chown_tests, file_max, is_end, length_tests, level_tests, list_tests, read_tests, start_of, stat_tests, write_tests, decide, first_failing, front, last, making, moving_tests, next, position, reached, reaching, removing, removing_tests, rmdir_tests, unlink_tests, row_grants, is_directory_row, visited, walk}
+use Rattle.lfs_model.specs.Rules.{Check, asks, attrs_at, change_tests, chflags_tests, chmod_tests, chown_tests, file_max, is_end, length_tests, level_tests, list_tests, read_tests, start_of, stat_tests, write_tests, decide, first_failing, front, last, making, apart_test, leaves_test, next, position, reached, reaching, removing, removing_tests, rmdir_tests, unlink_tests, row_grants, is_directory_row, visited, walk}
 use Rattle.lfs_model.specs.LawDenied.{child_of, led, MayEnter, MayPass, Says, Tells, Told, TellsLittle}
 use Rattle.lfs_rules.specs.Grants.{grants_of}
 use Rattle.lfs_rules.specs.Locks.{is_immutable}
@@ -301,7 +301,7 @@ module _ (w : World) (caller : Caller) (tree : IsTree w.rows) where
   moving from to =
       let moved = reached w.rows root from in
       let stays = reached w.rows root (front from) == reached w.rows root (front to) in
-      moving_tests caller moved (visited w.rows root (front to)) stays (attrs_at w.rows moved) (length from)
+      apart_test w.rows moved to ∷ leaves_test caller stays (attrs_at w.rows moved) (length from) ∷ []
 
   abbrev ToldOf : List (List ℕ) → List (List ℕ) → Denial → Type 0
   ToldOf from to d = IsSomeAnd (slice_get (from ∷ to ∷ []) d.path) (λ p. Tells w.rows caller p d.rule d.at)

@@ -2,6 +2,7 @@
 use Rattle.std.proofs.Common.{◌≡◌, ℕ, ◌≤◌, ◌+◌, ◌==◌, not, Bool, true, List, [], ◌∷◌, ◌++◌, length, Option, None, Some, refl, sym, ap, ◌∙◌, arith}
 use Rattle.std.specs.Prelude.{find, filter, min, nat_le, unwrap_or, is_some, is_none, IsSome}
 use Rattle.std.specs.Prelude as lists
+use Rattle.std.specs.List.{list_any}
 use Rattle.std.specs.FinMap as map
 use Rattle.lfs_types.specs.Caller.{Caller}
 use Rattle.lfs_types.specs.Kinds.{is_directory_kind}
@@ -17,10 +18,10 @@ use Rattle.lfs_types.specs.declared.attrs.Bit.{Bit}
 use Rattle.lfs_types.specs.declared.attrs.Bit.TheVariants as bits
 use Rattle.lfs_types.specs.declared.request.Request.{Request}
 use Rattle.lfs_types.specs.declared.request.Request.TheVariants.{Stat, Read, Write, List as Names, SetLength, Create, Mkdir, Unlink, Rmdir, Rename, Chmod, Chown, Chflags, SetLevel, Sync}
-use Rattle.lfs_types.specs.declared.rule.Rule.TheVariants.{IsDirectory, GrantsSearch, NameThere, NameFree, IsNotRoot}
+use Rattle.lfs_types.specs.declared.rule.Rule.TheVariants.{IsDirectory, GrantsSearch, NameThere, NameFree, IsNotRoot, IsNotBeneathItself}
 use Rattle.lfs_rules.specs.Grants.{grants_of}
 use Rattle.lfs_model.specs.World.{Rows, hangs_in, hangs_as, child, children, name_of, file_at}
-use Rattle.lfs_model.specs.Rules.{first_failing, asks, is_directory_row, row_grants, attrs_at, next, reached, front, last, Check, walk, visited, making, making_tests, removing, removing_tests, unlink_tests, rmdir_tests, moving_tests, reaching, stat_tests, read_tests, list_tests, write_tests, length_tests, chmod_tests, chown_tests, chflags_tests, level_tests, rule_table, decide}
+use Rattle.lfs_model.specs.Rules.{first_failing, asks, is_directory_row, row_grants, attrs_at, next, reached, front, last, Check, walk, visited, making, making_tests, removing, removing_tests, leaves_test, position, unlink_tests, rmdir_tests, leaves_test, position, reaching, stat_tests, read_tests, list_tests, write_tests, length_tests, chmod_tests, chown_tests, chflags_tests, level_tests, rule_table, decide}
 use Rattle.lfs_model.specs.Effects.{read_max, in_byte_order, answer_of}
 use Rattle.lfs_model.specs.LawUnread.{NumberLooksAlike, DifferUnread}
 use Rattle.lfs_model.specs.Steps.{AllUsed, LacksInodes, IsCrowded, MayLack, IsAnswer}
@@ -164,7 +165,10 @@ module _ (caller : Caller) (w v : World) (differ : DifferUnread caller w v) wher
       let moved = reached_same i root from in
       let way = visited_at root (front to) i in
       let stays = reached_same i root (front from) == reached_same i root (front to) in
-      removing_same from i ++ (making_same 1 to i ++ moving_tests caller moved way stays (attributes i moved) (length from))
+      removing_same from i ++ (making_same 1 to i ++
+      (asks (not (list_any (λ n. n == moved) way)) IsNotBeneathItself 1 (position moved way)
+      ∷ leaves_test caller stays (attributes i moved) (length from)
+      ∷ []))
   table_same (Chmod path mode) = reaching_same path (chmod_tests caller)
   table_same (Chown path uid gid) = reaching_same path (chown_tests caller uid gid)
   table_same (Chflags path flags) =

@@ -158,12 +158,16 @@ rmdir_tests empty dir k =
     ∷ asks empty IsEmpty 0 k
     ∷ []
 
--- the tests of what a Rename moves: the rows on the way to its new place, and whether it stays in its directory
-abbrev pub moving_tests : Caller → ℕ → List ℕ → Bool → Attrs → ℕ → List Check
-moving_tests caller moved way stays file k =
+-- the test of a row and of the rows on the way to its new place
+abbrev pub apart_test : Rows → ℕ → List (List ℕ) → Check
+apart_test rows moved names =
+    let way = visited rows root (front names) in
     asks (not (list_any (λ n. n == moved) way)) IsNotBeneathItself 1 (position moved way)
-    ∷ asks (not (is_directory_kind file.kind) || stays || grants_of caller file bits.Write) GrantsWrite 0 k
-    ∷ []
+
+-- the test of what is moved, which may stay in its directory
+abbrev pub leaves_test : Caller → Bool → Attrs → ℕ → Check
+leaves_test caller stays file k =
+    asks (not (is_directory_kind file.kind) || stays || grants_of caller file bits.Write) GrantsWrite 0 k
 
 -- the tests of what a path leads to: the walk, and tests of its attributes at the last component
 abbrev pub reaching : Rows → Caller → List (List ℕ) → (Attrs → ℕ → List Check) → List Check
@@ -257,10 +261,11 @@ rule_table w caller (Rmdir path) =
     removing w.rows caller path ++ rmdir_tests (length (children w.rows dir) == 0) (attrs_at w.rows dir) (length path)
 rule_table w caller (Rename from to) =
     let moved = reached w.rows root from in
-    let way = visited w.rows root (front to) in
     let stays = reached w.rows root (front from) == reached w.rows root (front to) in
-    let moving = moving_tests caller moved way stays (attrs_at w.rows moved) (length from) in
-    removing w.rows caller from ++ (making w.rows caller 1 to ++ moving)
+    removing w.rows caller from ++ (making w.rows caller 1 to ++
+    (apart_test w.rows moved to
+    ∷ leaves_test caller stays (attrs_at w.rows moved) (length from)
+    ∷ []))
 rule_table w caller (Chmod path mode) = reaching w.rows caller path (chmod_tests caller)
 rule_table w caller (Chown path uid gid) = reaching w.rows caller path (chown_tests caller uid gid)
 rule_table w caller (Chflags path flags) = reaching w.rows caller path (chflags_tests caller w.level flags)
