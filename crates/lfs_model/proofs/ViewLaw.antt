@@ -2,6 +2,7 @@
 use Rattle.std.proofs.Common.{◌≡◌, ◌⊎◌, ℕ, ◌+◌, ◌==◌, not, Bool, true, false, cond, List, [], ◌∷◌, ◌++◌, length, Option, None, Some, inl, inr, refl, sym, ap, subst, ◌∙◌, append-nil}
 use Rattle.std.proofs.lemmas.Bool.{not-true}
 use Rattle.std.specs.Prelude.{is_none, min}
+use Rattle.std.specs.List.{list_any}
 use Rattle.std.specs.FinMap as map
 use Rattle.lfs_types.specs.Caller.{Caller}
 use Rattle.lfs_types.specs.Kinds.{is_directory_kind}
@@ -14,11 +15,11 @@ use Rattle.lfs_types.specs.declared.attrs.Bit.TheVariants as bits
 use Rattle.lfs_types.specs.declared.request.Request.{Request}
 use Rattle.lfs_types.specs.declared.request.Request.TheVariants.{Stat, Read, Write, List as Names, SetLength, Create, Mkdir, Unlink, Rmdir, Rename, Chmod, Chown, Chflags, SetLevel, Sync}
 use Rattle.lfs_types.specs.declared.rule.Denial.{Denial}
-use Rattle.lfs_types.specs.declared.rule.Rule.TheVariants.{NameFree, IsMutable, GrantsWrite, IsEmpty}
+use Rattle.lfs_types.specs.declared.rule.Rule.TheVariants.{NameFree, IsMutable, GrantsWrite, IsEmpty, IsNotBeneathItself}
 use Rattle.lfs_rules.specs.Grants.{grants_of}
 use Rattle.lfs_rules.specs.Locks.{is_immutable}
 use Rattle.lfs_model.specs.World.{Rows, child, children, file_at, IsTree}
-use Rattle.lfs_model.specs.Rules.{Check, asks, attrs_at, chflags_tests, chmod_tests, chown_tests, decide, first_failing, front, last, length_tests, level_tests, list_tests, making, making_tests, moving_tests, reached, reaching, read_tests, removing, removing_tests, rmdir_tests, stat_tests, unlink_tests, walk, write_tests}
+use Rattle.lfs_model.specs.Rules.{Check, asks, attrs_at, chflags_tests, chmod_tests, chown_tests, decide, first_failing, front, last, length_tests, level_tests, list_tests, making, making_tests, leaves_test, position, reached, reaching, read_tests, removing, removing_tests, rmdir_tests, stat_tests, unlink_tests, walk, write_tests}
 use Rattle.lfs_model.specs.Effects.{answer_of, in_byte_order, names_in, read_max}
 use Rattle.lfs_model.specs.LawView.{HasSameView, MayRead, TellsEmpty, View}
 use Rattle.lfs_model.proofs.Allowed.{directory_attrs, grants_attrs, last_step, path_there, split_last}
@@ -162,7 +163,9 @@ module _ (w v : World) (caller : Caller) (tree : IsTree w.rows) (other : IsTree 
       (λ out. alike_behind Same (λ d. refl) (making w.rows caller 1 to) (making v.rows caller 1 to) _ _ (making_alike w.rows v.rows caller tree 1 to f)
       (λ into. let a = removed w.rows v.rows caller tree from e out in
       let b = made w.rows v.rows caller tree 1 to f into in
-      λ i. first_failing (moving_tests caller (a.file.same i) (b.way i) (a.dir.same i == b.same i) (a.file.attrs i) (length from))))
+      λ i. first_failing (asks (not (list_any (λ n. n == a.file.same i) (b.way i))) IsNotBeneathItself 1 (position (a.file.same i) (b.way i))
+      ∷ leaves_test caller (a.dir.same i == b.same i) (a.file.attrs i) (length from)
+      ∷ [])))
 
   reach : (path : List (List ℕ)) (tests : Attrs → ℕ → List Check) → Way_of path → first_failing (reaching w.rows caller path tests) ≡ first_failing (reaching v.rows caller path tests)
   reach path tests e = reaching_alike w.rows v.rows caller tree path tests e
