@@ -2,6 +2,8 @@
 use Rattle.std.specs.Prelude.{◌≡◌, ◌≢◌, ℕ, ◌+◌, ◌*◌, ◌/◌, ◌%◌, ◌<◌, ◌≤◌, true, List, [], ◌∷◌, ◌++◌, length, Option, None, Some}
 use Rattle.std.specs.Borrow.{Bor}
 use Rattle.std.specs.FinMap as map
+use Rattle.lfs_types.specs.declared.limits.TheConstants.{FILE_BLOCKS}
+use Rattle.lfs_types.specs.declared.block.TheConstants.{BLOCK_SIZE}
 use Rattle.lfs_types.specs.Kinds.{is_directory_kind}
 use Rattle.lfs_types.specs.Splicing.{splice}
 use Rattle.lfs_types.specs.Stored.{shown_attrs}
@@ -33,18 +35,18 @@ request_for Directory path mode = Mkdir path mode
 
 -- a block of a directory's bytes, or one at their end, with an entry more; the name fits in none before it
 pub record IsRoom (bytes : List ℕ) (number : ℕ) (name : List ℕ) (room : Room) (k : ℕ) : Type 0 where
-  pub off : room.off ≡ 512 * k
-  pub within : k ≤ length bytes / 512
-  pub fits : k < 140
+  pub off : room.off ≡ BLOCK_SIZE * k
+  pub within : k ≤ length bytes / BLOCK_SIZE
+  pub fits : k < FILE_BLOCKS
   pub block : IsDirectoryBlock room.block (entries_of room.block)
   pub adds : entries_of room.block ≡ entries_of (block_at bytes k) ++ (number, name) ∷ []
-  pub first : (j : ℕ) → j < k → 512 < used_of (entries_of (block_at bytes j)) + 5 + length name
+  pub first : (j : ℕ) → j < k → BLOCK_SIZE < used_of (entries_of (block_at bytes j)) + 5 + length name
 
 -- a block may be read in place of one of a directory's bytes
 pub record StandsIn (bytes : List ℕ) (room : Room) : Type 0 where
-  pub aligned : room.off % 512 ≡ 0
+  pub aligned : room.off % BLOCK_SIZE ≡ 0
   pub within : room.off < length bytes
-  pub size : length room.block ≡ 512
+  pub size : length room.block ≡ BLOCK_SIZE
 
 -- a directory's bytes, with a block read in place of the stored one, if one is given
 abbrev pub with_block : List ℕ → Option (Bor Room) → List ℕ

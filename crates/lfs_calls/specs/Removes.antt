@@ -1,6 +1,7 @@
 -- What judging and taking away a name come to, over a store.
 use Rattle.std.specs.Prelude.{◌≡◌, ◌≢◌, ℕ, ◌*◌, ◌/◌, ◌<◌, true, List, length, None, Some, IsSome}
 use Rattle.std.specs.FinMap as map
+use Rattle.lfs_types.specs.declared.block.TheConstants.{BLOCK_SIZE}
 use Rattle.lfs_types.specs.Kinds.{is_directory_kind}
 use Rattle.lfs_types.specs.Splicing.{splice}
 use Rattle.lfs_types.specs.Stored.{shown_attrs, bytes_of}
@@ -37,8 +38,8 @@ pub record HangsAs (c : Content) (rows : Rows) (removal : Removal) (name : List 
 
 -- the block of a directory's bytes that lists a name, without it
 pub record IsTaking (bytes : List ℕ) (name : List ℕ) (room : Room) (k : ℕ) : Type 0 where
-  pub off : room.off ≡ 512 * k
-  pub within : k < length bytes / 512
+  pub off : room.off ≡ BLOCK_SIZE * k
+  pub within : k < length bytes / BLOCK_SIZE
   pub listed : IsSome (number_in name (entries_of (block_at bytes k)))
   pub block : IsDirectoryBlock room.block (entries_of room.block)
   pub takes : entries_of room.block ≡ without name (entries_of (block_at bytes k))

@@ -1,6 +1,8 @@
 -- What judging and making a Rename come to, over a store.
 use Rattle.std.specs.Prelude.{◌≡◌, ◌==◌, ℕ, ◌%◌, ◌<◌, ◌≤◌, true, List, length, Option, None, Some, IsSomeAnd, if◌then◌else◌}
 use Rattle.std.specs.FinMap as map
+use Rattle.lfs_types.specs.declared.limits.TheConstants.{FILE_BYTES}
+use Rattle.lfs_types.specs.declared.block.TheConstants.{BLOCK_SIZE}
 use Rattle.lfs_types.specs.Changes.{changed_at}
 use Rattle.lfs_types.specs.Kinds.{is_directory_kind}
 use Rattle.lfs_types.specs.Splicing.{splice}
@@ -25,10 +27,10 @@ block_put dir room c = changed_at (map.get c dir) dir (λ f. record f { bytes = 
 
 -- a block of a directory's bytes, or one at their end
 pub record IsBlockOf (c : Content) (dir : ℕ) (room : Room) : Type 0 where
-  pub directory : IsSomeAnd (map.get c dir) (λ f. (f.kind ≡ Directory) × (length f.bytes % 512 ≡ 0) × (length f.bytes ≤ 71680) × (room.off ≤ length f.bytes))
-  pub aligned : room.off % 512 ≡ 0
-  pub fits : room.off < 71680
-  pub size : length room.block ≡ 512
+  pub directory : IsSomeAnd (map.get c dir) (λ f. (f.kind ≡ Directory) × (length f.bytes % BLOCK_SIZE ≡ 0) × (length f.bytes ≤ FILE_BYTES) × (room.off ≤ length f.bytes))
+  pub aligned : room.off % BLOCK_SIZE ≡ 0
+  pub fits : room.off < FILE_BYTES
+  pub size : length room.block ≡ BLOCK_SIZE
 
 -- the content after blocks of two directories, or of one, were written, one after the other
 abbrev pub WritesBlocks : Content → Content → ℕ → Room → ℕ → Room → Type 0

@@ -2,6 +2,7 @@
 
 ghost use Rattle.std.specs.Prelude.{◌≡◌, ◌+◌, ◌*◌, ◌%◌, ◌≤◌, IsSome, Some, length, take, drop};
 ghost use Rattle.std.specs.FinMap.{get};
+ghost use Rattle.lfs_types.specs.declared.block.TheConstants.{BLOCK_SIZE};
 ghost use Rattle.lfs_types.specs.Stored.{bytes_of, shown_attrs};
 ghost use Rattle.lfs_dirs.specs.Directory.{number_in};
 ghost use Rattle.lfs_model.specs.World.{child};
@@ -16,8 +17,8 @@ use lfs_types::store::FileStore;
 /// The block of a file that begins at byte `off`.
 pub(crate) fn read_block<F: FileStore>(store: &mut F, ino: u32, off: u64) -> Block
     requires used { IsSome (get (F.state store.old).content ino) }
-    requires whole { off + 512 ≤ length (bytes_of (F.state store.old).content ino) }
-    ensures block { result ≡ take 512 (drop off (bytes_of (F.state store.old).content ino)) }
+    requires whole { off + BLOCK_SIZE ≤ length (bytes_of (F.state store.old).content ino) }
+    ensures block { result ≡ take BLOCK_SIZE (drop off (bytes_of (F.state store.old).content ino)) }
     ensures state { F.state store.new ≡ F.state store.old }
 {
     let mut block = [0; BLOCK_SIZE];
@@ -29,7 +30,7 @@ pub(crate) fn read_block<F: FileStore>(store: &mut F, ino: u32, off: u64) -> Blo
 pub(crate) fn look_up<F: FileStore>(store: &mut F, dir: u32, size: u64, name: &Name) -> Option<u32>
     requires used { IsSome (get (F.state store.old).content dir) }
     requires size { size ≡ length (bytes_of (F.state store.old).content dir) }
-    requires whole { size % 512 ≡ 0 }
+    requires whole { size % BLOCK_SIZE ≡ 0 }
     ensures found { result ≡ number_in name.now (listed
         (bytes_of (F.state store.old).content dir)) }
     ensures state { F.state store.new ≡ F.state store.old }

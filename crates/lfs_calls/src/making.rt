@@ -2,6 +2,9 @@
 
 ghost use Rattle.std.specs.Prelude.{◌≡◌, ℕ, [], ◌∷◌, IsSomeAnd, ◌≤◌, ◌+◌, ◌%◌, ◌<◌, IsSome, IfSome, Some, None, length, take, drop, MatchOption};
 ghost use Rattle.std.specs.FinMap.{get};
+ghost use Rattle.lfs_types.specs.declared.path.TheConstants.{PATH_MAX};
+ghost use Rattle.lfs_types.specs.declared.limits.TheConstants.{FILE_BYTES};
+ghost use Rattle.lfs_types.specs.declared.block.TheConstants.{BLOCK_SIZE};
 ghost use Rattle.lfs_types.specs.declared.attrs.Kind.TheVariants.{Directory};
 ghost use Rattle.lfs_types.specs.Stored.{bytes_of};
 ghost use Rattle.lfs_types.specs.Tree.{file_of};
@@ -49,7 +52,7 @@ pub(crate) fn judge_make<F: FileStore>(
     names: &[Name],
 ) -> Result<Reached, Denial>
     requires world { HasWorld (F.state store.old) }
-    requires short { length names.now ≤ 1024 }
+    requires short { length names.now ≤ PATH_MAX }
     ensures judge { InWorld (F.state store.old) (λ w. Judges (making w.rows cred.now path names.now)
         (IsParent (F.state store.old).content w.rows names.now) result) }
     ensures state { F.state store.new ≡ F.state store.old }
@@ -67,7 +70,7 @@ pub(crate) fn judge_make<F: FileStore>(
 /// Whether a caller may put a name, which may be free, into a directory, which stands at component `at` of the path of
 /// this index, or the first rule that fails.
 fn may_make(dir: &Attrs, cred: &Cred, free: bool, path: u8, at: u32) -> Result<(), Denial>
-    requires { at < 1024 }
+    requires { at < PATH_MAX }
     ensures { result ≡ judged (making_tests cred.now free path dir.now at) }
 {
     ask(dir.kind.is_directory(), Rule::IsDirectory, path, at)?;
@@ -90,8 +93,8 @@ pub(crate) fn find_room<F: FileStore>(
 ) -> Option<Room>
     requires used { IsSome (get (F.state store.old).content dir) }
     requires size { size ≡ length (bytes_of (F.state store.old).content dir) }
-    requires whole { size % 512 ≡ 0 }
-    requires bounded { size ≤ 71680 }
+    requires whole { size % BLOCK_SIZE ≡ 0 }
+    requires bounded { size ≤ FILE_BYTES }
     requires taken { IfSome taken
         (λ room. StandsIn (bytes_of (F.state store.old).content dir) room.now) }
     requires blocks { AreBlocks (with_block (bytes_of (F.state store.old).content dir) taken) }
@@ -125,11 +128,11 @@ pub(crate) fn find_room<F: FileStore>(
 /// The block of a directory that begins at byte `off`: that in `taken` if it begins there, else the stored one.
 fn seen_block<F: FileStore>(store: &mut F, dir: u32, off: u64, taken: Option<&Room>) -> Block
     requires used { IsSome (get (F.state store.old).content dir) }
-    requires aligned { off % 512 ≡ 0 }
-    requires within { off + 512 ≤ length (bytes_of (F.state store.old).content dir) }
+    requires aligned { off % BLOCK_SIZE ≡ 0 }
+    requires within { off + BLOCK_SIZE ≤ length (bytes_of (F.state store.old).content dir) }
     requires taken { IfSome taken
         (λ room. StandsIn (bytes_of (F.state store.old).content dir) room.now) }
-    ensures block { result ≡ take 512
+    ensures block { result ≡ take BLOCK_SIZE
         (drop off (with_block (bytes_of (F.state store.old).content dir) taken.entry)) }
     ensures state { F.state store.new ≡ F.state store.old }
 {
@@ -165,11 +168,11 @@ fn put_new<F: FileStore>(
     requires within { number < (F.state store.old).shape.numbers }
     requires unused { get (F.state store.old).content number ≡ None }
     requires directory { IsSomeAnd (get (F.state store.old).content dir)
-        (λ f. (f.kind ≡ Directory) × (length f.bytes % 512 ≡ 0) × (length f.bytes ≤ 71680)
+        (λ f. (f.kind ≡ Directory) × (length f.bytes % BLOCK_SIZE ≡ 0) × (length f.bytes ≤ FILE_BYTES)
         × (room.now.off ≤ length f.bytes)) }
-    requires aligned { room.now.off % 512 ≡ 0 }
-    requires fits { room.now.off < 71680 }
-    requires block { length room.now.block ≡ 512 }
+    requires aligned { room.now.off % BLOCK_SIZE ≡ 0 }
+    requires fits { room.now.off < FILE_BYTES }
+    requires block { length room.now.block ≡ BLOCK_SIZE }
     ensures { ChangesTo (F.state store.old)
         (λ after. MakesFile (F.state store.old).content after
         number (file_of attrs []) dir room.now.off room.now.block)

@@ -2,6 +2,9 @@
 
 ghost use Rattle.std.specs.Prelude.{◌≡◌, ◌==◌, Some, ◌↔◌, ℕ, ◌<◌, ◌≤◌, ◌%◌, [], length, IsSome, IsTrue};
 ghost use Rattle.std.specs.FinMap.{get};
+ghost use Rattle.lfs_types.specs.declared.path.TheConstants.{PATH_MAX};
+ghost use Rattle.lfs_types.specs.declared.limits.TheConstants.{FILE_BYTES};
+ghost use Rattle.lfs_types.specs.declared.block.TheConstants.{BLOCK_SIZE};
 ghost use Rattle.lfs_types.specs.Stored.{bytes_of, shown_attrs};
 ghost use Rattle.lfs_types.specs.Tree.{World};
 ghost use Rattle.lfs_dirs.specs.Directory.{number_in};
@@ -45,7 +48,7 @@ pub(crate) fn judge_remove<F: FileStore>(
     names: &[Name],
 ) -> Result<Removal, Denial>
     requires world { HasWorld (F.state store.old) }
-    requires short { length names.now ≤ 1024 }
+    requires short { length names.now ≤ PATH_MAX }
     ensures judge { InWorld (F.state store.old) (λ w. Judges (removing w.rows cred.now names.now)
         (IsRemoval (F.state store.old).content w.rows names.now) result) }
     ensures state { F.state store.new ≡ F.state store.old }
@@ -67,7 +70,7 @@ pub(crate) fn judge_remove<F: FileStore>(
 /// Whether a caller may take away the name of a file in a directory, which stands at component `at`, or the first rule
 /// that fails.
 fn may_remove(dir: &Attrs, file: &Attrs, cred: &Cred, at: u32) -> Result<(), Denial>
-    requires { at < 1024 }
+    requires { at < PATH_MAX }
     ensures { result ≡ judged (removing_tests cred.now dir.now file.now at) }
 {
     ask(!immutable(dir), Rule::IsMutable, 0, at)?;
@@ -82,8 +85,8 @@ fn may_remove(dir: &Attrs, file: &Attrs, cred: &Cred, at: u32) -> Result<(), Den
 pub(crate) fn take_name<F: FileStore>(store: &mut F, dir: u32, size: u64, name: &Name) -> Room
     requires used { IsSome (get (F.state store.old).content dir) }
     requires size { size ≡ length (bytes_of (F.state store.old).content dir) }
-    requires whole { size % 512 ≡ 0 }
-    requires bounded { size ≤ 71680 }
+    requires whole { size % BLOCK_SIZE ≡ 0 }
+    requires bounded { size ≤ FILE_BYTES }
     requires blocks { AreBlocks (bytes_of (F.state store.old).content dir) }
     requires listed { IsSome (number_in name.now (listed
         (bytes_of (F.state store.old).content dir))) }
@@ -139,7 +142,7 @@ pub fn unlink<F: FileStore>(store: &mut F, cred: &Cred, path: &Path) -> Result<S
 /// The file that may be unlinked, or the first rule that fails.
 fn judge_unlink<F: FileStore>(store: &mut F, cred: &Cred, names: &[Name]) -> Result<Removal, Denial>
     requires world { HasWorld (F.state store.old) }
-    requires short { length names.now ≤ 1024 }
+    requires short { length names.now ≤ PATH_MAX }
     ensures judge { InWorld (F.state store.old) (λ w.
         Judges (rule_table w cred.now (Request.Unlink names.now))
         (IsRemovable (F.state store.old).content w.rows names.now) result) }
@@ -172,7 +175,7 @@ pub fn rmdir<F: FileStore>(store: &mut F, cred: &Cred, path: &Path) -> Result<Se
 /// The directory that may be removed, or the first rule that fails.
 fn judge_rmdir<F: FileStore>(store: &mut F, cred: &Cred, names: &[Name]) -> Result<Removal, Denial>
     requires world { HasWorld (F.state store.old) }
-    requires short { length names.now ≤ 1024 }
+    requires short { length names.now ≤ PATH_MAX }
     ensures judge { InWorld (F.state store.old) (λ w.
         Judges (rule_table w cred.now (Request.Rmdir names.now))
         (IsRemovable (F.state store.old).content w.rows names.now) result) }
@@ -211,7 +214,7 @@ fn is_childless<F: FileStore>(store: &mut F, row: &Reached) -> bool
 fn is_empty_directory<F: FileStore>(store: &mut F, dir: u32, size: u64) -> bool
     requires used { IsSome (get (F.state store.old).content dir) }
     requires size { size ≡ length (bytes_of (F.state store.old).content dir) }
-    requires whole { size % 512 ≡ 0 }
+    requires whole { size % BLOCK_SIZE ≡ 0 }
     ensures empty { IsTrue result ↔ (listed (bytes_of (F.state store.old).content dir) ≡ []) }
     ensures state { F.state store.new ≡ F.state store.old }
 {

@@ -1,6 +1,8 @@
 //! The call that gives a row another name.
 
 ghost use Rattle.std.specs.Prelude.{◌≡◌, ◌≤◌, ◌<◌, ◌+◌, ℕ, [], ◌∷◌, Some, None, true, false, length, Ok, IfErr, OnOk, MatchOption};
+ghost use Rattle.lfs_types.specs.declared.path.TheConstants.{PATH_MAX};
+ghost use Rattle.lfs_types.specs.declared.block.TheConstants.{BLOCK_SIZE};
 ghost use Rattle.lfs_types.specs.Stored.{bytes_of, shown_attrs};
 ghost use Rattle.lfs_types.specs.Tree.{World, root};
 ghost use Rattle.lfs_types.specs.declared.rule.Rule.TheVariants.{IsNotBeneathItself};
@@ -15,11 +17,12 @@ ghost use Rattle.lfs_model.specs.Walks.{walked};
 use crate::halt::Halt;
 use crate::making::{Room, find_room, judge_make};
 use crate::removing::{Removal, judge_remove, take_name};
-use crate::walking::{ROOT, Reached, ask, component, denial, last_name, parents_of, step};
+use crate::walking::{Reached, ask, component, denial, last_name, parents_of, step};
 use lfs_rules::access::grants;
 use lfs_types::answer::{Resource, Served};
 use lfs_types::attrs::{Attrs, Bit};
 use lfs_types::cred::Cred;
+use lfs_types::limits::ROOT_INODE;
 use lfs_types::name::{NAME_MAX, Name};
 use lfs_types::path::Path;
 use lfs_types::request::Request;
@@ -52,8 +55,8 @@ fn judge_rename<F: FileStore>(
     to: &[Name],
 ) -> Result<Move, Denial>
     requires world { HasWorld (F.state store.old) }
-    requires short_from { length from.now ≤ 1024 }
-    requires short_to { length to.now ≤ 1024 }
+    requires short_from { length from.now ≤ PATH_MAX }
+    requires short_to { length to.now ≤ PATH_MAX }
     ensures judge { InWorld (F.state store.old) (λ w.
         Judges (rule_table w cred.now (Request.Rename from.now to.now))
         (IsMove (F.state store.old).content w.rows from.now to.now) result) }
@@ -84,7 +87,7 @@ fn judge_apart<F: FileStore>(
     file: &Reached,
 ) -> Result<(), Denial>
     requires world { HasWorld (F.state store.old) }
-    requires short { length to.now ≤ 1024 }
+    requires short { length to.now ≤ PATH_MAX }
     requires some { 0 < length to.now }
     requires shown { Some file.now.attrs ≡ shown_attrs (F.state store.old).content file.now.number }
     requires made { InWorld (F.state store.old)
@@ -107,7 +110,7 @@ fn judge_way<F: FileStore>(
     number: u32,
 ) -> Result<(), Denial>
     requires world { HasWorld (F.state store.old) }
-    requires short { length names.now ≤ 1024 }
+    requires short { length names.now ≤ PATH_MAX }
     requires leads { InWorld (F.state store.old)
         (λ w. (n : ℕ) × (walked w.rows cred.now 1 0 root names.now ≡ Ok n)) }
     ensures apart { OnOk result (InWorld (F.state store.old)
@@ -121,7 +124,7 @@ fn judge_way<F: FileStore>(
         }))) }
     ensures state { F.state store.new ≡ F.state store.old }
 {
-    let mut dir = ROOT;
+    let mut dir = ROOT_INODE;
     for (at, name) in names.iter().enumerate() {
         if dir == number {
             return Err(denial(Rule::IsNotBeneathItself, 1, at as u32));
@@ -173,7 +176,7 @@ fn put_blocks<F: FileStore>(
     room: &Room,
 ) -> Result<(), StoreRefusal>
     requires old { IsBlockOf (F.state store.old).content old_dir taken.now }
-    requires old_within { taken.now.off + 512 ≤ length
+    requires old_within { taken.now.off + BLOCK_SIZE ≤ length
         (bytes_of (F.state store.old).content old_dir) }
     requires new { IsBlockOf (F.state store.old).content dir room.now }
     ensures { ChangesTo (F.state store.old)
