@@ -99,4 +99,3 @@ kept-append (c ∷ calls) [] call answer h = absurd (omega (arith, h))
 kept-append (c ∷ calls) (a ∷ answers) call answer h =
     ap (λ l. kept_entry c.session c.cred c.request a ++ l) (kept-append calls answers call answer (omega (arith, h)))
     ∙ sym (append_assoc (kept_entry c.session c.cred c.request a) (kept calls answers) (kept_entry call.session call.cred call.request answer))
-
