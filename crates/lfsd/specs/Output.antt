@@ -14,6 +14,18 @@ use Rattle.lfs_text.specs.Plans.{plan_of}
 use Rattle.lfs_text.specs.ReportText.{report_text}
 use Rattle.lfs_text.specs.declared.plan.Act.TheVariants.{User}
 use Rattle.lfs_text.specs.declared.plan.Step.{Step}
+use Rattle.lfsd.specs.declared.fault.LinesFault.{LinesFault}
+use Rattle.lfsd.specs.declared.fault.LinesFault.TheVariants.{Read, TooLong, Script, CleanerLine, Format, Memory, Write}
+
+-- a fault of a run that may have written: memory ran out, or a write failed
+abbrev pub MayHaveWritten : LinesFault → Type 0
+MayHaveWritten Read = ⊥
+MayHaveWritten TooLong = ⊥
+MayHaveWritten (Script fault) = ⊥
+MayHaveWritten CleanerLine = ⊥
+MayHaveWritten (Format fault) = ⊥
+MayHaveWritten Memory = Unit {0}
+MayHaveWritten Write = Unit {0}
 
 -- the step of a user's call
 abbrev pub step_of : Call → Step

@@ -1,8 +1,8 @@
 //! What a run prints: collected, and written in large pieces.
 
-ghost use Rattle.std.specs.Prelude.{◌≡◌, ◌++◌, [], length, OnOk};
+ghost use Rattle.std.specs.Prelude.{◌≡◌, ◌++◌, [], length, IfErr, OnOk};
 ghost use Rattle.std.specs.Io.KnownBytes.{Appends, Keeps, append_known};
-ghost use Rattle.lfsd.specs.Output.{lines_text};
+ghost use Rattle.lfsd.specs.Output.{MayHaveWritten, lines_text};
 
 use crate::fault::LinesFault;
 use lfs_text::print::append_answer;
@@ -20,8 +20,9 @@ pub fn print_answers<W: Write>(
     answers: &[Answer],
 ) -> Result<(), LinesFault>
     requires { length sessions.now ≡ length answers.now }
-    ensures { OnOk result (Appends (append_known (W.contents writer.old) text.old.items)
+    ensures written { OnOk result (Appends (append_known (W.contents writer.old) text.old.items)
         (append_known (W.contents writer.new) text.new.items) (lines_text sessions.now answers.now)) }
+    ensures fault { IfErr result MayHaveWritten }
 {
     for k in 0..answers.len() {
         append_answer(text, sessions[k], &answers[k])?;
@@ -32,8 +33,9 @@ pub fn print_answers<W: Write>(
 
 /// Writes a text once it is a piece, and empties it.
 fn write_full<W: Write>(writer: &mut W, text: &mut Vec<u8>) -> Result<(), LinesFault>
-    ensures { OnOk result (Keeps (append_known (W.contents writer.old) text.old.items)
+    ensures written { OnOk result (Keeps (append_known (W.contents writer.old) text.old.items)
         (append_known (W.contents writer.new) text.new.items)) }
+    ensures fault { IfErr result MayHaveWritten }
 {
     if text.len() >= PIECE {
         write_text(writer, text.as_slice())?;
@@ -44,7 +46,8 @@ fn write_full<W: Write>(writer: &mut W, text: &mut Vec<u8>) -> Result<(), LinesF
 
 /// Writes a text whole.
 pub fn write_text<W: Write>(writer: &mut W, text: &[u8]) -> Result<(), LinesFault>
-    ensures { OnOk result (Appends (W.contents writer.old) (W.contents writer.new) text.now) }
+    ensures written { OnOk result (Appends (W.contents writer.old) (W.contents writer.new) text.now) }
+    ensures fault { IfErr result MayHaveWritten }
 {
     match writer.write_all(text) {
         Ok(()) => Ok(()),
@@ -54,7 +57,8 @@ pub fn write_text<W: Write>(writer: &mut W, text: &[u8]) -> Result<(), LinesFaul
 
 /// Lets a writer hand on what it still holds.
 pub fn flush<W: Write>(writer: &mut W) -> Result<(), LinesFault>
-    ensures { OnOk result (Keeps (W.contents writer.old) (W.contents writer.new)) }
+    ensures written { OnOk result (Keeps (W.contents writer.old) (W.contents writer.new)) }
+    ensures fault { IfErr result MayHaveWritten }
 {
     match writer.flush() {
         Ok(()) => Ok(()),

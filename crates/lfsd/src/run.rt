@@ -1,11 +1,11 @@
 //! Running a script.
 
-ghost use Rattle.std.specs.Prelude.{◌≡◌, ◌<◌, ◌^◌, ℕ, List, [], Ok, length, map, IfOk, IfSome, OnOk};
-ghost use Rattle.std.specs.Io.KnownBytes.{Appends};
+ghost use Rattle.std.specs.Prelude.{◌≡◌, ◌<◌, ◌^◌, ℕ, List, [], Ok, length, map, IfErr, IfOk, IfSome, OnOk};
+ghost use Rattle.std.specs.Io.KnownBytes.{Appends, Keeps};
 ghost use Rattle.lfs_flatfiles.specs.FlatFiles.{opening_state};
 ghost use Rattle.lfs_text.specs.PlanTypes.{Planned};
 ghost use Rattle.lfs_text.specs.Plans.{plan_of};
-ghost use Rattle.lfsd.specs.Output.{IsOutput, IsRun, step_of};
+ghost use Rattle.lfsd.specs.Output.{IsOutput, IsRun, MayHaveWritten, step_of};
 
 use crate::fault::LinesFault;
 use crate::output::{flush, print_answers, write_text};
@@ -28,9 +28,11 @@ pub fn run_lines<R: Read, W: Write>(
     writer: &mut W,
     params: Params,
 ) -> Result<(), LinesFault>
-    ensures { OnOk result (IfSome (R.remaining reader.old) (λ script. (text : List ℕ)
+    ensures written { OnOk result (IfSome (R.remaining reader.old) (λ script. (text : List ℕ)
         × IsOutput script params.inodes params.journal text
         × Appends (W.contents writer.old) (W.contents writer.new) text)) }
+    ensures unwritten { IfErr result (λ fault. (MayHaveWritten fault → ⊥)
+        → Keeps (W.contents writer.old) (W.contents writer.new)) }
 {
     let script = read_script(alloc, reader)?;
     let calls = calls_of(alloc, script.as_slice())?;
@@ -77,9 +79,10 @@ fn run_calls<F: FileStore + Drop, W: Write>(
     writer: &mut W,
 ) -> Result<(), LinesFault>
     requires { volume.old.journal ≡ [] }
-    ensures { OnOk result ((text : List ℕ)
+    ensures written { OnOk result ((text : List ℕ)
         × IsRun volume.old.limit (F.state volume.old.store) calls.items text
         × Appends (W.contents writer.old) (W.contents writer.new) text) }
+    ensures fault { IfErr result MayHaveWritten }
 {
     let sessions = sessions_of(alloc, calls.as_slice())?;
     let Ok(answers) = volume.run(calls) else {
