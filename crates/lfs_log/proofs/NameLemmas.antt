@@ -1,5 +1,5 @@
 -- What the log names at a place, as the log is written and a segment is opened.
-use Rattle.std.proofs.Common.{◌≡◌, ◌≢◌, ℕ, ◌+◌, ◌*◌, ◌/◌, ◌%◌, ◌<◌, ◌≤◌, inl, inr, List, Some, None, option_and_then, length, subst, refl, sym, ap, ◌∙◌, ⊎_elim, arith}
+use Rattle.std.proofs.Common.{◌≡◌, ◌≢◌, ℕ, ◌+◌, ◌*◌, ◌/◌, ◌%◌, ◌<◌, ◌≤◌, inl, inr, List, Some, None, option_and_then, length, refl, ap, ◌∙◌, ⊎_elim, arith}
 use Rattle.std.proofs.lemmas.Bool.{cases_eq, cases_lt}
 use Rattle.lfs_segments.specs.Log.{Extends, IsOlder, entry_at}
 use Rattle.lfs_segments.specs.Memory.{IsLaidOut, SegmentMemory, block_at, next_address, opened, room_of}
@@ -14,9 +14,9 @@ use Rattle.lfs_segments.specs.declared.entry.SummaryEntry.{SummaryEntry}
 use Rattle.lfs_segments.specs.declared.entry.LogicalBlock.TheVariants.{Inodes}
 use Rattle.lfs_log.specs.Names.{named_at, record_at, record_in}
 use Rattle.lfs_ifile.specs.declared.segment.SegState.TheVariants.{Clean}
-use Rattle.lfs_ifile.specs.Tables.{IsIfile, Tables, row_of}
+use Rattle.lfs_ifile.specs.Tables.{Tables, row_of}
 use Rattle.lfs_segments.proofs.MemoryLemmas.{log_start-le}
-use Rattle.lfs_log.specs.Parts.{IsParts, LogParts, clean_count, live_of, log_state, opened_parts, state_of}
+use Rattle.lfs_log.specs.Parts.{IsParts, LogParts, live_of, log_state, opened_parts, state_of}
 use Rattle.lfs_log.proofs.PartsLemmas.{opened_active, opened_dirty, opened_other, opened_some}
 
 -- The owner of a place rests on the entry and the block of its address.
@@ -79,18 +79,6 @@ Writes-extended p q at h room extends tables clean next = record {
   next = next;
   room = omega arith;
   owners = λ place written. named_at-extended p.memory q.memory place extends (written_older p.memory place h.laid_out written);
-}
-
--- and the parts are as well formed as they were
-pub IsParts-written : (p q : LogParts) → IsParts p → IsLaidOut q.memory → q.memory.segments ≡ p.memory.segments → q.memory.active ≡ p.memory.active → q.tables ≡ p.tables → q.clean ≡ p.clean → IsParts q
-IsParts-written p q h laid segments active tables clean = record {
-  laid_out = laid;
-  formed = subst IsIfile (sym tables) h.formed;
-  agree = ap (λ (t : Tables). length t.live) tables ∙ h.agree ∙ sym segments;
-  is_active = ap (λ (t : Tables). state_of t q.memory.active) tables ∙ ap (state_of p.tables) active ∙ h.is_active;
-  no_other = λ s below is.
-      h.no_other s (subst (λ n. s < n) segments below) (sym (ap (λ (t : Tables). state_of t s) tables) ∙ is) ∙ sym active;
-  counted = clean ∙ h.counted ∙ ap (λ (t : Tables). clean_count t p.memory.segments) (sym tables) ∙ ap (clean_count q.tables) (sym segments);
 }
 
 -- Where the log has an entry for an address, it names the units of the block there as the entry says.

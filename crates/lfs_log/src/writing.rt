@@ -21,8 +21,10 @@ use lfs_types::block::Block;
 
 /// The first clean segment, if one is clean.
 fn first_clean(ifile: &Ifile) -> Option<u32>
-    ensures found { IfSome result (λ segment. segment < length ifile.now.live × (state_of ifile.now segment ≡ Clean)) }
-    ensures none { IfNone result ((s : ℕ) → s < length ifile.now.live → state_of ifile.now s ≢ Clean) }
+    ensures found { IfSome result (λ segment.
+        segment < length ifile.now.live × (state_of ifile.now segment ≡ Clean)) }
+    ensures none { IfNone result
+        ((s : ℕ) → s < length ifile.now.live → state_of ifile.now s ≢ Clean) }
 {
     for segment in 0..ifile.segments() {
         if ifile.usage(segment).state == SegState::Clean {
