@@ -113,11 +113,14 @@ fn what_is_put_is_found(rt: HostRuntime) -> Result<(), Fail> {
     let mut log = Log::format(rt.alloc(), 6, 16)?;
     assert_eq!(rt; log.room(), 63);
     assert_eq!(rt; log.begin(&entries()), 1);
-    for (address, block) in [(2, [7; 512]), (3, [8; 512]), (4, packed(&three()))] {
+    for (address, block) in [(2, [7; 512]), (3, [8; 512])] {
         assert!(rt; log.room() > 0);
         assert_eq!(rt; log.put(&block), address);
         assert_eq!(rt; *log.block(address), block);
     }
+    assert!(rt; log.room() > 0);
+    assert_eq!(rt; log.put_inodes(&three()), 4);
+    assert_eq!(rt; *log.block(4), packed(&three()));
     assert_eq!(rt; log.next_address(), 5);
     assert_eq!(rt;
         log.infos(0).items(),
