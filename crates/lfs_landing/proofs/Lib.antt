@@ -5,3 +5,4 @@ pub mod ReadLemmas
 pub mod ViewLemmas
 pub mod StagingLemmas
 pub mod WaitingLemmas
+pub mod KeptLemmas

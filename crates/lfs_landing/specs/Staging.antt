@@ -1,10 +1,9 @@
 -- What waits in the middle of a call, and how it grows.
 use Rattle.std.specs.Prelude.{◌≡◌, ◌≢◌, ◌⊎◌, ℕ, ◌+◌, ◌*◌, ◌<◌, ◌≤◌, List, [], ◌∷◌, length, Some, IsSome, slice_index, true}
 use Rattle.lfs_types.specs.declared.block.TheConstants.{BLOCK_SIZE}
-use Rattle.lfs_types.specs.declared.limits.TheConstants.{FILE_BLOCKS}
 use Rattle.lfs_ifile.specs.Tables.{row_of}
 use Rattle.lfs_inodes.specs.declared.inode.Inode.{Inode}
-use Rattle.lfs_inodes.specs.Reading.{Fields, fields_of}
+use Rattle.lfs_inodes.specs.Reading.{fields_of}
 use Rattle.lfs_cache.specs.declared.key.Key.{Key}
 use Rattle.lfs_cache.specs.declared.cache.TheConstants.{LOCKED_LIMIT}
 use Rattle.lfs_cache.specs.Changes.{IsContents}
@@ -20,7 +19,7 @@ use Rattle.lfs_landing.specs.declared.parts.TheConstants.{WAITING_LIMIT}
 use Rattle.lfs_landing.specs.declared.parts.Parts.{Parts}
 use Rattle.lfs_landing.specs.Keys.{log_state}
 use Rattle.lfs_landing.specs.Store.{AreFiles}
-use Rattle.lfs_landing.specs.View.{key_of, record_of, tree_of, version_of, waiting_in}
+use Rattle.lfs_landing.specs.View.{LiesIn, blocks_of, key_of, record_of, tree_of, version_of, waiting_in}
 use Rattle.lfs_landing.specs.Waiting.{AreOnce, without}
 
 -- Where a block waits, its parents do: the record of its number, and for a data block past the direct ones the single
@@ -76,17 +75,29 @@ pub record HasParents (p : Parts) (number index : ℕ) : Type 0 where
   pub record_waits : IsSome (waiting_in p.waiting.items number)
   pub single_waits : DIRECT_BLOCKS ≤ index → IsLocked (key_of number (version_of p number) 1) p.cache
 
--- bytes may wait for a data block of a number: the number is in use, there is room, and past the size they are zeros
-pub record MayStage (p : Parts) (number index : ℕ) (bytes : List ℕ) : Type 0 where
+-- A data block of the file with this record may wait: it is the record of a number in use, and there is room.
+pub record MayStage (p : Parts) (v : Inode) : Type 0 where
   pub files : AreFiles p
   pub parents : ParentsWait p
-  pub in_range : number < length p.log.tables.rows
-  pub in_use : (row_of p.log.tables number).used ≡ true
-  pub can : index < FILE_BLOCKS
-  pub records : length (without number p.waiting.items) < WAITING_LIMIT
+  pub inside : LiesIn (blocks_of p) (tree_of p v.number)
+  pub in_range : v.number < length p.log.tables.rows
+  pub in_use : (row_of p.log.tables v.number).used ≡ true
+  pub here : record_of p v.number ≡ Some (fields_of v)
+  pub records : length (without v.number p.waiting.items) < WAITING_LIMIT
   pub frames : length p.cache.locked + 2 ≤ LOCKED_LIMIT
-  pub zeros : (f : Fields) (k : ℕ) → record_of p number ≡ Some f → k < BLOCK_SIZE
-      → f.attributes.size ≤ BLOCK_SIZE * index + k → slice_index bytes k ≡ 0
+
+-- some bytes may be data block `index` of a file of this size: they are zeros past it
+abbrev pub IsZeroPast : ℕ → ℕ → List ℕ → Type 0
+IsZeroPast size index bytes = (k : ℕ) → k < BLOCK_SIZE → size ≤ BLOCK_SIZE * index + k → slice_index bytes k ≡ 0
+
+-- The parents of a data block of a number wait, with what they had, and each file is what it was.
+pub record StagesParents (number index : ℕ) (old new : Parts) : Type 0 where
+  pub same : SameFiles old new
+  pub files : AreFiles new
+  pub parents : ParentsWait new
+  pub waits : HasParents new number index
+  pub once : AreOnce old.waiting.items → AreOnce new.waiting.items
+  pub frames : length new.cache.locked ≤ length old.cache.locked + 1
 
 -- Bytes wait for a data block of a number: it reads as these bytes, and every other data block, every record and every
 -- address is what it was.

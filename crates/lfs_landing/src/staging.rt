@@ -1,15 +1,18 @@
 //! Staging: what a call changes waits over the log, with its parents, until it is written.
 
-ghost use Rattle.std.specs.Prelude.{◌≡◌, ◌≢◌, ◌<◌, ◌≤◌, ◌+◌, ◌⊎◌, ℕ, length, true, vec_capacity};
+ghost use Rattle.std.specs.Prelude.{◌≡◌, ◌≢◌, ◌<◌, ◌≤◌, ◌⊎◌, ℕ, Some, length, true, vec_capacity};
 ghost use Rattle.lfs_types.specs.declared.limits.TheConstants.{FILE_BLOCKS};
 ghost use Rattle.lfs_ifile.specs.Tables.{row_of};
 ghost use Rattle.lfs_inodes.specs.Reading.{fields_of};
 ghost use Rattle.lfs_cache.specs.declared.cache.TheConstants.{LOCKED_LIMIT};
 ghost use Rattle.lfs_cache.specs.Contents.{IsLocked};
-ghost use Rattle.lfs_ways.specs.Blocks.{IsFileBlock, code_of};
+ghost use Rattle.lfs_ways.specs.declared.blocks.FileBlock.TheVariants.{Single};
+ghost use Rattle.lfs_ways.specs.Blocks.{IsFileBlock, code_of, way_to};
+ghost use Rattle.lfs_ways.specs.Reading.{read};
 ghost use Rattle.lfs_landing.specs.declared.parts.TheConstants.{WAITING_LIMIT};
-ghost use Rattle.lfs_landing.specs.Staging.{HasParents, IsStaged, MayStage, SameFiles, StagesBlock, StagesData, StagesRecord};
-ghost use Rattle.lfs_landing.specs.View.{IsReadable, key_of, version_of};
+ghost use Rattle.lfs_landing.specs.Staging.{IsStaged, IsZeroPast, MayStage, StagesBlock, StagesData, StagesParents, StagesRecord};
+ghost use Rattle.lfs_landing.specs.Store.{AreFiles};
+ghost use Rattle.lfs_landing.specs.View.{IsReadable, LiesIn, blocks_of, key_of, record_of, tree_of, version_of};
 ghost use Rattle.lfs_landing.specs.Waiting.{without};
 
 use crate::parts::Parts;
@@ -46,5 +49,43 @@ impl Parts {
             lbn: block.code(),
         };
         self.cache.write(key, bytes);
+    }
+
+    /// Has bytes wait for a data block of a file, and its parents too.
+    pub fn stage_data(&mut self, inode: &Inode, index: u32, bytes: &Block)
+        requires may { MayStage self.old inode.now }
+        requires block { index < FILE_BLOCKS }
+        requires zeros { IsZeroPast inode.now.size index bytes.now }
+        ensures staged { StagesData inode.now.number index bytes.now self.old self.new }
+        // What holds in the middle of a call is kept.
+        ensures kept { (spare : ℕ) → IsStaged self.old spare → IsStaged self.new spare }
+    {
+        self.stage_parents(inode, index);
+        self.stage_block(inode, FileBlock::Data(index), bytes);
+    }
+
+    /// Has the parents of a data block wait, with what they have: the record of the file, and for a
+    /// data block past the direct ones the single indirect block.
+    fn stage_parents(&mut self, inode: &Inode, index: u32)
+        requires { MayStage self.old inode.now }
+        ensures { StagesParents inode.now.number index self.old self.new }
+    {
+        self.stage_record(*inode);
+        if index >= DIRECT_BLOCKS {
+            self.stage_single(inode);
+        }
+    }
+
+    /// Has the single indirect block of a file wait, with what it has.
+    fn stage_single(&mut self, inode: &Inode)
+        requires files { AreFiles self.old }
+        requires inside { LiesIn (blocks_of self.old) (tree_of self.old inode.now.number) }
+        requires here { record_of self.old inode.now.number ≡ Some (fields_of inode.now) }
+        requires room { length self.old.cache.locked < LOCKED_LIMIT }
+        ensures { StagesBlock inode.now.number Single
+            (read (tree_of self.old inode.now.number) (way_to Single)) self.old self.new }
+    {
+        let single = *self.block_of(inode, FileBlock::Single);
+        self.stage_block(inode, FileBlock::Single, &single);
     }
 }
