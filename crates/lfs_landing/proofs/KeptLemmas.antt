@@ -23,6 +23,8 @@ use Rattle.lfs_ways.specs.Log.{IsLog}
 use Rattle.lfs_ways.specs.Pieces.{IsPadded, byte_at}
 use Rattle.lfs_ways.specs.Reading.{SameReadings, Stages, Tree, address, data_block, read}
 use Rattle.lfs_ways.specs.Ways.{IsKnown, code_at, data_way, way_of}
+use Rattle.lfs_ways.specs.Blocks.{IsFileBlock}
+use Rattle.lfs_ways.proofs.BlockLemmas.{code_of-below}
 use Rattle.lfs_ways.proofs.LogLemmas.{written_log}
 use Rattle.lfs_ways.proofs.PlaceLemmas.{data_block-past, data_block-read, data_block-same}
 use Rattle.lfs_ways.proofs.ReadingLemmas.{SameReadings-refl, SameReadings-trans, data_leaf, staged_addresses, staged_bytes, staged_others, staged_same}
@@ -35,7 +37,7 @@ use Rattle.lfs_landing.specs.View.{key_of, record_of, root_in, tree_of, version_
 use Rattle.lfs_landing.specs.Waiting.{AreOnce, without}
 use Rattle.lfs_landing.proofs.KeyLemmas.{place-block, place-record}
 use Rattle.lfs_landing.proofs.StagingLemmas.{record_of-same, version-same}
-use Rattle.lfs_landing.proofs.WaitingLemmas.{all_without, once_staged, waiting-head, waiting-staged}
+use Rattle.lfs_landing.proofs.WaitingLemmas.{all_without, once_staged, without-staged, waiting-head, waiting-staged}
 
 -- the way of a data block
 data_known : (n : ℕ) → n < 140 → IsKnown (data_way n)
@@ -43,6 +45,10 @@ data_known n low = subst IsKnown (way_of-data n) (way_of-known (131 + n) (omega 
 
 single_known : IsKnown (12 ∷ [])
 single_known = subst IsKnown (way_of-code_of Single) (way_of-known 1 (omega arith))
+
+-- the way of a block
+block_known : (block : FileBlock) → IsFileBlock block → IsKnown (way_to block)
+block_known block is = subst IsKnown (way_of-code_of block) (way_of-known (code_of block) (code_of-below block is))
 
 -- who is in use at which version, where the log stays
 pub present_kept : (old new : Parts) (n version : ℕ) → new.log ≡ old.log → IsPresent old n version → IsPresent new n version
@@ -198,6 +204,9 @@ module _ (old new : Parts) (v : Inode) (h : StagesRecord v old new) (has : recor
     singles = λ key locked high. subst (IsLocked (key_of key.ino key.version 1)) (sym h.cache) (parents.singles key (subst (IsLocked key) h.cache locked) high);
   }
 
+  pub record_room : without v.number new.waiting.items ≡ without v.number old.waiting.items
+  record_room = ap (without v.number) h.waiting ∙ without-staged v (without v.number old.waiting.items)
+
   pub record_once : AreOnce old.waiting.items → AreOnce new.waiting.items
   record_once once = subst AreOnce (sym h.waiting) (once_staged v old.waiting.items once)
 
@@ -310,6 +319,7 @@ parents_direct old new v index may h low = record {
   files = record_files old new v h may.here may.files may.in_use;
   parents = record_parents old new v h may.here may.parents;
   waits = record { record_waits = record_waits old new v h may.here; single_waits = λ high. absurd (omega arith) };
+  room = record_room old new v h may.here;
   once = record_once old new v h may.here;
   frames = let same : length new.cache.locked ≡ length old.cache.locked = ap (λ (s : Contents). length s.locked) h.cache in omega arith;
 }
@@ -333,6 +343,7 @@ parents_single old between new v index may h b =
         record_waits = ap (λ vs. is_some (waiting_in vs v.number)) b.waiting ∙ waits;
         single_waits = λ high. subst (λ n. IsLocked (key_of v.number n 1) new.cache) (sym (version-same between new v.number b.log)) b.frames.here;
       };
+      room = ap (without v.number) b.waiting ∙ record_room old between v h may.here;
       once = λ once. subst AreOnce (sym b.waiting) (record_once old between v h may.here once);
       frames =
           let same : length between.cache.locked ≡ length old.cache.locked = ap (λ (s : Contents). length s.locked) h.cache in
@@ -354,18 +365,38 @@ staged_data old between new number index bytes low h b = record {
   frames = let more = b.frames.one_more in let first = h.frames in omega arith;
 }
 
-pub data_kept : (old between new : Parts) (v : Inode) (index : ℕ) (bytes : List ℕ) → index < 140 → MayStage old v → StagesParents v.number index old between
-    → StagesBlock v.number (Data index) bytes between new → length bytes ≡ 512 → IsZeroPast v.size index bytes
-    → (spare : ℕ) → IsStaged old spare → IsStaged new spare
-data_kept old between new v index bytes low may h b whole zeros spare staged =
+-- another block of the file may wait
+pub data_again : (old between new : Parts) (v : Inode) (index : ℕ) (bytes : List ℕ) → index < 140 → MayStage old v → StagesParents v.number index old between
+    → StagesBlock v.number (Data index) bytes between new → length bytes ≡ 512 → IsZeroPast v.size index bytes → MayStage new v
+data_again old between new v index bytes low may h b whole zeros =
     let present = present_kept old between v.number v.version h.same.log (may_present old v may) in
     let at : IsPresent between v.number (version_of between v.number) = record { in_use = present.in_use; at_version = refl } in
-    let addresses = data_addresses between new v.number index bytes low b in
+    let log = b.log ∙ h.same.log in
+    let moved = staged_data old between new v.number index bytes low h b in
     record {
-      whole = block_files between new v.number (Data index) bytes b h.files at (omega arith) (omega arith) addresses
+      files = block_files between new v.number (Data index) bytes b h.files at (omega arith) (omega arith)
+          (data_addresses between new v.number index bytes low b)
           (data_padded between new v.number index bytes low b whole (fields_of v) (h.same.records v.number ∙ may.here) zeros);
-      log = log_kept between new spare b.log addresses
-          (log_kept old between spare h.same.log (λ n way known. (h.same.readings n).addresses way known) staged.log);
       parents = block_parents between new v.number (Data index) bytes b h.parents h.waits.record_waits (λ high. h.waits.single_waits (omega arith));
+      inside = record {
+        each = λ block is.
+            subst (λ n. address (tree_of new v.number) (way_to block) < n) (sym (ap (λ (l : LogParts). l.memory.segments * 64) log))
+            (subst (λ a. a < old.log.memory.segments * 64) (sym (moved.addresses v.number (way_to block) (block_known block is))) (may.inside.each block is));
+      };
+      in_range = subst (λ n. v.number < n) (sym (ap (λ (l : LogParts). length l.tables.rows) log)) may.in_range;
+      in_use = ap (λ (l : LogParts). (row_of l.tables v.number).used) log ∙ may.in_use;
+      here = moved.records v.number ∙ may.here;
+      records = subst (λ (vs : List Inode). length vs < 64) (sym (ap (without v.number) b.waiting ∙ h.room)) may.records;
+    }
+
+pub data_kept : (old between new : Parts) (v : Inode) (index : ℕ) (bytes : List ℕ) → index < 140 → StagesParents v.number index old between
+    → StagesBlock v.number (Data index) bytes between new → MayStage new v
+    → (spare : ℕ) → IsStaged old spare → IsStaged new spare
+data_kept old between new v index bytes low h b again spare staged =
+    let moved = staged_data old between new v.number index bytes low h b in
+    record {
+      whole = again.files;
+      log = log_kept old new spare moved.log moved.addresses staged.log;
+      parents = again.parents;
       once = subst AreOnce (sym b.waiting) (h.once staged.once);
     }

@@ -102,3 +102,8 @@ length-less (v ∷ vs) number waits = elim (cases_eq v.number number) [
       let rest = length-less vs number (subst IsSome (waiting-tail v vs number ne) waits) in
       omega arith
 ]
+
+-- the others, where a record was put first
+pub without-staged : (v : Inode) (vs : List Inode) → without v.number (v ∷ vs) ≡ vs
+unfolding without
+without-staged v vs = cond-true _ _ _ (eq-eqb v.number v.number refl)

@@ -5,7 +5,6 @@ use Rattle.lfs_ifile.specs.Tables.{row_of}
 use Rattle.lfs_inodes.specs.declared.inode.Inode.{Inode}
 use Rattle.lfs_inodes.specs.Reading.{fields_of}
 use Rattle.lfs_cache.specs.declared.key.Key.{Key}
-use Rattle.lfs_cache.specs.declared.cache.TheConstants.{LOCKED_LIMIT}
 use Rattle.lfs_cache.specs.Changes.{IsContents}
 use Rattle.lfs_cache.specs.Contents.{IsLocked}
 use Rattle.lfs_ways.specs.declared.blocks.TheConstants.{DIRECT_BLOCKS, FIRST_DATA_CODE}
@@ -75,7 +74,7 @@ pub record HasParents (p : Parts) (number index : ℕ) : Type 0 where
   pub record_waits : IsSome (waiting_in p.waiting.items number)
   pub single_waits : DIRECT_BLOCKS ≤ index → IsLocked (key_of number (version_of p number) 1) p.cache
 
--- A data block of the file with this record may wait: it is the record of a number in use, and there is room.
+-- A data block of the file with this record may wait: it is the record of a number in use, and there is room for it.
 pub record MayStage (p : Parts) (v : Inode) : Type 0 where
   pub files : AreFiles p
   pub parents : ParentsWait p
@@ -84,7 +83,6 @@ pub record MayStage (p : Parts) (v : Inode) : Type 0 where
   pub in_use : (row_of p.log.tables v.number).used ≡ true
   pub here : record_of p v.number ≡ Some (fields_of v)
   pub records : length (without v.number p.waiting.items) < WAITING_LIMIT
-  pub frames : length p.cache.locked + 2 ≤ LOCKED_LIMIT
 
 -- some bytes may be data block `index` of a file of this size: they are zeros past it
 abbrev pub IsZeroPast : ℕ → ℕ → List ℕ → Type 0
@@ -96,6 +94,7 @@ pub record StagesParents (number index : ℕ) (old new : Parts) : Type 0 where
   pub files : AreFiles new
   pub parents : ParentsWait new
   pub waits : HasParents new number index
+  pub room : without number new.waiting.items ≡ without number old.waiting.items
   pub once : AreOnce old.waiting.items → AreOnce new.waiting.items
   pub frames : length new.cache.locked ≤ length old.cache.locked + 1
 

@@ -1,6 +1,6 @@
 //! Staging: what a call changes waits over the log, with its parents, until it is written.
 
-ghost use Rattle.std.specs.Prelude.{◌≡◌, ◌≢◌, ◌<◌, ◌≤◌, ◌⊎◌, ℕ, Some, length, true, vec_capacity};
+ghost use Rattle.std.specs.Prelude.{◌≡◌, ◌≢◌, ◌+◌, ◌<◌, ◌≤◌, ◌⊎◌, ℕ, Some, length, true, vec_capacity};
 ghost use Rattle.lfs_types.specs.declared.limits.TheConstants.{FILE_BLOCKS};
 ghost use Rattle.lfs_ifile.specs.Tables.{row_of};
 ghost use Rattle.lfs_inodes.specs.Reading.{fields_of};
@@ -54,10 +54,12 @@ impl Parts {
     /// Has bytes wait for a data block of a file, and its parents too.
     pub fn stage_data(&mut self, inode: &Inode, index: u32, bytes: &Block)
         requires may { MayStage self.old inode.now }
+        requires room { length self.old.cache.locked + 2 ≤ LOCKED_LIMIT }
         requires block { index < FILE_BLOCKS }
         requires zeros { IsZeroPast inode.now.size index bytes.now }
         ensures staged { StagesData inode.now.number index bytes.now self.old self.new }
-        // What holds in the middle of a call is kept.
+        // Another block of the file may wait, and what holds in the middle of a call is kept.
+        ensures again { MayStage self.new inode.now }
         ensures kept { (spare : ℕ) → IsStaged self.old spare → IsStaged self.new spare }
     {
         self.stage_parents(inode, index);
@@ -67,7 +69,8 @@ impl Parts {
     /// Has the parents of a data block wait, with what they have: the record of the file, and for a
     /// data block past the direct ones the single indirect block.
     fn stage_parents(&mut self, inode: &Inode, index: u32)
-        requires { MayStage self.old inode.now }
+        requires may { MayStage self.old inode.now }
+        requires room { length self.old.cache.locked + 2 ≤ LOCKED_LIMIT }
         ensures { StagesParents inode.now.number index self.old self.new }
     {
         self.stage_record(*inode);
