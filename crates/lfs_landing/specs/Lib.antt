@@ -4,3 +4,5 @@ pub mod Keys
 pub mod Opening
 pub mod Store
 pub mod View
+pub mod Staging
+pub mod Waiting

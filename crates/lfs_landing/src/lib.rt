@@ -7,3 +7,5 @@ mod format;
 pub mod keys;
 pub mod parts;
 pub mod reading;
+pub mod staging;
+mod waiting;
