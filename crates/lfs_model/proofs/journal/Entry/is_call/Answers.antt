@@ -1,4 +1,4 @@
-use Rattle.std.proofs.Common.{◌≡◌, ◌↔◌, IsTrue, true, false, refl, sym, ap, subst, ◌∙◌}
+use Rattle.std.proofs.Common.{sym, ap, ◌∙◌}
 use Rattle.std.proofs.lemmas.Bool.{true≢false}
 use Rattle.lfs_model.specs.declared.journal.Event.TheVariants.{User}
 use Rattle.lfs_model.proofs.EqualityLemmas.{answers_same, callers_same, requests_same, same_answer, same_request}
