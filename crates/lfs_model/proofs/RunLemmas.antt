@@ -1,13 +1,11 @@
 -- The world at the opening, and lists of entries with one more.
-use Rattle.std.proofs.Common.{◌≡◌, ℕ, Bool, List, [], ◌∷◌, ◌++◌, length, ◌↔◌, Some, refl, sym, ap, subst, ◌∙◌, arith, append_assoc}
+use Rattle.std.proofs.Common.{◌≡◌, ℕ, List, [], ◌∷◌, ◌++◌, length, Some, refl, sym, ap, subst, ◌∙◌, arith, append_assoc}
 use Rattle.std.specs.Prelude.{IsSomeAnd, Contains}
 use Rattle.std.proofs.lemmas.List.{append-nil}
 use Rattle.std.specs.FinMap as map
 use Rattle.lfs_types.specs.Shown.{IsList}
 use Rattle.lfs_types.specs.Tree.{File, Row, World, root, fresh_root, opening_content, opening_world}
 use Rattle.lfs_types.specs.declared.answer.Answer.{Answer}
-use Rattle.lfs_types.specs.declared.answer.Answer.TheVariants.{Refused}
-use Rattle.lfs_types.specs.declared.answer.Resource.TheVariants.{NoMemory, JournalFull}
 use Rattle.lfs_types.specs.declared.attrs.Kind.TheVariants.{Directory}
 use Rattle.lfs_types.specs.declared.request.Request.{Request}
 use Rattle.lfs_types.specs.declared.request.Request.TheVariants.{Stat, Read, Write, List as Names, SetLength, Create, Mkdir, Unlink, Rmdir, Rename, Chmod, Chown, Chflags, SetLevel, Sync}
@@ -15,7 +13,7 @@ use Rattle.lfs_model.specs.declared.journal.Call.{Call}
 use Rattle.lfs_model.specs.declared.journal.Entry.{Entry}
 use Rattle.lfs_model.specs.World.{Rows, ancestor, IsTree, IsChild}
 use Rattle.lfs_model.specs.Effects.{answer_of}
-use Rattle.lfs_model.specs.Memory.{IsCopying, MayLackMemory}
+use Rattle.lfs_model.specs.Memory.{IsCopying}
 use Rattle.lfs_model.specs.Runs.{kept, kept_entry}
 use Rattle.lfs_model.specs.Steps.{IsEvent, IsLegal, after_event, world_after}
 use Rattle.lfs_types.proofs.Maps.{get-insert_same, each_inserted, none_at_first}
