@@ -6,7 +6,7 @@ use Rattle.lfs_types.specs.declared.limits.TheConstants.{FILE_BLOCKS}
 use Rattle.lfs_types.specs.declared.block.TheConstants.{BLOCK_SIZE}
 use Rattle.lfs_types.specs.Kinds.{is_directory_kind}
 use Rattle.lfs_types.specs.Splicing.{splice}
-use Rattle.lfs_types.specs.Stored.{shown_attrs}
+use Rattle.lfs_types.specs.Stored.{bytes_of, shown_attrs}
 use Rattle.lfs_types.specs.Tree.{File, Content, root}
 use Rattle.lfs_types.specs.declared.attrs.Kind.{Kind}
 use Rattle.lfs_types.specs.declared.attrs.Kind.TheVariants.{File as Regular, Directory}
@@ -58,3 +58,15 @@ pub record MakesFile (old new : Content) (number : ℕ) (file : File) (dir : ℕ
   pub made : map.get new number ≡ Some file
   pub listed : (f : File) → map.get old dir ≡ Some f → map.get new dir ≡ Some (record f { bytes = splice f.bytes off block })
   pub others : (q : ℕ) → q ≢ number → q ≢ dir → map.get new q ≡ map.get old q
+
+-- A directory's bytes list a new name: its entry stands in the first block where it fits, or else in a new one at the
+-- end, and all other blocks are what they were.
+abbrev pub ListsFirst : List ℕ → List ℕ → List ℕ → Type 0
+ListsFirst old new name =
+    (number : ℕ) × (room : Room) × (k : ℕ) × (IsRoom old number name room k × (new ≡ splice old room.off room.block))
+
+-- the directory of a new path's last name lists it so
+abbrev pub EntersFirst : Content → Content → Rows → List (List ℕ) → Type 0
+EntersFirst old new rows path =
+    let dir = reached rows root (front path) in
+    ListsFirst (bytes_of old dir) (bytes_of new dir) (last path)

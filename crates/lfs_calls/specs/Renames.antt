@@ -7,13 +7,14 @@ use Rattle.lfs_types.specs.Changes.{changed_at}
 use Rattle.lfs_types.specs.Kinds.{is_directory_kind}
 use Rattle.lfs_types.specs.Splicing.{splice}
 use Rattle.lfs_types.specs.Stored.{shown_attrs, bytes_of}
-use Rattle.lfs_types.specs.Tree.{Content}
+use Rattle.lfs_types.specs.Tree.{Content, root}
 use Rattle.lfs_types.specs.declared.attrs.Kind.TheVariants.{Directory}
 use Rattle.lfs_calls.specs.declared.making.Room.{Room}
 use Rattle.lfs_calls.specs.declared.renaming.Move.{Move}
 use Rattle.lfs_calls.specs.declared.renaming.Places.{Places}
 use Rattle.lfs_model.specs.World.{Rows, child}
-use Rattle.lfs_calls.specs.Makes.{IsParent, IsRoom}
+use Rattle.lfs_model.specs.Rules.{front, last, reached}
+use Rattle.lfs_calls.specs.Makes.{IsParent, IsRoom, ListsFirst}
 use Rattle.lfs_calls.specs.Removes.{IsRemoval, HangsAs, IsTaking}
 
 -- the row that a path leads to, and the directory that is to list it at another path, as the store shows them
@@ -51,3 +52,12 @@ name_left move old = if move.removal.dir.number == move.dir.number then Some old
 pub record ArePlaces (c : Content) (move : Move) (old new : List ℕ) (places : Places) : Type 0 where
   pub taking : (k : ℕ) × IsTaking (bytes_of c move.removal.dir.number) old places.taken k
   pub room : (k : ℕ) × IsRoom (bytes_of (block_put move.removal.dir.number places.taken c) move.dir.number) move.removal.file.number new places.room k
+
+-- A Rename's new name stands in the first block of its directory where it fits, once the old name was taken away, or
+-- else in a new one at the end.
+pub record MovesFirst (old new : Content) (rows : Rows) (from to : List (List ℕ)) : Type 0 where
+  pub taken : Room
+  pub takes : (k : ℕ) × IsTaking (bytes_of old (reached rows root (front from))) (last from) taken k
+  pub lists : ListsFirst
+      (bytes_of (block_put (reached rows root (front from)) taken old) (reached rows root (front to)))
+      (bytes_of new (reached rows root (front to))) (last to)

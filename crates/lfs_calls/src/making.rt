@@ -1,6 +1,6 @@
 //! The calls that make a row.
 
-ghost use Rattle.std.specs.Prelude.{◌≡◌, ℕ, [], ◌∷◌, IsSomeAnd, ◌≤◌, ◌+◌, ◌%◌, ◌<◌, IsSome, IfSome, Some, None, length, take, drop, MatchOption};
+ghost use Rattle.std.specs.Prelude.{◌≡◌, ℕ, [], ◌∷◌, IsSomeAnd, ◌≤◌, ◌+◌, ◌%◌, ◌<◌, IsSome, IfSome, Some, None, length, take, drop, MatchOption, OnOk};
 ghost use Rattle.std.specs.FinMap.{get};
 ghost use Rattle.lfs_types.specs.declared.path.TheConstants.{PATH_MAX};
 ghost use Rattle.lfs_types.specs.declared.limits.TheConstants.{FILE_BYTES};
@@ -14,7 +14,7 @@ ghost use Rattle.lfs_model.specs.Rules.{Judges, judged, making, making_tests};
 ghost use Rattle.lfs_calls.specs.Calls.{ChangesTo, IsCall};
 ghost use Rattle.lfs_calls.specs.Volumes.{HasWorld, InWorld};
 ghost use Rattle.lfs_calls.specs.Content.{listed, FitsNowhere, AreBlocks};
-ghost use Rattle.lfs_calls.specs.Makes.{IsParent, request_for, IsRoom, StandsIn, with_block, MakesFile};
+ghost use Rattle.lfs_calls.specs.Makes.{EntersFirst, IsParent, request_for, IsRoom, StandsIn, with_block, MakesFile};
 
 use crate::directory::{child_of, read_block};
 use crate::halt::Halt;
@@ -196,8 +196,10 @@ pub fn create<F: FileStore>(
     mode: Mode,
 ) -> Result<Served, Halt>
     requires { HasWorld (F.state store.old) }
-    ensures { IsCall (F.state store.old) (F.state store.new) cred.now (Request.Create path.now mode)
+    ensures call { IsCall (F.state store.old) (F.state store.new) cred.now (Request.Create path.now mode)
         result }
+    ensures place { OnOk result (InWorld (F.state store.old) (λ w.
+        EntersFirst (F.state store.old).content (F.state store.new).content w.rows path.now)) }
 {
     make(store, cred, path, Kind::File, mode)
 }
@@ -210,8 +212,10 @@ pub fn mkdir<F: FileStore>(
     mode: Mode,
 ) -> Result<Served, Halt>
     requires { HasWorld (F.state store.old) }
-    ensures { IsCall (F.state store.old) (F.state store.new) cred.now (Request.Mkdir path.now mode)
+    ensures call { IsCall (F.state store.old) (F.state store.new) cred.now (Request.Mkdir path.now mode)
         result }
+    ensures place { OnOk result (InWorld (F.state store.old) (λ w.
+        EntersFirst (F.state store.old).content (F.state store.new).content w.rows path.now)) }
 {
     make(store, cred, path, Kind::Directory, mode)
 }
@@ -225,8 +229,10 @@ fn make<F: FileStore>(
     mode: Mode,
 ) -> Result<Served, Halt>
     requires { HasWorld (F.state store.old) }
-    ensures { IsCall (F.state store.old) (F.state store.new) cred.now (request_for kind path.now mode)
+    ensures call { IsCall (F.state store.old) (F.state store.new) cred.now (request_for kind path.now mode)
         result }
+    ensures place { OnOk result (InWorld (F.state store.old) (λ w.
+        EntersFirst (F.state store.old).content (F.state store.new).content w.rows path.now)) }
 {
     let names = path.names();
     let dir = judge_make(store, cred, 0, names)?;

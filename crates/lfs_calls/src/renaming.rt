@@ -11,7 +11,7 @@ ghost use Rattle.lfs_calls.specs.Calls.{ChangesTo, IsCall};
 ghost use Rattle.lfs_calls.specs.Volumes.{HasWorld, InWorld, IsVolume};
 ghost use Rattle.lfs_calls.specs.Content.{FitsNowhere};
 ghost use Rattle.lfs_model.specs.Walks.{is_on_way};
-ghost use Rattle.lfs_calls.specs.Renames.{IsMove, GoesTo, name_left, ArePlaces, IsBlockOf, WritesBlocks};
+ghost use Rattle.lfs_calls.specs.Renames.{IsMove, GoesTo, MovesFirst, name_left, ArePlaces, IsBlockOf, WritesBlocks};
 ghost use Rattle.lfs_model.specs.Walks.{walked};
 
 use crate::halt::Halt;
@@ -207,9 +207,11 @@ pub fn rename<F: FileStore>(
     to: &Path,
 ) -> Result<Served, Halt>
     requires { HasWorld (F.state store.old) }
-    ensures { IsCall (F.state store.old) (F.state store.new) cred.now
+    ensures call { IsCall (F.state store.old) (F.state store.new) cred.now
         (Request.Rename from.now to.now)
         result }
+    ensures place { OnOk result (InWorld (F.state store.old) (λ w.
+        MovesFirst (F.state store.old).content (F.state store.new).content w.rows from.now to.now)) }
 {
     let (from, to) = (from.names(), to.names());
     let planned = judge_rename(store, cred, from, to)?;

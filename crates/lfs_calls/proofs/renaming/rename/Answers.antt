@@ -12,7 +12,7 @@ use Rattle.lfs_calls.specs.declared.renaming.Places.{Places}
 use Rattle.lfs_model.specs.Rules.{Judges, decide, last, rule_table}
 use Rattle.lfs_calls.specs.Content.{FitsNowhere}
 use Rattle.lfs_calls.specs.Renames.{IsMove, GoesTo, ArePlaces, IsBlockOf, name_left}
-use Rattle.lfs_calls.proofs.RenameEffects.{goes, fills, crowds, not_full, old_block, new_block, shows_after, tree_after}
+use Rattle.lfs_calls.proofs.RenameEffects.{moves_first, goes, fills, crowds, not_full, old_block, new_block, shows_after, tree_after}
 use Rattle.lfs_calls.proofs.WriteLemmas.{refused_outcome}
 use Rattle.lfs_calls.proofs.renaming.rename.Goals as goal
 use Rattle.lfs_calls.proofs.renaming.rename.Goals.{After-last_name-new}
@@ -94,43 +94,50 @@ put_blocks-requires-clause-new g c =
     subst (λ x. IsBlockOf x c.in_ok-planned.planned.dir.number c.in-Some.places.room) (sym ((same_content c.find_places.ensures.state) ∙ (same_content c.judge_rename.ensures.state)))
     (new_block t.1.shows t.1.tree c.args.cred.now (move g k t.0 t.1) (places_are g k _ c.in-Some.ensures.places))
 
-pub returns-in_err-planned : goal.returns-in_err-planned
-returns-in_err-planned g c level =
+pub returns-in_err-planned-clause-call : goal.returns-in_err-planned-clause-call
+returns-in_err-planned-clause-call g c level =
     let p = err_from_is_err_and c.from_residual.result c.from_residual.ensures.1 in
     rw (p.1, p.2) (denied level c.judge_rename.ensures.state c.in_err-planned.field-0.0 (λ w v at_level.
     subst (λ names. decide w c.args.cred.now (Rename names c.args.to.now) ≡ Some c.in_err-planned.field-0.0) c.names-from.ensures.value
     (subst (λ names. decide w c.args.cred.now (Rename c.names-from.result.now names) ≡ Some c.in_err-planned.field-0.0) c.names-to.ensures.value (c.in_err-planned.ensures.judge w v))))
 
-pub returns-in_default : goal.returns-in_default
-returns-in_default g c level = lacking level (c.find_places.ensures.state ∙ c.judge_rename.ensures.state) DirectoryFull (λ w v at_level.
-    let k = (goal.at.returns-in_default g c).After-last_name-new in
+pub returns-in_default-clause-call : goal.returns-in_default-clause-call
+returns-in_default-clause-call g c level = lacking level (c.find_places.ensures.state ∙ c.judge_rename.ensures.state) DirectoryFull (λ w v at_level.
+    let k = (goal.at.returns-in_default-clause-call g c).After-last_name-new in
     let is = move g k w v in
     let full = full_is g k c.in_default.ensures.places in
     (((judged_so g k w v).0, (λ none. none, crowds v.shows v.tree c.args.cred.now is full (short g k c.as_bytes.ensures.bounded))), fills v.shows v.tree c.args.cred.now is full))
 
-pub returns-in_err-put_blocks : goal.returns-in_err-put_blocks
-returns-in_err-put_blocks g c level =
+pub returns-in_err-put_blocks-clause-call : goal.returns-in_err-put_blocks-clause-call
+returns-in_err-put_blocks-clause-call g c level =
     let p = err_from_is_err_and c.from_residual-in_err-put_blocks.result c.from_residual-in_err-put_blocks.ensures.1 in
     rw (p.1, p.2) (refused_so level (c.find_places.ensures.state ∙ c.judge_rename.ensures.state) c.in_err-put_blocks.field-0.0 tt (λ w v at_level.
-    let k = (goal.at.returns-in_err-put_blocks g c).After-last_name-new in
+    let k = (goal.at.returns-in_err-put_blocks-clause-call g c).After-last_name-new in
     let is = move g k w v in
     refused_outcome (g.F.FileStore.state c.args.store.now) w c.args.cred.now (Rename c.args.from.now c.args.to.now) c.in_err-put_blocks.field-0.0
     (subst (λ s. MayRefuse s.clean s.shape.can_lack_memory c.in_err-put_blocks.field-0.0) (c.find_places.ensures.state ∙ c.judge_rename.ensures.state) c.in_err-put_blocks.ensures.refused)
     (judged_so g k w v).0 (λ none. none) tt (not_full v.shows v.tree c.args.cred.now is (places_are g k _ c.in-Some.ensures.places))) c.in_err-put_blocks.ensures)
 
-pub returns : goal.returns
-returns g c level = done_so level (c.find_places.ensures.state ∙ c.judge_rename.ensures.state) tt
+pub returns-clause-call : goal.returns-clause-call
+returns-clause-call g c level = done_so level (c.find_places.ensures.state ∙ c.judge_rename.ensures.state) tt
     (λ w v at_level.
-    let k = (goal.at.returns g c).After-last_name-new in
+    let k = (goal.at.returns-clause-call g c).After-last_name-new in
     let is = move g k w v in
     (((judged_so g k w v).0, λ none. none, refl), not_full v.shows v.tree c.args.cred.now is (places_are g k _ c.in-Some.ensures.places)))
     (λ w v. record {
       shows =
-          let k = (goal.at.returns g c).After-last_name-new in
+          let k = (goal.at.returns-clause-call g c).After-last_name-new in
           shows_after v.shows v.tree c.args.cred.now (move g k w v) (places_are g k _ c.in-Some.ensures.places) (g.F.FileStore.state c.args.store.now).shape.numbers
           (g.F.FileStore.state c.find_places.new.store).content (g.F.FileStore.state c.put_blocks.new.store).content ((same_content c.find_places.ensures.state) ∙ (same_content c.judge_rename.ensures.state)) c.in_ok-put_blocks.ensures.ok;
       tree =
-          let k = (goal.at.returns g c).After-last_name-new in
+          let k = (goal.at.returns-clause-call g c).After-last_name-new in
           tree_after v.shows v.tree c.args.cred.now (move g k w v) (judged_so g k w v).0 (g.F.FileStore.state c.args.store.now).shape.numbers;
     })
     c.in_ok-put_blocks.ensures.follows
+
+-- the old name was taken away, and the new one put where there was room first
+pub returns-clause-place : goal.returns-clause-place
+returns-clause-place g c w v =
+    let k = (goal.at.returns-clause-place g c).After-last_name-new in
+    moves_first v.shows v.tree c.args.cred.now (move g k w v) (places_are g k _ c.in-Some.ensures.places)
+    (g.F.FileStore.state c.find_places.new.store).content (g.F.FileStore.state c.put_blocks.new.store).content ((same_content c.find_places.ensures.state) ∙ (same_content c.judge_rename.ensures.state)) c.in_ok-put_blocks.ensures.ok
