@@ -1,5 +1,5 @@
 -- The rules that a call must pass, in order, and the first that fails.
-use Rattle.std.specs.Prelude.{ℕ, ◌+◌, ◌==◌, nat_le, not, ◌||◌, Bool, true, false, List, [], ◌∷◌, ◌++◌, length, Option, None, Some, Result, Ok, Err, is_some, is_none, unwrap_or, if◌then◌else◌}
+use Rattle.std.specs.Prelude.{◌≡◌, ℕ, ◌+◌, ◌==◌, nat_le, not, ◌||◌, Bool, true, false, List, [], ◌∷◌, ◌++◌, length, Option, None, Some, Result, Ok, Err, is_some, is_none, unwrap_or, if◌then◌else◌}
 use Rattle.std.specs.FinMap as map
 use Rattle.std.specs.List.{list_any}
 use Rattle.lfs_types.specs.Caller.{Caller}
@@ -275,3 +275,8 @@ rule_table w caller Sync = []
 -- the denial of a call, or None where the rules allow it
 abbrev pub decide : World → Caller → Request → Option Denial
 decide w caller request = first_failing (rule_table w caller request)
+
+-- Tests were asked in order: the result is the denial of the first that isn't met, or all are met and more is known.
+abbrev pub Judges : {A : Type 0} → List Check → (A → Type 0) → Result A Denial → Type 0
+Judges checks P (Ok x) = (first_failing checks ≡ None) × P x
+Judges checks P (Err denial) = first_failing checks ≡ Some denial
