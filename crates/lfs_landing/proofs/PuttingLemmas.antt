@@ -8,7 +8,7 @@ use Rattle.lfs_ways.specs.Pieces.{IsPadded, IsPut, Touches}
 use Rattle.lfs_ways.specs.Reading.{data_block}
 use Rattle.lfs_ways.proofs.PieceLemmas.{byte_put-after, untouched_put}
 use Rattle.lfs_landing.specs.declared.parts.Parts.{Parts}
-use Rattle.lfs_landing.specs.Putting.{PutsBelow, PutsBlock, PutsBytes}
+use Rattle.lfs_landing.specs.Putting.{PutsBelow, PutsBlock, PutsBytes, blocks_of_put}
 use Rattle.lfs_landing.specs.Staging.{IsStaged, IsZeroPast, MayStage, StagesData}
 use Rattle.lfs_landing.specs.View.{tree_of}
 
@@ -32,6 +32,7 @@ put_one old new v index start bytes before after h is put again kept = record {
   put = subst (λ b. IsPut index start bytes b (data_block (tree_of new v.number) index)) is (subst (IsPut index start bytes before) (sym h.here) put);
   rest = λ m other. h.others v.number m (inr other);
   others = λ n m other. h.others n m (inl other);
+  addresses = h.addresses;
   again = again;
   kept = kept;
   frames = h.frames;
@@ -48,6 +49,7 @@ put_none p v start bytes first may from =
       put = λ m low. untouched_put m start bytes (data_block (tree_of p v.number) m) (padded.whole m) (λ touched. let past = from m touched in omega arith);
       rest = λ m high. refl;
       others = λ n m other. refl;
+      addresses = λ n way known. refl;
       again = may;
       kept = λ spare staged. staged;
     }
@@ -66,14 +68,15 @@ put_more a b c v start bytes index p q = record {
   ];
   rest = λ m high. q.rest m (λ e. omega arith) ∙ p.rest m (omega arith);
   others = λ n m other. q.others n m other ∙ p.others n m other;
+  addresses = λ n way known. q.addresses n way known ∙ p.addresses n way known;
   again = q.again;
   kept = λ spare staged. q.kept spare (p.kept spare staged);
 }
 
 -- all
 pub put_all : (old new : Parts) (v : Inode) (start : ℕ) (bytes : List ℕ) (end : ℕ) → MayStage old v → PutsBelow v start bytes end old new
-    → ((n : ℕ) → Touches start (start + length bytes) n → n < end) → PutsBytes v start bytes old new
-put_all old new v start bytes end may h last =
+    → ((n : ℕ) → Touches start (start + length bytes) n → n < end) → length new.cache.locked ≤ length old.cache.locked + 2 * blocks_of_put start (length bytes) → PutsBytes v start bytes old new
+put_all old new v start bytes end may h last frames =
     let padded = (may.files.files v.number (fields_of v) may.here).padded in
     record {
       log = h.log;
@@ -85,6 +88,8 @@ put_all old new v start bytes end may h last =
             (untouched_put m start bytes (data_block (tree_of old v.number) m) (padded.whole m) (λ touched. let past = last m touched in omega arith))
       ];
       others = h.others;
+      addresses = h.addresses;
       again = h.again;
       kept = h.kept;
+      frames = frames;
     }

@@ -1,5 +1,5 @@
 -- Bytes put into a file.
-use Rattle.std.specs.Prelude.{◌≡◌, ◌≢◌, ℕ, ◌+◌, ◌-◌, ◌/◌, ◌<◌, ◌≤◌, max, List, length, Some, true}
+use Rattle.std.specs.Prelude.{◌≡◌, ◌≢◌, ℕ, ◌+◌, ◌-◌, ◌*◌, ◌/◌, ◌<◌, ◌≤◌, max, List, length, Some, true}
 use Rattle.std.specs.FinMap as map
 use Rattle.lfs_types.specs.Changes.{changed_at}
 use Rattle.lfs_types.specs.Splicing.{splice}
@@ -7,7 +7,8 @@ use Rattle.lfs_types.specs.Tree.{Content}
 use Rattle.lfs_inodes.specs.declared.inode.Inode.{Inode}
 use Rattle.lfs_inodes.specs.Reading.{Fields, fields_of}
 use Rattle.lfs_ways.specs.Pieces.{IsPut}
-use Rattle.lfs_ways.specs.Reading.{data_block}
+use Rattle.lfs_ways.specs.Reading.{address, data_block}
+use Rattle.lfs_ways.specs.Ways.{IsKnown}
 use Rattle.lfs_landing.specs.declared.parts.Parts.{Parts}
 use Rattle.lfs_types.specs.declared.block.TheConstants.{BLOCK_SIZE}
 use Rattle.lfs_types.specs.declared.limits.TheConstants.{FILE_BYTES}
@@ -19,6 +20,10 @@ use Rattle.lfs_landing.specs.Store.{AreFiles}
 use Rattle.lfs_landing.specs.Waiting.{without}
 use Rattle.lfs_landing.specs.View.{LiesIn, blocks_of, record_of, tree_of}
 
+-- how many blocks some bytes at a place of a file fall into, at least one
+abbrev pub blocks_of_put : ℕ → ℕ → ℕ
+blocks_of_put start count = (start + count - 1) / BLOCK_SIZE + 1 - start / BLOCK_SIZE
+
 -- What falls of some bytes, put at `start` of a file, into one of its data blocks is there, and nothing else changed.
 pub record PutsBlock (v : Inode) (index start : ℕ) (bytes : List ℕ) (old new : Parts) : Type 0 where
   pub log : new.log ≡ old.log
@@ -26,6 +31,7 @@ pub record PutsBlock (v : Inode) (index start : ℕ) (bytes : List ℕ) (old new
   pub put : IsPut index start bytes (data_block (tree_of old v.number) index) (data_block (tree_of new v.number) index)
   pub rest : (m : ℕ) → m ≢ index → data_block (tree_of new v.number) m ≡ data_block (tree_of old v.number) m
   pub others : (n m : ℕ) → n ≢ v.number → data_block (tree_of new n) m ≡ data_block (tree_of old n) m
+  pub addresses : (n : ℕ) (way : List ℕ) → IsKnown way → address (tree_of new n) way ≡ address (tree_of old n) way
   pub again : MayStage new v
   pub kept : (spare : ℕ) → IsStaged old spare → IsStaged new spare
   pub frames : length new.cache.locked ≤ length old.cache.locked + 2
@@ -37,6 +43,7 @@ pub record PutsBelow (v : Inode) (start : ℕ) (bytes : List ℕ) (before : ℕ)
   pub put : (m : ℕ) → m < before → IsPut m start bytes (data_block (tree_of old v.number) m) (data_block (tree_of new v.number) m)
   pub rest : (m : ℕ) → before ≤ m → data_block (tree_of new v.number) m ≡ data_block (tree_of old v.number) m
   pub others : (n m : ℕ) → n ≢ v.number → data_block (tree_of new n) m ≡ data_block (tree_of old n) m
+  pub addresses : (n : ℕ) (way : List ℕ) → IsKnown way → address (tree_of new n) way ≡ address (tree_of old n) way
   pub again : MayStage new v
   pub kept : (spare : ℕ) → IsStaged old spare → IsStaged new spare
 
@@ -46,8 +53,10 @@ pub record PutsBytes (v : Inode) (start : ℕ) (bytes : List ℕ) (old new : Par
   pub records : (n : ℕ) → record_of new n ≡ record_of old n
   pub put : (m : ℕ) → IsPut m start bytes (data_block (tree_of old v.number) m) (data_block (tree_of new v.number) m)
   pub others : (n m : ℕ) → n ≢ v.number → data_block (tree_of new n) m ≡ data_block (tree_of old n) m
+  pub addresses : (n : ℕ) (way : List ℕ) → IsKnown way → address (tree_of new n) way ≡ address (tree_of old n) way
   pub again : MayStage new v
   pub kept : (spare : ℕ) → IsStaged old spare → IsStaged new spare
+  pub frames : length new.cache.locked ≤ length old.cache.locked + 2 * blocks_of_put start (length bytes)
 
 -- The record of a file waits with a size of at least so many bytes. Nothing else changed.
 pub record GrowsTo (v w : Inode) (size : ℕ) (old new : Parts) : Type 0 where
@@ -64,10 +73,6 @@ pub record GrowsTo (v w : Inode) (size : ℕ) (old new : Parts) : Type 0 where
 -- the content with bytes put at a place of a file
 abbrev pub with_put : ℕ → ℕ → List ℕ → Content → Content
 with_put number start bytes c = changed_at (map.get c number) number (λ f. record f { bytes = splice f.bytes start bytes }) c
-
--- how many blocks some bytes at a place of a file fall into, at least one
-abbrev pub blocks_of_put : ℕ → ℕ → ℕ
-blocks_of_put start count = (start + count - 1) / BLOCK_SIZE + 1 - start / BLOCK_SIZE
 
 -- Bytes may be put at a place of a file: its number is in use, there is room for its record, and it may have the size
 -- that it gets.

@@ -1,6 +1,9 @@
 //! Changing what waits: bytes put into a file.
 
-ghost use Rattle.std.specs.Prelude.{◌≡◌, ◌+◌, ◌*◌, ◌-◌, ◌/◌, ◌<◌, ◌≤◌, ℕ, max, length};
+ghost use Rattle.std.specs.Prelude.{◌≡◌, ◌+◌, ◌*◌, ◌-◌, ◌/◌, ◌<◌, ◌≤◌, ℕ, List, max, length};
+ghost use Rattle.lfs_ways.specs.Reading.{address};
+ghost use Rattle.lfs_ways.specs.Ways.{IsKnown};
+ghost use Rattle.lfs_landing.specs.View.{tree_of};
 ghost use Rattle.lfs_types.specs.declared.limits.TheConstants.{FILE_BLOCKS};
 ghost use Rattle.lfs_cache.specs.declared.cache.TheConstants.{LOCKED_LIMIT};
 ghost use Rattle.lfs_inodes.specs.Facts.{IsSizeOf};
@@ -23,6 +26,10 @@ impl Parts {
             ≤ LOCKED_LIMIT }
         ensures content { content_of self.new ≡ with_put ino off bytes.now (content_of self.old) }
         ensures log { self.new.log ≡ self.old.log }
+        ensures addresses { (n : ℕ) (way : List ℕ) → IsKnown way
+            → address (tree_of self.new n) way ≡ address (tree_of self.old n) way }
+        ensures frames { length self.new.cache.locked
+            ≤ length self.old.cache.locked + 2 * blocks_of_put off (length bytes.now) }
         // What holds in the middle of a call is kept.
         ensures kept { (spare : ℕ) → IsStaged self.old spare → IsStaged self.new spare }
     {

@@ -1,3 +1,6 @@
+use Rattle.std.proofs.Common.{◌≡◌, length, ap, ◌∙◌, arith}
+use Rattle.lfs_cache.specs.Contents.{Contents}
+use Rattle.lfs_ways.specs.Reading.{address}
 use Rattle.lfs_inodes.specs.Reading.{fields_of}
 use Rattle.lfs_landing.proofs.FileLemmas.{given_record}
 use Rattle.lfs_landing.proofs.GrowthLemmas.{may_from, put_shown}
@@ -22,3 +25,12 @@ returns-clause-content c =
 
 pub returns-clause-kept : goal.returns-clause-kept
 returns-clause-kept c = λ spare staged. c.put_blocks.ensures.kept spare (c.grow-inode.ensures.kept spare staged)
+
+pub returns-clause-addresses : goal.returns-clause-addresses
+returns-clause-addresses c = λ n way known. c.put_blocks.ensures.addresses n way known ∙ ap (λ t. address t way) (c.grow-inode.ensures.blocks n)
+
+pub returns-clause-frames : goal.returns-clause-frames
+returns-clause-frames c =
+    let same : length c.grow-inode.new.self.cache.locked ≡ length c.args.self.now.cache.locked = ap (λ (s : Contents). length s.locked) c.grow-inode.ensures.cache in
+    let more = c.put_blocks.ensures.frames in
+    omega arith

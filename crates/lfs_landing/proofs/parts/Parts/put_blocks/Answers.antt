@@ -1,4 +1,5 @@
-use Rattle.std.proofs.Common.{arith}
+use Rattle.std.proofs.Common.{◌≤◌, ◌+◌, ◌*◌, length, arith}
+use Rattle.lfs_landing.specs.Putting.{blocks_of_put}
 use Rattle.lfs_landing.proofs.PuttingLemmas.{put_all, put_more, put_none}
 use Rattle.lfs_landing.proofs.parts.Parts.put_blocks.Goals as goal
 
@@ -34,6 +35,11 @@ loop-index-preserved c =
 
 pub returns : goal.returns
 returns c =
+    let ends = c.blocks_touched-touched.ensures.some (omega (arith, c.requires.some)) in
     let high = c.loop-index-test.false in
+    let to = c.loop-index.auto.index-end in
+    let many = c.loop-index.invariant.frames in
+    let frames : length c.loop-index.self.cache.locked ≤ length c.args.self.now.cache.locked + 2 * blocks_of_put c.args.off (length c.args.bytes.now)
+    = omega (arith, ends.0, ends.1) in
     put_all c.args.self.now c.loop-index.self c.args.inode.now c.args.off c.args.bytes.now c.loop-index.index c.requires.may c.loop-index.invariant.puts
-    (λ n touched. let under = (c.blocks_touched-touched.ensures.touched n touched).1 in omega arith)
+    (λ n touched. let under = (c.blocks_touched-touched.ensures.touched n touched).1 in omega arith) frames
