@@ -1,12 +1,12 @@
 -- What stays of the files and of the log where something is staged.
-use Rattle.std.proofs.Common.{◌≡◌, ◌≢◌, ◌⊎◌, ℕ, ◌+◌, ◌*◌, ◌/◌, ◌%◌, ◌<◌, ◌≤◌, List, [], ◌∷◌, All, length, None, Some, IsSome, is_some, false, true, refl, sym, ap, ◌∙◌, subst, inl, inr, arith}
+use Rattle.std.proofs.Common.{◌≡◌, ◌≢◌, ◌⊎◌, ℕ, ◌+◌, ◌*◌, ◌/◌, ◌%◌, ◌<◌, ◌≤◌, List, [], ◌∷◌, All, length, Some, IsSome, is_some, true, refl, sym, ap, ◌∙◌, subst, inl, inr, arith}
 use Rattle.std.specs.Prelude.{slice_index}
 use Rattle.std.specs.Vec.{vec_capacity}
 use Rattle.std.proofs.lemmas.Option.{same_Some}
-use Rattle.std.proofs.lemmas.Bool.{cases_eq, cases_lt, cond-true, eq-eqb}
+use Rattle.std.proofs.lemmas.Bool.{cases_eq, cases_lt}
 use Rattle.std.proofs.lemmas.List.Elements.{All-cons, All-weaker}
 use Rattle.lfs_types.specs.declared.limits.TheConstants.{ROOT_INODE}
-use Rattle.lfs_ifile.specs.Tables.{row_of, usage_of}
+use Rattle.lfs_ifile.specs.Tables.{row_of}
 use Rattle.lfs_inodes.specs.declared.inode.Inode.{Inode}
 use Rattle.lfs_inodes.specs.Reading.{Fields, fields_of}
 use Rattle.lfs_cache.specs.declared.key.Key.{Key}
@@ -20,8 +20,8 @@ use Rattle.lfs_ways.specs.declared.blocks.FileBlock.{FileBlock}
 use Rattle.lfs_ways.specs.declared.blocks.FileBlock.TheVariants.{Single, Data}
 use Rattle.lfs_ways.specs.Blocks.{code_of, way_to}
 use Rattle.lfs_ways.specs.Log.{IsLog}
-use Rattle.lfs_ways.specs.Pieces.{IsPadded, byte_at}
-use Rattle.lfs_ways.specs.Reading.{SameReadings, Stages, Tree, address, data_block, read}
+use Rattle.lfs_ways.specs.Pieces.{IsPadded}
+use Rattle.lfs_ways.specs.Reading.{SameReadings, Stages, address, data_block, read}
 use Rattle.lfs_ways.specs.Ways.{IsKnown, code_at, data_way, way_of}
 use Rattle.lfs_ways.specs.Blocks.{IsFileBlock}
 use Rattle.lfs_ways.proofs.BlockLemmas.{code_of-below}
@@ -31,8 +31,8 @@ use Rattle.lfs_ways.proofs.ReadingLemmas.{SameReadings-refl, SameReadings-trans,
 use Rattle.lfs_ways.proofs.WayLemmas.{same_code, way_of-code_of, way_of-data, way_of-known}
 use Rattle.lfs_landing.specs.declared.parts.Parts.{Parts}
 use Rattle.lfs_landing.specs.Keys.{log_state}
-use Rattle.lfs_landing.specs.Staging.{GrowsBy, HasParents, IsStaged, IsZeroPast, MayStage, ParentsWait, SameFiles, StagesBlock, StagesData, StagesParents, StagesRecord}
-use Rattle.lfs_landing.specs.Store.{AreFiles, IsFile, IsPresent}
+use Rattle.lfs_landing.specs.Staging.{IsStaged, IsZeroPast, MayStage, ParentsWait, SameFiles, StagesBlock, StagesData, StagesParents, StagesRecord}
+use Rattle.lfs_landing.specs.Store.{AreFiles, IsPresent}
 use Rattle.lfs_landing.specs.View.{key_of, record_of, root_in, tree_of, version_of, waiting_in}
 use Rattle.lfs_landing.specs.Waiting.{AreOnce, without}
 use Rattle.lfs_landing.proofs.KeyLemmas.{place-block, place-record}
@@ -153,45 +153,10 @@ SameFiles-trans a b c p q = record {
   readings = λ n. SameReadings-trans (tree_of a n) (tree_of b n) (tree_of c n) (p.readings n) (q.readings n);
 }
 
--- ---- the record of a file waits with what it has
-module _ (old new : Parts) (v : Inode) (h : StagesRecord v old new) (has : record_of old v.number ≡ Some (fields_of v)) where
-  records_same : (n : ℕ) → record_of new n ≡ record_of old n
-  records_same n = elim (cases_eq n v.number) [
-    | inl is ↦ ap (record_of new) is ∙ h.here ∙ sym (ap (record_of old) is ∙ has)
-    | inr other ↦ h.others n other
-  ]
-
-  tree_same : (n : ℕ) → tree_of new n ≡ tree_of old n
-  tree_same n =
-      let waits : (way : List ℕ) → (tree_of new n).waits way ≡ (tree_of old n).waits way
-      = λ way. ap (λ (s : Contents). block_in (key_of n (version_of new n) (code_at way)) s.locked) h.cache
-      ∙ ap (λ version. block_in (key_of n version (code_at way)) old.cache.locked) (version-same old new n h.log) in
-      let blocks : (a : ℕ) → block_at new.log.memory a ≡ block_at old.log.memory a = λ a. ap (λ (l : LogParts). block_at l.memory a) h.log in
-      λ i. record { root = root_in (records_same n i); waits = λ way. waits way i; block = λ a. blocks a i }
-
-  pub record_same : SameFiles old new
-  record_same = record {
-    log = h.log;
-    records = records_same;
-    readings = λ n. subst (λ t. SameReadings (tree_of old n) t) (sym (tree_same n)) (SameReadings-refl (tree_of old n));
-  }
-
+-- ---- a record waits
+module _ (old new : Parts) (v : Inode) (h : StagesRecord v old new) where
   pub record_waits : IsSome (waiting_in new.waiting.items v.number)
   record_waits = ap (λ vs. is_some (waiting_in vs v.number)) h.waiting ∙ ap is_some (waiting-head v (without v.number old.waiting.items) v.number refl)
-
-  pub record_files : AreFiles old → (row_of old.log.tables v.number).used ≡ true → AreFiles new
-  record_files files used =
-      let file = files.files v.number (fields_of v) has in
-      let present : IsPresent old v.number v.version = record { in_use = used; at_version = file.own_version } in
-      let same = record_same in
-      let all : All (λ (w : Inode). IsPresent old w.number w.version) (v ∷ without v.number old.waiting.items)
-      = All-cons (λ (w : Inode). IsPresent old w.number w.version) v (without v.number old.waiting.items) present
-      (all_without (λ (w : Inode). IsPresent old w.number w.version) old.waiting.items v.number files.records) in
-      files_kept old new files h.log records_same (λ n way known. (same.readings n).addresses way known) (same_padded old new same)
-      (subst IsContents (sym h.cache) files.cache) (ap (λ (s : Contents). s.lru) h.cache ∙ files.readable.none_clean)
-      (subst (λ ws. All (λ (w : Inode). IsPresent old w.number w.version) ws) (sym h.waiting) all) h.room
-      (λ key locked. files.frames key (subst (IsLocked key) h.cache locked))
-      (λ key locked. files.coded key (subst (IsLocked key) h.cache locked))
 
   pub record_parents : ParentsWait old → ParentsWait new
   record_parents parents = record {
@@ -209,6 +174,48 @@ module _ (old new : Parts) (v : Inode) (h : StagesRecord v old new) (has : recor
 
   pub record_once : AreOnce old.waiting.items → AreOnce new.waiting.items
   record_once once = subst AreOnce (sym h.waiting) (once_staged v old.waiting.items once)
+
+  -- each record that waits is of a number in use
+  pub record_present : AreFiles old → IsPresent old v.number v.version → All (λ (w : Inode). IsPresent old w.number w.version) new.waiting.items
+  record_present files present =
+      subst (λ ws. All (λ (w : Inode). IsPresent old w.number w.version) ws) (sym h.waiting)
+      (All-cons (λ (w : Inode). IsPresent old w.number w.version) v (without v.number old.waiting.items) present
+      (all_without (λ (w : Inode). IsPresent old w.number w.version) old.waiting.items v.number files.records))
+
+  -- the files have the addresses and the blocks that they had, where the record has the addresses
+  pub record_trees : ((n : ℕ) → root_in (record_of new n) ≡ root_in (record_of old n)) → (n : ℕ) → tree_of new n ≡ tree_of old n
+  record_trees roots n =
+      let waits : (way : List ℕ) → (tree_of new n).waits way ≡ (tree_of old n).waits way
+      = λ way. ap (λ (s : Contents). block_in (key_of n (version_of new n) (code_at way)) s.locked) h.cache
+      ∙ ap (λ version. block_in (key_of n version (code_at way)) old.cache.locked) (version-same old new n h.log) in
+      let blocks : (a : ℕ) → block_at new.log.memory a ≡ block_at old.log.memory a = λ a. ap (λ (l : LogParts). block_at l.memory a) h.log in
+      λ i. record { root = roots n i; waits = λ way. waits way i; block = λ a. blocks a i }
+
+-- ---- the record of a file waits with what it has
+module _ (old new : Parts) (v : Inode) (h : StagesRecord v old new) (has : record_of old v.number ≡ Some (fields_of v)) where
+  records_same : (n : ℕ) → record_of new n ≡ record_of old n
+  records_same n = elim (cases_eq n v.number) [
+    | inl is ↦ ap (record_of new) is ∙ h.here ∙ sym (ap (record_of old) is ∙ has)
+    | inr other ↦ h.others n other
+  ]
+
+  pub record_same : SameFiles old new
+  record_same = record {
+    log = h.log;
+    records = records_same;
+    readings = λ n. subst (λ t. SameReadings (tree_of old n) t) (sym (record_trees old new v h (λ m. ap root_in (records_same m)) n)) (SameReadings-refl (tree_of old n));
+  }
+
+  pub record_files : AreFiles old → (row_of old.log.tables v.number).used ≡ true → AreFiles new
+  record_files files used =
+      let file = files.files v.number (fields_of v) has in
+      let present : IsPresent old v.number v.version = record { in_use = used; at_version = file.own_version } in
+      let same = record_same in
+      files_kept old new files h.log records_same (λ n way known. (same.readings n).addresses way known) (same_padded old new same)
+      (subst IsContents (sym h.cache) files.cache) (ap (λ (s : Contents). s.lru) h.cache ∙ files.readable.none_clean)
+      (record_present old new v h files present) h.room
+      (λ key locked. files.frames key (subst (IsLocked key) h.cache locked))
+      (λ key locked. files.coded key (subst (IsLocked key) h.cache locked))
 
 -- ---- a block waits
 module _ (old new : Parts) (number : ℕ) (block : FileBlock) (bytes : List ℕ) (h : StagesBlock number block bytes old new) where
@@ -317,10 +324,10 @@ pub parents_direct : (old new : Parts) (v : Inode) (index : ℕ) → MayStage ol
 parents_direct old new v index may h low = record {
   same = record_same old new v h may.here;
   files = record_files old new v h may.here may.files may.in_use;
-  parents = record_parents old new v h may.here may.parents;
-  waits = record { record_waits = record_waits old new v h may.here; single_waits = λ high. absurd (omega arith) };
-  room = record_room old new v h may.here;
-  once = record_once old new v h may.here;
+  parents = record_parents old new v h may.parents;
+  waits = record { record_waits = record_waits old new v h; single_waits = λ high. absurd (omega arith) };
+  room = record_room old new v h;
+  once = record_once old new v h;
   frames = let same : length new.cache.locked ≡ length old.cache.locked = ap (λ (s : Contents). length s.locked) h.cache in omega arith;
 }
 
@@ -333,18 +340,18 @@ parents_single old between new v index may h b =
     let files = record_files old between v h may.here may.files may.in_use in
     let present = present_kept old between v.number v.version h.log (may_present old v may) in
     let at : IsPresent between v.number (version_of between v.number) = record { in_use = present.in_use; at_version = refl } in
-    let waits = record_waits old between v h may.here in
+    let waits = record_waits old between v h in
     record {
       same = SameFiles-trans old between new first second;
       files = block_files between new v.number Single bytes b files at (omega arith) (omega arith)
           (λ n way known. (second.readings n).addresses way known) (same_padded between new second);
-      parents = block_parents between new v.number Single bytes b (record_parents old between v h may.here may.parents) waits (λ high. absurd (omega arith));
+      parents = block_parents between new v.number Single bytes b (record_parents old between v h may.parents) waits (λ high. absurd (omega arith));
       waits = record {
         record_waits = ap (λ vs. is_some (waiting_in vs v.number)) b.waiting ∙ waits;
         single_waits = λ high. subst (λ n. IsLocked (key_of v.number n 1) new.cache) (sym (version-same between new v.number b.log)) b.frames.here;
       };
-      room = ap (without v.number) b.waiting ∙ record_room old between v h may.here;
-      once = λ once. subst AreOnce (sym b.waiting) (record_once old between v h may.here once);
+      room = ap (without v.number) b.waiting ∙ record_room old between v h;
+      once = λ once. subst AreOnce (sym b.waiting) (record_once old between v h once);
       frames =
           let same : length between.cache.locked ≡ length old.cache.locked = ap (λ (s : Contents). length s.locked) h.cache in
           let more = b.frames.one_more in

@@ -6,3 +6,5 @@ pub mod ViewLemmas
 pub mod StagingLemmas
 pub mod WaitingLemmas
 pub mod KeptLemmas
+pub mod PuttingLemmas
+pub mod GrowthLemmas

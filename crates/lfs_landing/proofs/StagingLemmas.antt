@@ -1,25 +1,24 @@
 -- What staging keeps.
-use Rattle.std.proofs.Common.{◌≡◌, ◌≢◌, ◌⊎◌, ℕ, zero, suc, ◌+◌, ◌*◌, ◌<◌, ◌≤◌, List, [], ◌∷◌, All, length, Option, None, Some, IsSome, is_some, option_and_then, Bool, true, false, refl, sym, ap, ◌∙◌, subst, inl, inr, arith}
+use Rattle.std.proofs.Common.{◌≡◌, ◌≢◌, ℕ, zero, suc, ◌+◌, ◌≤◌, List, [], ◌∷◌, length, Option, None, Some, is_some, option_and_then, true, false, refl, sym, ap, ◌∙◌, subst, inl, inr}
 use Rattle.lfs_ifile.specs.declared.inode.InodePlace.{InodePlace}
 use Rattle.lfs_ifile.specs.Tables.{place_of, row_of}
 use Rattle.lfs_inodes.specs.declared.inode.Inode.{Inode}
-use Rattle.lfs_inodes.specs.Reading.{Fields, fields_of}
 use Rattle.lfs_cache.specs.declared.key.Key.{Key}
 use Rattle.lfs_cache.specs.Keys.{same_key}
 use Rattle.lfs_cache.specs.Changes.{GainsOnly, IsContents}
-use Rattle.lfs_cache.specs.Contents.{Contents, IsLocked, block_in, block_of, drop_last, taken_by, with_frame, without_key, written, written_by}
+use Rattle.lfs_cache.specs.Contents.{Contents, IsLocked, block_in, block_of, drop_last, taken_by, without_key, written, written_by}
 use Rattle.lfs_cache.proofs.Entries.{same_is, same_cases}
 use Rattle.lfs_segments.specs.Memory.{block_at}
 use Rattle.lfs_log.specs.Parts.{LogParts}
 use Rattle.lfs_ways.specs.declared.blocks.FileBlock.{FileBlock}
-use Rattle.lfs_ways.specs.Blocks.{IsFileBlock, code_of, way_to}
-use Rattle.lfs_ways.specs.Reading.{Stages, Tree}
-use Rattle.lfs_ways.specs.Ways.{IsKnown, code_at}
+use Rattle.lfs_ways.specs.Blocks.{code_of, way_to}
+use Rattle.lfs_ways.specs.Reading.{Stages}
+use Rattle.lfs_ways.specs.Ways.{code_at}
 use Rattle.lfs_ways.proofs.WayLemmas.{known_way_of, way_of-code_of}
 use Rattle.lfs_ways.specs.Ways.{way_of}
 use Rattle.lfs_landing.specs.declared.parts.Parts.{Parts}
 use Rattle.lfs_landing.specs.Staging.{GrowsBy, StagesBlock, StagesRecord}
-use Rattle.lfs_landing.specs.View.{fields_at, key_of, record_of, root_in, tree_of, tree_with, version_of, waiting_in, waiting_or}
+use Rattle.lfs_landing.specs.View.{fields_at, key_of, record_of, root_in, tree_of, version_of, waiting_in, waiting_or}
 use Rattle.std.proofs.lemmas.Bool.{cond-true}
 use Rattle.std.specs.Vec.{vec_capacity}
 use Rattle.lfs_landing.specs.Waiting.{without}

@@ -6,3 +6,4 @@ pub mod Store
 pub mod View
 pub mod Staging
 pub mod Waiting
+pub mod Putting

@@ -1,4 +1,3 @@
-use Rattle.std.proofs.Common.{arith}
 use Rattle.lfs_landing.proofs.KeptLemmas.{data_again, data_kept, may_present, present_kept, staged_data}
 use Rattle.lfs_landing.proofs.parts.Parts.stage_data.Goals as goal
 

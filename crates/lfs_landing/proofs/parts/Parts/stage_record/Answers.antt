@@ -1,5 +1,4 @@
-use Rattle.std.proofs.Common.{refl, sym, ap, ◌∙◌}
-use Rattle.lfs_landing.specs.View.{waiting_in}
+use Rattle.std.proofs.Common.{refl}
 use Rattle.lfs_landing.proofs.StagingLemmas.{staged_record}
 use Rattle.lfs_landing.proofs.parts.Parts.stage_record.Goals as goal
 
