@@ -2,4 +2,5 @@ pub mod FileLemmas
 pub mod KeyLemmas
 pub mod OpeningLemmas
 pub mod ReadLemmas
+pub mod RoomLemmas
 pub mod ViewLemmas

@@ -2,5 +2,6 @@ pub mod Files
 pub mod Filling
 pub mod Keys
 pub mod Opening
+pub mod Room
 pub mod Store
 pub mod View

@@ -7,3 +7,4 @@ mod format;
 pub mod keys;
 pub mod parts;
 pub mod reading;
+pub mod room;
