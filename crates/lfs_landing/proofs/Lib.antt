@@ -1,3 +1,4 @@
+pub mod CollectingLemmas
 pub mod FileLemmas
 pub mod KeyLemmas
 pub mod OpeningLemmas

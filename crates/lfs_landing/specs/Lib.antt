@@ -1,3 +1,4 @@
+pub mod Collecting
 pub mod Files
 pub mod Filling
 pub mod Keys

@@ -2,6 +2,7 @@
 //! blocks and their bytes, read through what waits to be written.
 #![tactic(auto)]
 
+pub mod collecting;
 pub mod files;
 mod format;
 pub mod keys;
