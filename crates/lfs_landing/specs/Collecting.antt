@@ -1,10 +1,10 @@
 -- What waits to be written, in the order in which it is written.
-use Rattle.std.specs.Prelude.{ℕ, ◌+◌, ◌-◌, ◌/◌, ◌++◌, Bool, true, false, not, nat_le, List, length, map, replicate, if◌then◌else◌, ◌==◌}
-use Rattle.std.specs.List.{filter}
+use Rattle.std.specs.Prelude.{ℕ, ◌+◌, ◌-◌, ◌/◌, ◌++◌, Bool, true, false, not, nat_le, List, All, length, map, replicate, if◌then◌else◌, ◌==◌}
+use Rattle.std.specs.List.{Contains, filter}
 use Rattle.lfs_segments.specs.declared.entry.LogicalBlock.TheVariants as logical
 use Rattle.lfs_segments.specs.declared.entry.SummaryEntry.{SummaryEntry}
 use Rattle.lfs_cache.specs.declared.key.Key.{Key}
-use Rattle.lfs_cache.specs.Contents.{keys_of}
+use Rattle.lfs_cache.specs.Contents.{AreApart, Contents, IsLocked, keys_of}
 use Rattle.lfs_log.specs.declared.packing.TheConstants.{SLOT_COUNT}
 use Rattle.lfs_ways.specs.declared.blocks.TheConstants.{FIRST_DATA_CODE}
 use Rattle.lfs_landing.specs.declared.parts.Parts.{Parts}
@@ -31,6 +31,12 @@ entry_of key = record {
 -- written themselves.
 unfoldable pub in_order : List Key → List Key
 in_order keys = filter (is_of true) keys ++ filter (is_of false) keys
+
+-- A list of keys has each key that waits, once, and no other.
+pub record AreLocked (keys : List Key) (c : Contents) : Type 0 where
+  pub each : (key : Key) → IsLocked key c → Contains keys key
+  pub only : All (λ (key : Key). IsLocked key c) keys
+  pub once : AreApart keys
 
 -- how many blocks so many records take
 abbrev pub inode_blocks : ℕ → ℕ

@@ -2,11 +2,10 @@
 
 ghost use Rattle.std.specs.Prelude.{◌≡◌, ◌<◌, ◌≤◌, ◌+◌, ◌++◌, ◌∷◌, ◌↔◌, [], All, length, map, replicate};
 ghost use Rattle.std.specs.List.{filter};
-ghost use Rattle.std.specs.List.Sorted.{IsPermutation};
 ghost use Rattle.lfs_cache.specs.Contents.{keys_of};
 ghost use Rattle.lfs_segments.specs.Entry.{IsEntry};
 ghost use Rattle.lfs_segments.specs.declared.summary.TheConstants.{ENTRY_LIMIT};
-ghost use Rattle.lfs_landing.specs.Collecting.{blocks_of_entries, entries_of, entry_of, in_order, inode_blocks, is_data, is_of};
+ghost use Rattle.lfs_landing.specs.Collecting.{AreLocked, blocks_of_entries, entries_of, entry_of, in_order, inode_blocks, is_data, is_of};
 ghost use Rattle.lfs_landing.specs.Opening.{inodes_entry};
 ghost use Rattle.lfs_landing.specs.Store.{AreFiles, IsSettled};
 ghost use Rattle.lfs_landing.specs.declared.parts.TheConstants.{WAITING_LIMIT};
@@ -139,9 +138,8 @@ impl Parts {
         ensures entries { result ≡ entries_of self.now }
         ensures valid { All IsEntry result }
         ensures fits { length result ≤ ENTRY_LIMIT }
-        // Each block that waits has one.
-        ensures once { IsPermutation (keys_of self.now.cache.locked)
-            (in_order (keys_of self.now.cache.locked)) }
+        // The blocks are those that wait, each once.
+        ensures blocks { AreLocked (in_order (keys_of self.now.cache.locked)) self.now.cache }
     {
         let keys = self.cache.locked();
         let mut list = EntryList::empty();

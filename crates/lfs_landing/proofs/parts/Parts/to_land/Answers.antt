@@ -2,9 +2,10 @@ use Rattle.std.proofs.Common.{All, true, false, length, length-append, map, sym,
 use Rattle.std.specs.List.{filter}
 use Rattle.std.proofs.lemmas.List.{length-map}
 use Rattle.lfs_segments.specs.Entry.{IsEntry}
-use Rattle.lfs_cache.specs.Contents.{keys_of}
+use Rattle.lfs_cache.specs.Contents.{AreApart}
 use Rattle.lfs_landing.specs.Collecting.{entry_of, is_of}
-use Rattle.lfs_landing.proofs.CollectingLemmas.{all_entries, collected, entries_of-length, in_order-all, kinds}
+use Rattle.lfs_landing.proofs.CollectingLemmas.{all_entries, collected, entries_of-length, kinds}
+use Rattle.lfs_landing.proofs.OrderLemmas.{in_order-locked}
 use Rattle.lfs_landing.proofs.parts.Parts.to_land.Goals as goal
 
 pub push_keys-requires : goal.push_keys-requires
@@ -63,5 +64,5 @@ returns-clause-fits c =
     let few = c.requires.few in
     omega arith
 
-pub returns-clause-once : goal.returns-clause-once
-returns-clause-once c = in_order-all (keys_of c.args.self.now.cache.locked)
+pub returns-clause-blocks : goal.returns-clause-blocks
+returns-clause-blocks c = in_order-locked c.args.self.now.cache (subst AreApart c.locked-keys.ensures.keys c.locked-keys.ensures.once)
