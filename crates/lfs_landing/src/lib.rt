@@ -3,6 +3,7 @@
 #![tactic(auto)]
 
 pub mod changing;
+pub mod collecting;
 pub mod files;
 mod format;
 pub mod keys;
@@ -10,3 +11,4 @@ pub mod parts;
 pub mod reading;
 pub mod staging;
 mod waiting;
+pub mod room;
