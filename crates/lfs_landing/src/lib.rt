@@ -9,6 +9,6 @@ mod format;
 pub mod keys;
 pub mod parts;
 pub mod reading;
+pub mod room;
 pub mod staging;
 mod waiting;
-pub mod room;
