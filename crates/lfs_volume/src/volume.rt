@@ -65,11 +65,14 @@ impl<F: FileStore + Drop> Volume<F> {
 
     /// Makes a user's call: judges it by the rules on the tree that the journal leads to, does it, and enters it.
     pub fn call(&mut self, session: u8, cred: &Cred, request: Request) -> Answer
-        ensures full { (result ≡ Answer.Refused Resource.JournalFull) ↔ (length self.old.journal ≡ self.old.limit) }
+        ensures full { (result ≡ Answer.Refused Resource.JournalFull)
+            ↔ (length self.old.journal ≡ self.old.limit) }
         ensures at_limit { length self.old.journal ≡ self.old.limit → self.new ≡ self.old }
-        ensures outcome { length self.old.journal < self.old.limit → let old = F.state self.old.store in
+        ensures outcome { length self.old.journal < self.old.limit
+            → let old = F.state self.old.store in
             IsOutcome old (world_of old.shape.numbers self.old.journal) cred.now request result }
-        ensures entered { self.new.journal ≡ self.old.journal ++ kept_entry session cred.now request result }
+        ensures entered { self.new.journal ≡ self.old.journal
+            ++ kept_entry session cred.now request result }
         ensures legal { IsJournal (F.state self.new.store) self.new.level self.new.journal self.new.limit }
         ensures unserved { IsUnserved result
             → Stays (F.state self.old.store) (F.state self.new.store) self.old.level self.new.level }
@@ -97,7 +100,8 @@ impl<F: FileStore + Drop> Volume<F> {
     pub fn run(&mut self, calls: Vec<Call>) -> Result<Vec<Answer>, RunMemory>
         ensures each { IfOk result (λ answers. let old = self.old in
             AreAnswers (F.state old.store) old.limit old.journal calls.items answers.items) }
-        ensures entered { IfOk result (λ answers. self.new.journal ≡ self.old.journal ++ kept calls.items answers.items) }
+        ensures entered { IfOk result (λ answers. self.new.journal
+            ≡ self.old.journal ++ kept calls.items answers.items) }
         ensures legal { IsJournal (F.state self.new.store) self.new.level self.new.journal self.new.limit }
         ensures refused { IfErr result (λ _. self.new ≡ self.old) }
         ensures limit { self.new.limit ≡ self.old.limit }
