@@ -1,8 +1,9 @@
 -- The order in which what waits is written names each key once.
-use Rattle.std.proofs.Common.{◌≡◌, ℕ, zero, suc, List, [], ◌∷◌, ◌++◌, All, map, replicate, Bool, true, false, cond, length, get_or, Some, IsSome, sym, ap, ◌∙◌, subst, inl, inr, arith}
+use Rattle.std.proofs.Common.{◌<◌, ◌≤◌, refl, ◌-◌, length-append, get_or, sym, ◌≡◌, ℕ, zero, suc, List, [], ◌∷◌, ◌++◌, All, map, replicate, Bool, true, false, cond, length, Some, IsSome, ap, ◌∙◌, subst, inl, inr, arith}
 use Rattle.std.specs.Prelude.{not}
 use Rattle.std.specs.List.{Contains, filter}
-use Rattle.std.proofs.lemmas.Bool.{cases_Bool, false≢true}
+use Rattle.std.proofs.lemmas.Bool.{cases_Bool, cases_lt, false≢true}
+use Rattle.std.proofs.lemmas.List.{get_or-append_right, get_or-map, get_or-replicate, get_or_append_left, length-map}
 use Rattle.std.proofs.lemmas.List.Elements.{All-append, All-filter}
 use Rattle.std.proofs.lemmas.List.Sorted.{Contains-permutation}
 use Rattle.lfs_cache.specs.declared.key.Key.{Key}
@@ -14,7 +15,8 @@ use Rattle.lfs_inodes.specs.declared.inode.Inode.{Inode}
 use Rattle.lfs_landing.specs.declared.parts.Parts.{Parts}
 use Rattle.lfs_landing.specs.Collecting.{AreLocked, entries_of, entry_of, in_order, inode_blocks, is_of}
 use Rattle.lfs_landing.specs.Opening.{inodes_entry}
-use Rattle.lfs_landing.proofs.CollectingLemmas.{in_order-all}
+use Rattle.lfs_landing.proofs.CollectingLemmas.{entries_of-length, in_order-all, in_order-length}
+use Rattle.lfs_segments.specs.declared.entry.SummaryEntry.{SummaryEntry}
 
 filter_yes : (p : Key → Bool) (n : Key) (ns : List Key) → p n ≡ true → filter p (n ∷ ns) ≡ n ∷ filter p ns
 filter_yes p n ns holds = ap (λ b. cond b (n ∷ filter p ns) (filter p ns)) holds
@@ -102,3 +104,64 @@ unfolding entries_of
 entries_of-same old new cache waiting =
     ap (λ (c : Contents). map entry_of (in_order (keys_of c.locked)) ++ replicate (inode_blocks (length new.waiting.items)) inodes_entry) cache
     ∙ ap (λ (vs : List Inode). map entry_of (in_order (keys_of old.cache.locked)) ++ replicate (inode_blocks (length vs)) inodes_entry) (ap (λ v. v.items) waiting)
+
+-- ---- places in the order
+first_passes : (p : Key → Bool) (n : Key) (l : List Key) (d : Key) → p n ≡ true → ((k : ℕ) → k < length l → p (get_or l k d) ≡ true)
+    → (k : ℕ) → k < length (n ∷ l) → p (get_or (n ∷ l) k d) ≡ true
+first_passes p n l d holds rest zero low = holds
+first_passes p n l d holds rest (suc k) low = rest k (omega arith)
+
+each_passes : (p : Key → Bool) (ns : List Key) (d : Key) (k : ℕ) → k < length (filter p ns) → p (get_or (filter p ns) k d) ≡ true
+each_passes p [] d = λ k low. absurd (omega arith)
+each_passes p (n ∷ ns) d = elim (cases_Bool (p n)) [
+  | inl holds ↦
+      subst (λ (l : List Key). (k : ℕ) → k < length l → p (get_or l k d) ≡ true) (sym (filter_yes p n ns holds))
+      (first_passes p n (filter p ns) d holds (each_passes p ns d))
+  | inr fails ↦ subst (λ (l : List Key). (k : ℕ) → k < length l → p (get_or l k d) ≡ true) (sym (filter_no p n ns fails)) (each_passes p ns d)
+]
+
+-- behind a block that is no data block there is none: when an indirect block is written, its data blocks are
+pub in_order-after : (keys : List Key) (j i : ℕ) (d : Key) → j ≤ i → i < length (in_order keys) → is_of false (get_or (in_order keys) j d) ≡ true
+    → is_of false (get_or (in_order keys) i d) ≡ true
+unfolding in_order
+in_order-after keys j i d before low kind =
+    let ds = filter (is_of true) keys in
+    let ss = filter (is_of false) keys in
+    let whole = length-append ds ss in
+    elim (cases_lt i (length ds)) [
+      | inl among ↦
+          let here : is_of true (get_or ds j d) ≡ true = each_passes (is_of true) keys d j (omega arith) in
+          let there : is_of false (get_or ds j d) ≡ true = ap (is_of false) (sym (get_or_append_left ds ss d j (omega arith))) ∙ kind in
+          absurd (false≢true (sym (ap not here) ∙ there))
+      | inr behind ↦
+          ap (is_of false) (get_or-append_right ds ss (length ds) i d refl behind) ∙ each_passes (is_of false) keys d (i - length ds) (omega arith)
+    ]
+
+entries_of-split : (p : Parts) → entries_of p ≡ map entry_of (in_order (keys_of p.cache.locked)) ++ replicate (inode_blocks (length p.waiting.items)) inodes_entry
+unfolding entries_of
+entries_of-split p = refl
+
+-- the entries by place: those of the keys in order, and behind them those of inode blocks
+pub entries_of-block : (p : Parts) (k : ℕ) (d : Key) (e : SummaryEntry) → k < length p.cache.locked
+    → get_or (entries_of p) k e ≡ entry_of (get_or (in_order (keys_of p.cache.locked)) k d)
+unfolding entries_of
+entries_of-block p k d e low =
+    let keys = in_order (keys_of p.cache.locked) in
+    let blocks = inode_blocks (length p.waiting.items) in
+    let ordered = in_order-length (keys_of p.cache.locked) in
+    let locked = length-map p.cache.locked (λ e. e.0) in
+    let mapped = length-map keys entry_of in
+    get_or_append_left (map entry_of keys) (replicate blocks inodes_entry) e k (omega arith) ∙ get_or-map entry_of keys k d e (omega arith)
+
+pub entries_of-inodes : (p : Parts) (k : ℕ) (e : SummaryEntry) → length p.cache.locked ≤ k → k < length (entries_of p)
+    → get_or (entries_of p) k e ≡ inodes_entry
+entries_of-inodes p k e high low =
+    let keys = in_order (keys_of p.cache.locked) in
+    let blocks = inode_blocks (length p.waiting.items) in
+    let ordered = in_order-length (keys_of p.cache.locked) in
+    let locked = length-map p.cache.locked (λ e. e.0) in
+    let mapped = length-map keys entry_of in
+    let whole = entries_of-length p in
+    ap (λ es. get_or es k e) (entries_of-split p)
+    ∙ get_or-append_right (map entry_of keys) (replicate blocks inodes_entry) (length (map entry_of keys)) k e refl (omega arith)
+    ∙ get_or-replicate blocks (k - length (map entry_of keys)) inodes_entry e (omega arith)
