@@ -5,6 +5,7 @@ use Rattle.std.specs.FinMap as map
 use Rattle.std.specs.FinMap.{same_map, nat_cmp-IsAntisymmetric}
 use Rattle.std.proofs.lemmas.Bool.{cases_eq}
 use Rattle.std.proofs.lemmas.Option.{same_Some}
+use Rattle.lfs_types.specs.declared.attrs.Attrs.{Attrs}
 use Rattle.lfs_types.specs.Changes.{changed_at}
 use Rattle.lfs_types.specs.Splicing.{splice}
 use Rattle.lfs_types.specs.Tree.{File, file_of}
@@ -13,7 +14,7 @@ use Rattle.lfs_types.specs.declared.limits.TheConstants.{ROOT_INODE}
 use Rattle.lfs_ifile.specs.Tables.{row_of}
 use Rattle.lfs_inodes.specs.declared.inode.Inode.{Inode}
 use Rattle.lfs_inodes.specs.Addresses.{addresses}
-use Rattle.lfs_inodes.specs.Attributes.{Attributes, attributes, stat_of}
+use Rattle.lfs_inodes.specs.Attributes.{Attributes, attributes, attributes_from, stat_of}
 use Rattle.lfs_inodes.specs.Reading.{Fields, fields_of}
 use Rattle.lfs_inodes.proofs.FieldLemmas.{AreFields-fields_of}
 use Rattle.lfs_cache.specs.Changes.{IsContents}
@@ -25,7 +26,7 @@ use Rattle.lfs_ways.specs.Ways.{data_way}
 use Rattle.lfs_ways.proofs.PieceLemmas.{put_splice}
 use Rattle.lfs_landing.specs.declared.parts.Parts.{Parts}
 use Rattle.lfs_landing.specs.Files.{content_of, file_at, file_with}
-use Rattle.lfs_landing.specs.Putting.{GrowsTo, MayPut, PutsBytes, with_put}
+use Rattle.lfs_landing.specs.Putting.{ChangesRecord, GrowsTo, MayChange, PutsBytes, with_attrs, with_put}
 use Rattle.lfs_landing.specs.Staging.{IsStaged, MayStage, StagesRecord}
 use Rattle.lfs_landing.specs.Store.{AreFiles, IsFile, IsPresent}
 use Rattle.lfs_landing.specs.View.{LiesIn, blocks_of, record_of, root_in, tree_of}
@@ -37,18 +38,10 @@ use Rattle.lfs_landing.proofs.StagingLemmas.{version-same}
 padded_longer : (blocks : ℕ → List ℕ) (size other : ℕ) → IsPadded blocks size → size ≤ other → IsPadded blocks other
 padded_longer blocks size other h more = record { whole = h.whole; zeros = λ i past. h.zeros i (omega arith) }
 
--- The record waits with another size, which is not less, and with the same addresses.
-module _ (old new : Parts) (v w : Inode) (size : ℕ) (may : MayStage old v) (h : StagesRecord w old new) (changed : attributes w ≡ record (attributes v) { size = size })
-    (roots : addresses w ≡ addresses v) (more : v.size ≤ size) where
-  same_number : w.number ≡ v.number
-  same_number = ap (λ (a : Attributes). a.number) changed
-
-  same_version : w.version ≡ v.version
-  same_version = ap (λ (a : Attributes). a.version) changed
-
-  new_size : w.size ≡ size
-  new_size = ap (λ (a : Attributes). a.size) changed
-
+-- The record waits with other attributes, of the same number and version and with a size that is not less, and with the
+-- same addresses.
+module _ (old new : Parts) (v w : Inode) (may : MayStage old v) (h : StagesRecord w old new) (same_number : w.number ≡ v.number) (same_version : w.version ≡ v.version)
+    (roots : addresses w ≡ addresses v) (more : v.size ≤ w.size) where
   grown_here : record_of new v.number ≡ Some (fields_of w)
   grown_here = ap (record_of new) (sym same_number) ∙ h.here
 
@@ -75,9 +68,9 @@ module _ (old new : Parts) (v w : Inode) (size : ℕ) (may : MayStage old v) (h 
     own_number = same_number;
     own_version = same_version ∙ old_file.own_version ∙ sym (version-same old new v.number h.log);
     none_past = λ n past low.
-        ap (λ t. address t (data_way n)) (grown_trees v.number) ∙ old_file.none_past n (let bigger = new_size in omega arith) low;
+        ap (λ t. address t (data_way n)) (grown_trees v.number) ∙ old_file.none_past n (omega arith) low;
     padded = subst (λ t. IsPadded (data_block t) w.size) (sym (grown_trees v.number))
-        (padded_longer (data_block (tree_of old v.number)) v.size w.size old_file.padded (let bigger = new_size in omega arith));
+        (padded_longer (data_block (tree_of old v.number)) v.size w.size old_file.padded (omega arith));
   }
 
   other_file : (n : ℕ) (f : Fields) → IsFile old n f → IsFile new n f
@@ -135,19 +128,35 @@ module _ (old new : Parts) (v w : Inode) (size : ℕ) (may : MayStage old v) (h 
     once = record_once old new w h staged.once;
   }
 
-  pub grown_to : (least : ℕ) → size ≡ max v.size least → GrowsTo v w least old new
-  grown_to least is = record {
+  pub record_changed : ChangesRecord v w old new
+  record_changed = record {
     log = h.log;
     cache = h.cache;
-    number = same_number;
-    size_is = new_size ∙ is;
-    here = grown_here ∙ (λ i. Some (record { attributes = changed i; addresses = roots i }))
-        ∙ ap (λ n. Some (record (fields_of v) { attributes = record (attributes v) { size = n } })) is;
+    here = grown_here;
     others = grown_others;
     blocks = grown_trees;
     again = grown_again;
     kept = grown_kept;
   }
+
+pub grown_to : (old new : Parts) (v w : Inode) (size least : ℕ) → MayStage old v → StagesRecord w old new → attributes w ≡ record (attributes v) { size = size }
+    → addresses w ≡ addresses v → v.size ≤ size → size ≡ max v.size least → GrowsTo v w least old new
+grown_to old new v w size least may h changed roots more is =
+    let number : w.number ≡ v.number = ap (λ (a : Attributes). a.number) changed in
+    let larger : w.size ≡ size = ap (λ (a : Attributes). a.size) changed in
+    let r = record_changed old new v w may h number (ap (λ (a : Attributes). a.version) changed) roots (omega arith) in
+    record {
+      log = r.log;
+      cache = r.cache;
+      number = number;
+      size_is = larger ∙ is;
+      here = r.here ∙ (λ i. Some (record { attributes = changed i; addresses = roots i }))
+          ∙ ap (λ n. Some (record (fields_of v) { attributes = record (attributes v) { size = n } })) is;
+      others = r.others;
+      blocks = r.blocks;
+      again = r.again;
+      kept = r.kept;
+    }
 
 -- ---- bytes put into a file
 -- the file with these data blocks and a record
@@ -198,9 +207,9 @@ module _ (old between new : Parts) (v w : Inode) (start : ℕ) (bytes : List ℕ
             ∙ sym (ap (λ c. map.get c q) to ∙ get-insert_other (content_of old) v.number _ q other)
       ])
 
--- where bytes may be put, the file's blocks may wait
-pub may_from : (p : Parts) (v : Inode) (number start : ℕ) (bytes : List ℕ) → MayPut p number start bytes → record_of p number ≡ Some (fields_of v) → MayStage p v
-may_from p v number start bytes may has =
+-- where a file may be changed, its blocks may wait
+pub may_from : (p : Parts) (v : Inode) (number : ℕ) → MayChange p number → record_of p number ≡ Some (fields_of v) → MayStage p v
+may_from p v number may has =
     let own : v.number ≡ number = (may.files.files number (fields_of v) has).own_number in
     record {
       files = may.files;
@@ -212,10 +221,50 @@ may_from p v number start bytes may has =
       records = subst (λ n. length (without n p.waiting.items) < 64) (sym own) may.records;
     }
 
-pub put_shown : (old between new : Parts) (v w : Inode) (number start : ℕ) (bytes : List ℕ) → MayPut old number start bytes → record_of old number ≡ Some (fields_of v)
+pub put_shown : (old between new : Parts) (v w : Inode) (number start : ℕ) (bytes : List ℕ) → MayChange old number → 0 < length bytes → record_of old number ≡ Some (fields_of v)
     → GrowsTo v w (start + length bytes) old between → PutsBytes w start bytes between new → content_of new ≡ with_put number start bytes (content_of old)
-put_shown old between new v w number start bytes may has g h =
+put_shown old between new v w number start bytes may some has g h =
     let own : v.number ≡ number = (may.files.files number (fields_of v) has).own_number in
-    let stages = may_from old v number start bytes may has in
-    put_content old between new v w start bytes stages.here (stages.files.files v.number (fields_of v) stages.here) may.some g h
+    let stages = may_from old v number may has in
+    put_content old between new v w start bytes stages.here (stages.files.files v.number (fields_of v) stages.here) some g h
     ∙ ap (λ n. with_put n start bytes (content_of old)) own
+
+-- ---- other attributes
+module _ (old new : Parts) (v w : Inode) (a : Attrs) (has : record_of old v.number ≡ Some (fields_of v)) (h : ChangesRecord v w old new)
+    (changed : attributes w ≡ attributes_from v.number v.version a v.size) where
+  attrs_file : file_at new v.number ≡ Some (file_of a (file_bytes (data_block (tree_of old v.number)) v.size))
+  attrs_file =
+      file_at-some new v.number (fields_of w) h.here
+      ∙ ap (λ (x : Attributes). Some (file_of (stat_of x) (file_bytes (data_block (tree_of new v.number)) x.size))) changed
+      ∙ ap (λ t. Some (file_of a (file_bytes (data_block t) v.size))) (h.blocks v.number)
+
+  attrs_other : (n : ℕ) → n ≢ v.number → file_at new n ≡ file_at old n
+  attrs_other n other =
+      file_at-record new n ∙ ap (option_map (file_with (tree_of new n))) (h.others n other)
+      ∙ ap (λ t. option_map (file_with t) (record_of old n)) (h.blocks n) ∙ sym (file_at-record old n)
+
+  pub attrs_content : content_of new ≡ with_attrs v.number a (content_of old)
+  attrs_content =
+      let before : map.get (content_of old) v.number ≡ Some (file_with (tree_of old v.number) (fields_of v))
+      = get-content_of old v.number ∙ file_at-some old v.number (fields_of v) has in
+      let to : with_attrs v.number a (content_of old) ≡ map.insert (content_of old) v.number (file_of a (file_bytes (data_block (tree_of old v.number)) v.size))
+      = ap (λ o. changed_at o v.number (λ (f : File). file_of a f.bytes) (content_of old)) before in
+      same_map nat_cmp_total nat_cmp-IsAntisymmetric (content_of new) _ (λ q. elim (cases_eq q v.number) [
+        | inl is ↦ ap (map.get (content_of new)) is ∙ get-content_of new v.number ∙ attrs_file
+            ∙ sym (ap (map.get (with_attrs v.number a (content_of old))) is ∙ ap (λ c. map.get c v.number) to ∙ get-insert_same (content_of old) v.number _)
+        | inr other ↦ get-content_of new q ∙ attrs_other q other ∙ sym (get-content_of old q)
+            ∙ sym (ap (λ c. map.get c q) to ∙ get-insert_other (content_of old) v.number _ q other)
+      ])
+
+pub attrs_changed : (old new : Parts) (v w : Inode) (number : ℕ) (a : Attrs) → MayChange old number → record_of old number ≡ Some (fields_of v) → StagesRecord w old new
+    → attributes w ≡ attributes_from v.number v.version a v.size → addresses w ≡ addresses v → ChangesRecord v w old new
+attrs_changed old new v w number a may has h changed roots =
+    let size : w.size ≡ v.size = ap (λ (x : Attributes). x.size) changed in
+    record_changed old new v w (may_from old v number may has) h (ap (λ (x : Attributes). x.number) changed) (ap (λ (x : Attributes). x.version) changed) roots (omega arith)
+
+pub attrs_shown : (old new : Parts) (v w : Inode) (number : ℕ) (a : Attrs) → MayChange old number → record_of old number ≡ Some (fields_of v) → StagesRecord w old new
+    → attributes w ≡ attributes_from v.number v.version a v.size → addresses w ≡ addresses v → content_of new ≡ with_attrs number a (content_of old)
+attrs_shown old new v w number a may has h changed roots =
+    let own : v.number ≡ number = (may.files.files number (fields_of v) has).own_number in
+    attrs_content old new v w a (ap (record_of old) own ∙ has) (attrs_changed old new v w number a may has h changed roots) changed
+    ∙ ap (λ n. with_attrs n a (content_of old)) own

@@ -3,7 +3,7 @@ use Rattle.std.proofs.Common.{◌≡◌, ◌≢◌, ◌⊎◌, ℕ, ◌+◌, ◌
 use Rattle.std.specs.Prelude.{slice_index}
 use Rattle.std.specs.Vec.{vec_capacity}
 use Rattle.std.proofs.lemmas.Option.{same_Some}
-use Rattle.std.proofs.lemmas.Bool.{cases_eq, cases_lt}
+use Rattle.std.proofs.lemmas.Bool.{false≢true, cases_eq, cases_lt}
 use Rattle.std.proofs.lemmas.List.Elements.{All-cons, All-weaker}
 use Rattle.lfs_types.specs.declared.limits.TheConstants.{ROOT_INODE}
 use Rattle.lfs_ifile.specs.Tables.{row_of}
@@ -32,7 +32,7 @@ use Rattle.lfs_ways.proofs.WayLemmas.{same_code, way_of-code_of, way_of-data, wa
 use Rattle.lfs_landing.specs.declared.parts.Parts.{Parts}
 use Rattle.lfs_landing.specs.Keys.{log_state}
 use Rattle.lfs_landing.specs.Staging.{IsStaged, IsZeroPast, MayStage, ParentsWait, SameFiles, StagesBlock, StagesData, StagesParents, StagesRecord}
-use Rattle.lfs_landing.specs.Store.{AreFiles, IsPresent}
+use Rattle.lfs_landing.specs.Store.{AreFiles, IsPresent, IsSettled, IsStore}
 use Rattle.lfs_landing.specs.View.{key_of, record_of, root_in, tree_of, version_of, waiting_in}
 use Rattle.lfs_landing.specs.Waiting.{AreOnce, without}
 use Rattle.lfs_landing.proofs.KeyLemmas.{place-block, place-record}
@@ -406,4 +406,18 @@ data_kept old between new v index bytes low h b again spare staged =
       log = log_kept old new spare moved.log moved.addresses staged.log;
       parents = again.parents;
       once = subst AreOnce (sym b.waiting) (h.once staged.once);
+    }
+
+-- ---- between calls
+-- where nothing waits, a store is staged
+pub settled_staged : (p : Parts) → IsStore p → IsSettled p → IsStaged p 0
+unfolding AreOnce
+settled_staged p store settled =
+    let none : (key : Key) → IsLocked key p.cache → ⊥
+    = λ key locked. false≢true (sym (ap (λ es. is_some (block_in key es)) settled.no_frame) ∙ locked) in
+    record {
+      whole = store.whole;
+      log = store.log;
+      parents = record { records = λ key locked. absurd (none key locked); singles = λ key locked high. absurd (none key locked) };
+      once = subst AreOnce (sym settled.no_record) tt;
     }

@@ -3,7 +3,8 @@ use Rattle.std.specs.Prelude.{◌≡◌, ◌≢◌, ℕ, ◌+◌, ◌-◌, ◌*�
 use Rattle.std.specs.FinMap as map
 use Rattle.lfs_types.specs.Changes.{changed_at}
 use Rattle.lfs_types.specs.Splicing.{splice}
-use Rattle.lfs_types.specs.Tree.{Content}
+use Rattle.lfs_types.specs.Tree.{Content, file_of}
+use Rattle.lfs_types.specs.declared.attrs.Attrs.{Attrs}
 use Rattle.lfs_inodes.specs.declared.inode.Inode.{Inode}
 use Rattle.lfs_inodes.specs.Reading.{Fields, fields_of}
 use Rattle.lfs_ways.specs.Pieces.{IsPut}
@@ -74,15 +75,31 @@ pub record GrowsTo (v w : Inode) (size : ℕ) (old new : Parts) : Type 0 where
 abbrev pub with_put : ℕ → ℕ → List ℕ → Content → Content
 with_put number start bytes c = changed_at (map.get c number) number (λ f. record f { bytes = splice f.bytes start bytes }) c
 
--- Bytes may be put at a place of a file: its number is in use, there is room for its record, and it may have the size
--- that it gets.
-pub record MayPut (p : Parts) (number start : ℕ) (bytes : List ℕ) : Type 0 where
+-- The record of a file waits with other attributes, and the file's blocks stay. Nothing else changed.
+pub record ChangesRecord (v w : Inode) (old new : Parts) : Type 0 where
+  pub log : new.log ≡ old.log
+  pub cache : new.cache ≡ old.cache
+  pub here : record_of new v.number ≡ Some (fields_of w)
+  pub others : (n : ℕ) → n ≢ v.number → record_of new n ≡ record_of old n
+  pub blocks : (n : ℕ) → tree_of new n ≡ tree_of old n
+  pub again : MayStage new w
+  pub kept : (spare : ℕ) → IsStaged old spare → IsStaged new spare
+
+-- the content with other attributes of a file, whose bytes stay
+abbrev pub with_attrs : ℕ → Attrs → Content → Content
+with_attrs number attrs c = changed_at (map.get c number) number (λ f. file_of attrs f.bytes) c
+
+-- A file may be changed: its number is in use, and there is room for its record.
+pub record MayChange (p : Parts) (number : ℕ) : Type 0 where
   pub files : AreFiles p
   pub parents : ParentsWait p
   pub inside : LiesIn (blocks_of p) (tree_of p number)
   pub in_range : number < length p.log.tables.rows
   pub in_use : (row_of p.log.tables number).used ≡ true
   pub records : length (without number p.waiting.items) < WAITING_LIMIT
+
+-- Bytes may be put at a place of a file: there are some, and it may have the size that it gets.
+pub record MayPut (p : Parts) (number start : ℕ) (bytes : List ℕ) : Type 0 where
   pub some : 0 < length bytes
   pub bounded : start + length bytes ≤ FILE_BYTES
   pub sized : (f : Fields) → record_of p number ≡ Some f → IsSizeOf f.attributes.kind (max f.attributes.size (start + length bytes))

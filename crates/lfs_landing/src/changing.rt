@@ -1,18 +1,20 @@
 //! Changing what waits: bytes put into a file.
 
-ghost use Rattle.std.specs.Prelude.{◌≡◌, ◌+◌, ◌*◌, ◌-◌, ◌/◌, ◌<◌, ◌≤◌, ℕ, List, max, length};
+ghost use Rattle.std.specs.Prelude.{◌≡◌, ◌+◌, ◌*◌, ◌-◌, ◌/◌, ◌<◌, ◌≤◌, ℕ, List, max, length, Some};
 ghost use Rattle.lfs_ways.specs.Reading.{address};
 ghost use Rattle.lfs_ways.specs.Ways.{IsKnown};
-ghost use Rattle.lfs_landing.specs.View.{tree_of};
+ghost use Rattle.lfs_landing.specs.View.{record_of, tree_of};
 ghost use Rattle.lfs_types.specs.declared.limits.TheConstants.{FILE_BLOCKS};
 ghost use Rattle.lfs_cache.specs.declared.cache.TheConstants.{LOCKED_LIMIT};
+ghost use Rattle.lfs_inodes.specs.Reading.{Fields};
 ghost use Rattle.lfs_inodes.specs.Facts.{IsSizeOf};
-ghost use Rattle.lfs_landing.specs.Putting.{GrowsTo, MayPut, PutsBlock, PutsBytes, blocks_of_put, with_put};
+ghost use Rattle.lfs_landing.specs.Putting.{GrowsTo, MayChange, MayPut, with_attrs, PutsBlock, PutsBytes, blocks_of_put, with_put};
 ghost use Rattle.lfs_landing.specs.Files.{content_of};
 ghost use Rattle.lfs_landing.specs.Staging.{IsStaged, MayStage};
 
 use crate::parts::Parts;
 use lfs_inodes::inode::Inode;
+use lfs_types::attrs::Attrs;
 use lfs_ways::blocks::FileBlock;
 use lfs_ways::pieces::{blocks_touched, put_piece};
 
@@ -21,7 +23,8 @@ impl Parts {
     /// indirect block that lead to them. The file grows where they reach past its size, and between
     /// its size and `off` it has zeros.
     pub fn put(&mut self, ino: u32, off: u64, bytes: &[u8])
-        requires may { MayPut self.old ino off bytes.now }
+        requires may { MayChange self.old ino }
+        requires fits { MayPut self.old ino off bytes.now }
         requires room { length self.old.cache.locked + 2 * blocks_of_put off (length bytes.now)
             ≤ LOCKED_LIMIT }
         ensures content { content_of self.new ≡ with_put ino off bytes.now (content_of self.old) }
@@ -38,6 +41,25 @@ impl Parts {
         };
         let inode = self.grow(&inode, off + bytes.len() as u64);
         self.put_blocks(&inode, off, bytes);
+    }
+
+    /// Has other attributes of a file in use wait, of its kind. Its size stays, whatever theirs is.
+    pub fn set_attrs(&mut self, ino: u32, attrs: &Attrs)
+        requires may { MayChange self.old ino }
+        requires kind { (f : Fields) → record_of self.old ino ≡ Some f
+            → attrs.now.kind ≡ f.attributes.kind }
+        ensures content { content_of self.new ≡ with_attrs ino attrs.now (content_of self.old) }
+        ensures log { self.new.log ≡ self.old.log }
+        ensures cache { self.new.cache ≡ self.old.cache }
+        ensures addresses { (n : ℕ) → tree_of self.new n ≡ tree_of self.old n }
+        // What holds in the middle of a call is kept.
+        ensures kept { (spare : ℕ) → IsStaged self.old spare → IsStaged self.new spare }
+    {
+        let Some(inode) = self.record(ino) else {
+            unreachable!()
+        };
+        let changed = inode.with_attrs(attrs);
+        self.stage_record(changed);
     }
 
     /// Puts into a data block of a file what falls into it of bytes put at byte `off` of the file, all

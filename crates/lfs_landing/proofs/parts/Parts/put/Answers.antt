@@ -9,18 +9,18 @@ use Rattle.lfs_landing.proofs.parts.Parts.put.Goals as goal
 pub grow-inode-requires-clause-may : goal.grow-inode-requires-clause-may
 grow-inode-requires-clause-may c =
     let p = c.args.self.now in
-    may_from p c.in-Some.inode c.args.ino c.args.off c.args.bytes.now c.requires.may
+    may_from p c.in-Some.inode c.args.ino c.requires.may
     (given_record p c.args.ino c.record.result c.in-Some.inode c.record.ensures c.in-Some.is)
 
 pub grow-inode-requires-clause-sized : goal.grow-inode-requires-clause-sized
 grow-inode-requires-clause-sized c =
-    c.requires.may.sized (fields_of c.in-Some.inode)
+    c.requires.fits.sized (fields_of c.in-Some.inode)
     (given_record c.args.self.now c.args.ino c.record.result c.in-Some.inode c.record.ensures c.in-Some.is)
 
 pub returns-clause-content : goal.returns-clause-content
 returns-clause-content c =
     let p = c.args.self.now in
-    put_shown p c.grow-inode.new.self c.put_blocks.new.self c.in-Some.inode c.grow-inode.result c.args.ino c.args.off c.args.bytes.now c.requires.may
+    put_shown p c.grow-inode.new.self c.put_blocks.new.self c.in-Some.inode c.grow-inode.result c.args.ino c.args.off c.args.bytes.now c.requires.may c.requires.fits.some
     (given_record p c.args.ino c.record.result c.in-Some.inode c.record.ensures c.in-Some.is) c.grow-inode.ensures c.put_blocks.ensures
 
 pub returns-clause-kept : goal.returns-clause-kept
