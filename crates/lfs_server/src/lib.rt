@@ -6,5 +6,3 @@ pub mod settle;
 mod stepping;
 #[cfg(test)]
 mod tests;
-
-pub use lfs_volume::volume;
