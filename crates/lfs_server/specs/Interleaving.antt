@@ -1,5 +1,6 @@
 -- When a journal is an interleaving of what sessions asked and were answered.
 use Rattle.std.specs.Prelude.{◌≡◌, ℕ, ◌-◌, ◌<◌, ◌≤◌, ◌==◌, ◌⊎◌, Bool, true, List, [], ◌∷◌, ◌++◌, length, map, drop, Option, None, Some}
+use Rattle.std.specs.Global.{Vec}
 use Rattle.std.specs.List.{filter, slice_get}
 use Rattle.lfs_types.specs.Caller.{Caller}
 use Rattle.lfs_types.specs.declared.answer.Answer.{Answer}
@@ -22,6 +23,17 @@ pub record Run : Type 0 where
   pub answers : List Answer
   pub scripts : List (List (Caller × Request))
   pub transcripts : List (List Answer)
+
+-- that of these lists, the transcripts being vectors
+abbrev pub run_of : List Entry → ℕ → List (Caller × Request) → List Answer → List (List (Caller × Request)) → List (Vec Answer) → Run
+run_of journal limit setup answers scripts transcripts = record {
+  journal = journal;
+  limit = limit;
+  setup = setup;
+  answers = answers;
+  scripts = scripts;
+  transcripts = map (λ (transcript : Vec Answer). transcript.items) transcripts;
+}
 
 -- ---- one list of calls and its answers
 

@@ -1,7 +1,7 @@
 //! Whether a journal is an interleaving of what the sessions asked and were answered.
 
-ghost use Rattle.std.specs.Prelude.{◌≡◌, ◌↔◌, ◌≤◌, IsOk, IfErr, MatchResult, length, map};
-ghost use Rattle.lfs_server.specs.Interleaving.{IsInterleaving, IsLowestToDiffer};
+ghost use Rattle.std.specs.Prelude.{◌≡◌, ◌↔◌, ◌≤◌, IsOk, IfErr, MatchResult, length};
+ghost use Rattle.lfs_server.specs.Interleaving.{IsInterleaving, IsLowestToDiffer, run_of};
 
 use crate::judging::{after_setup, are_known, differing_session};
 use lfs_model::journal::Entry;
@@ -30,22 +30,10 @@ pub fn settle<F: FileStore + Drop>(
     transcripts: &[Vec<Answer>],
 ) -> Result<(), Unsettled>
     requires { (length scripts.now ≤ 8) × (length transcripts.now ≤ 8) }
-    ensures interleaving { IsOk result ↔ IsInterleaving (record {
-      journal = volume.now.journal;
-      limit = volume.now.limit;
-      setup = setup.now;
-      answers = answers.now;
-      scripts = scripts.now;
-      transcripts = map (λ t. t.items) transcripts.now;
-    }) }
-    ensures lowest { IfErr result (λ u. IsLowestToDiffer (record {
-      journal = volume.now.journal;
-      limit = volume.now.limit;
-      setup = setup.now;
-      answers = answers.now;
-      scripts = scripts.now;
-      transcripts = map (λ t. t.items) transcripts.now;
-    }) u.0) }
+    ensures interleaving { IsOk result ↔ IsInterleaving (run_of volume.now.journal volume.now.limit
+        setup.now answers.now scripts.now transcripts.now) }
+    ensures lowest { IfErr result (λ u. IsLowestToDiffer (run_of volume.now.journal volume.now.limit
+        setup.now answers.now scripts.now transcripts.now) u.0) }
 {
     judge(
         volume.journal(),
@@ -68,22 +56,8 @@ fn judge(
 ) -> Result<(), Unsettled>
     requires { length scripts.now ≤ 8 }
     ensures { MatchResult result
-        (λ _. IsInterleaving (record {
-          journal = journal.now;
-          limit = limit;
-          setup = setup.now;
-          answers = answers.now;
-          scripts = scripts.now;
-          transcripts = map (λ t. t.items) transcripts.now;
-        }))
-        (λ u. IsLowestToDiffer (record {
-          journal = journal.now;
-          limit = limit;
-          setup = setup.now;
-          answers = answers.now;
-          scripts = scripts.now;
-          transcripts = map (λ t. t.items) transcripts.now;
-        }) u.0) }
+        (λ _. IsInterleaving (run_of journal.now limit setup.now answers.now scripts.now transcripts.now))
+        (λ u. IsLowestToDiffer (run_of journal.now limit setup.now answers.now scripts.now transcripts.now) u.0) }
 {
     let is_full = journal.len() == limit as usize;
     let Some(later) = after_setup(is_full, journal, setup, answers) else {
