@@ -110,3 +110,64 @@ fn lowest_session_is_named(rt: HostRuntime) -> Result<(), Fail> {
     assert_eq!(rt; settled, Err(Unsettled(255)));
     Ok(())
 }
+
+/// A user's script of 12,500 Syncs.
+fn syncs(alloc: Global) -> Result<Script, Fail> {
+    let cred = Cred::new(7, &[7], false)?;
+    let mut calls = Vec::new(alloc);
+    for _ in 0..12500 {
+        calls.push((cred, Request::Sync))?;
+    }
+    Ok(Script::from(calls))
+}
+
+/// The answers to it.
+fn dones(alloc: Global) -> Result<Vec<Answer>, Fail> {
+    let mut answers = Vec::new(alloc);
+    for _ in 0..12500 {
+        answers.push(Answer::Served(Served::Done))?;
+    }
+    Ok(answers)
+}
+
+/// A volume with a journal of 100,000 entries, of eight sessions in turn.
+fn long_run(alloc: Global) -> Result<Volume<FlatFiles>, Fail> {
+    let mut volume = Volume::new(alloc, FlatFiles::new(alloc, 16)?, 100_000)?;
+    let cred = Cred::new(7, &[7], false)?;
+    for _ in 0..12500 {
+        for session in 1..=8 {
+            volume.call(session, &cred, Request::Sync);
+        }
+    }
+    Ok(volume)
+}
+
+#[test]
+fn hundred_thousand_entries_settle(rt: HostRuntime) -> Result<(), Fail> {
+    let alloc = rt.alloc();
+    let volume = long_run(alloc)?;
+    let setup = Script::from(Vec::new(alloc));
+    let scripts = [
+        syncs(alloc)?,
+        syncs(alloc)?,
+        syncs(alloc)?,
+        syncs(alloc)?,
+        syncs(alloc)?,
+        syncs(alloc)?,
+        syncs(alloc)?,
+        syncs(alloc)?,
+    ];
+    let transcripts = [
+        dones(alloc)?,
+        dones(alloc)?,
+        dones(alloc)?,
+        dones(alloc)?,
+        dones(alloc)?,
+        dones(alloc)?,
+        dones(alloc)?,
+        dones(alloc)?,
+    ];
+    let settled = settle(&volume, &setup, &[], &scripts, &transcripts);
+    assert_eq!(rt; settled, Ok(()));
+    Ok(())
+}
