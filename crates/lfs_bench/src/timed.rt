@@ -3,7 +3,7 @@
 use crate::tree::{OWNER, STRANGER, Tree, call_of};
 use crate::workload::UserLoad;
 use anyhow::Result;
-use lfs_types::payload::PAYLOAD_MAX;
+use lfs_types::limits::TRANSFER_BYTES;
 use lfs_types::request::{Place, Request};
 use lfs_volume::journal::Call;
 use std::alloc::Global;
@@ -37,7 +37,7 @@ fn timed_call(tree: &Tree, load: UserLoad, index: u32) -> Result<Call> {
     let request = match load {
         UserLoad::StatDeep => stat(tree, index % names)?,
         UserLoad::ReadHot => read(tree, index)?,
-        UserLoad::Write4k => write(tree, index, PAYLOAD_MAX as u32)?,
+        UserLoad::Write4k => write(tree, index, TRANSFER_BYTES as u32)?,
         UserLoad::WriteSmall => write(tree, index, SMALL)?,
         UserLoad::CreateUnlink if is_even => create(tree)?,
         UserLoad::CreateUnlink => unlink(tree, MADE)?,
@@ -76,7 +76,7 @@ fn stat(tree: &Tree, number: u32) -> Result<Request> {
 
 /// A Read of the block of 4,096 bytes whose turn it is.
 fn read(tree: &Tree, index: u32) -> Result<Request> {
-    let len = PAYLOAD_MAX as u32;
+    let len = TRANSFER_BYTES as u32;
     Ok(Request::Read {
         path: tree.file(0)?,
         off: u64::from(offset(tree, index, len)),

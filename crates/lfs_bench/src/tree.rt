@@ -3,9 +3,10 @@
 use crate::scale::Scale;
 use anyhow::{Result, anyhow};
 use lfs_types::cred::Cred;
+use lfs_types::limits::TRANSFER_BYTES;
 use lfs_types::mode::Mode;
 use lfs_types::path::Path;
-use lfs_types::payload::{PAYLOAD_MAX, Payload};
+use lfs_types::payload::Payload;
 use lfs_types::request::{Place, Request};
 use lfs_volume::journal::Call;
 use std::alloc::Global;
@@ -115,10 +116,10 @@ impl Tree {
 
     /// Adds the calls that write the bytes of the first file.
     fn push_bytes(&self, calls: &mut Vec<Call>) -> Result<()> {
-        for _ in 0..self.scale.bytes / PAYLOAD_MAX as u32 {
+        for _ in 0..self.scale.bytes / TRANSFER_BYTES as u32 {
             let path = self.file(0)?;
             let place = Place::End;
-            let bytes = self.payload(PAYLOAD_MAX)?;
+            let bytes = self.payload(TRANSFER_BYTES)?;
             calls.push(call_of(OWNER, Request::Write { path, place, bytes })?)?;
         }
         Ok(())

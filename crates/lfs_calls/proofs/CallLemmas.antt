@@ -11,6 +11,7 @@ use Rattle.lfs_types.specs.declared.answer.Served.{Served}
 use Rattle.lfs_types.specs.declared.answer.Served.TheVariants.{Done}
 use Rattle.lfs_types.specs.declared.level.Level.{Level}
 use Rattle.lfs_types.specs.declared.request.Request.{Request}
+use Rattle.lfs_types.specs.declared.request.Request.TheVariants.{Stat, Read, Write, List as Names, SetLength, Create, Mkdir, Unlink, Rmdir, Rename, Chmod, Chown, Chflags, SetLevel, Sync}
 use Rattle.lfs_types.specs.declared.rule.Denial.{Denial}
 use Rattle.lfs_types.specs.declared.store.StoreRefusal.{StoreRefusal}
 use Rattle.lfs_types.specs.declared.store.StoreRefusal.TheVariants.{NoSpace, NoMemory}
@@ -18,7 +19,7 @@ use Rattle.lfs_model.specs.Effects.{answer_of, effect}
 use Rattle.lfs_model.specs.Rules.{decide}
 use Rattle.lfs_model.specs.Steps.{IsChanging, LacksInodes}
 use Rattle.lfs_calls.specs.declared.halt.Halt.TheVariants.{Denied, Refused}
-use Rattle.lfs_calls.specs.Calls.{ChangesTo, IsCallAt, resource_of}
+use Rattle.lfs_calls.specs.Calls.{ChangesTo, IsCallAt, LooksOn, resource_of}
 use Rattle.lfs_calls.specs.Content.{Shows}
 use Rattle.lfs_calls.specs.Outcomes.{FillsDirectory, IsOutcome}
 use Rattle.lfs_calls.specs.Volumes.{InWorld, IsVolume}
@@ -34,6 +35,42 @@ pub record IsToServe (s : StoreState) (caller : Caller) (request : Request) (w :
 pub still : {s new : StoreState} {w : World} → new ≡ s → IsVolume s w → IsVolume new w
 still {w = w} same v = subst (λ (x : StoreState). IsVolume x w) (sym same) v
 
+-- where nothing changed, a call that looks changed nothing
+looks_same : {old new : StoreState} (request : Request) → new ≡ old → LooksOn request old new
+looks_same (Stat path) same = same
+looks_same (Read path off len) same = same
+looks_same (Names path) same = same
+looks_same (Write path place bytes) same = tt
+looks_same (SetLength path len) same = tt
+looks_same (Create path mode) same = tt
+looks_same (Mkdir path mode) same = tt
+looks_same (Unlink path) same = tt
+looks_same (Rmdir path) same = tt
+looks_same (Rename from to) same = tt
+looks_same (Chmod path mode) same = tt
+looks_same (Chown path uid gid) same = tt
+looks_same (Chflags path flags) same = tt
+looks_same (SetLevel level) same = same
+looks_same Sync same = same_content same
+
+-- and so where the content of a call that changes files didn't
+looks_kept : (old new : StoreState) (request : Request) → IsChanging request → new.content ≡ old.content → LooksOn request old new
+looks_kept old new (Stat path) changing same = absurd changing
+looks_kept old new (Read path off len) changing same = absurd changing
+looks_kept old new (Names path) changing same = absurd changing
+looks_kept old new (Write path place bytes) changing same = tt
+looks_kept old new (SetLength path len) changing same = tt
+looks_kept old new (Create path mode) changing same = tt
+looks_kept old new (Mkdir path mode) changing same = tt
+looks_kept old new (Unlink path) changing same = tt
+looks_kept old new (Rmdir path) changing same = tt
+looks_kept old new (Rename from to) changing same = tt
+looks_kept old new (Chmod path mode) changing same = tt
+looks_kept old new (Chown path uid gid) changing same = tt
+looks_kept old new (Chflags path flags) changing same = tt
+looks_kept old new (SetLevel level) changing same = absurd changing
+looks_kept old new Sync changing same = same
+
 module _ (level : Level) {s : StoreState} {caller : Caller} {request : Request} where
   -- a call that a rule denies
   pub denied : {new : StoreState} → new ≡ s → (denial : Denial) → InWorld s (λ w. w.level ≡ level → decide w caller request ≡ Some denial)
@@ -42,6 +79,7 @@ module _ (level : Level) {s : StoreState} {caller : Caller} {request : Request} 
     outcome = is;
     leaves = λ w v. still same v;
     halted = same_content same;
+    looks = looks_same request same;
     listed = λ h. absurd h;
     follows = follows_itself same;
   }
@@ -53,6 +91,7 @@ module _ (level : Level) {s : StoreState} {caller : Caller} {request : Request} 
     outcome = is;
     leaves = λ w v. still same v;
     halted = same_content same;
+    looks = looks_same request same;
     listed = λ h. absurd h;
     follows = follows_itself same;
   }
@@ -63,15 +102,16 @@ module _ (level : Level) {s : StoreState} {caller : Caller} {request : Request} 
   refused_as NoMemory may changing w serve = (serve.allowed, serve.numbered, serve.roomy, inl (may, changing))
 
   -- a call whose changes the store refused, with what it may be answered
-  pub refused_so : {mid new : StoreState} {P : Content → Type 0} → mid ≡ s → (refusal : StoreRefusal)
+  pub refused_so : {mid new : StoreState} {P : Content → Type 0} → mid ≡ s → (refusal : StoreRefusal) → IsChanging request
       → InWorld s (λ w. w.level ≡ level → IsOutcome s w caller request (answers.Refused (resource_of refusal)))
       → ChangesTo mid P (Err refusal) new → IsCallAt level s new caller request (Err (Refused (resource_of refusal)))
-  refused_so same refusal is change =
+  refused_so {new = new} same refusal changing is change =
       let kept = change.err ∙ same_content same in
       record {
         outcome = is;
         leaves = λ w v. record { shows = subst (λ (c : Content). Shows c w) (sym kept) v.shows; tree = v.tree };
         halted = kept;
+        looks = looks_kept s new request changing kept;
         listed = λ h. absurd h;
         follows = follows_same same change.follows;
       }
@@ -82,7 +122,7 @@ module _ (level : Level) {s : StoreState} {caller : Caller} {request : Request} 
       → ChangesTo mid P (Err refusal) new → IsCallAt level s new caller request (Err (Refused (resource_of refusal)))
   refused same refusal changing serve change =
       let may = subst (λ (x : StoreState). MayRefuse x.clean x.shape.can_lack_memory refusal) same change.refused in
-      refused_so same refusal (λ w v at. refused_as refusal may changing w (serve w v at)) change
+      refused_so same refusal changing (λ w v at. refused_as refusal may changing w (serve w v at)) change
 
   -- a call that changes nothing and shows something
   pub shown : {new : StoreState} → new ≡ s → (shows : Served) → InWorld s (λ w. w.level ≡ level → IsToServe s caller request w)
@@ -92,24 +132,26 @@ module _ (level : Level) {s : StoreState} {caller : Caller} {request : Request} 
     outcome = λ w v at. let x = serve w v at in ((x.allowed, x.numbered, is w v), x.roomy);
     leaves = λ w v. subst (IsVolume new) (sym (stays w)) (still same v);
     halted = tt;
+    looks = looks_same request same;
     listed = λ h. same_content same;
     follows = follows_itself same;
   }
 
   -- a call that changes files, with what it may be answered
-  pub done_so : {mid new : StoreState} → mid ≡ s → InWorld s (λ w. w.level ≡ level → IsOutcome s w caller request (answers.Served Done))
+  pub done_so : {mid new : StoreState} → mid ≡ s → LooksOn request s new → InWorld s (λ w. w.level ≡ level → IsOutcome s w caller request (answers.Served Done))
       → InWorld s (λ w. IsVolume new (effect s.shape.numbers w caller request)) → Follows mid new
       → IsCallAt level s new caller request (Ok Done)
-  done_so same is leaves follows = record {
+  done_so same looks is leaves follows = record {
     outcome = is;
     leaves = leaves;
     halted = tt;
+    looks = looks;
     listed = λ h. absurd h;
     follows = follows_same same follows;
   }
 
   -- a call that changes files
-  pub done : {mid new : StoreState} → mid ≡ s → InWorld s (λ w. w.level ≡ level → IsToServe s caller request w)
+  pub done : {mid new : StoreState} → mid ≡ s → LooksOn request s new → InWorld s (λ w. w.level ≡ level → IsToServe s caller request w)
       → ((w : World) → Done ≡ answer_of w request) → InWorld s (λ w. IsVolume new (effect s.shape.numbers w caller request)) → Follows mid new
       → IsCallAt level s new caller request (Ok Done)
-  done same serve is = done_so same (λ w v at. let x = serve w v at in ((x.allowed, x.numbered, is w), x.roomy))
+  done same looks serve is = done_so same looks (λ w v at. let x = serve w v at in ((x.allowed, x.numbered, is w), x.roomy))

@@ -5,7 +5,7 @@ use Rattle.std.specs.FinMap as map
 use Rattle.lfs_types.specs.Caller.{Caller}
 use Rattle.lfs_types.specs.Changes.{IsLength}
 use Rattle.lfs_types.specs.Splicing.{splice}
-use Rattle.lfs_types.specs.Stored.{bytes_of, IsLeastFree}
+use Rattle.lfs_types.specs.Stored.{bytes_of, bytes_of_file, IsLeastFree}
 use Rattle.lfs_types.specs.Tree.{File, Row, World, Content, root}
 use Rattle.lfs_types.specs.declared.attrs.Attrs.{Attrs}
 use Rattle.lfs_types.specs.declared.attrs.Kind.{Kind}
@@ -20,7 +20,7 @@ use Rattle.lfs_model.specs.World.{children, IsTree, file_at}
 use Rattle.lfs_model.specs.Rules.{front, last, reached}
 use Rattle.lfs_model.specs.Effects.{new_file, with_new, least_unused}
 use Rattle.lfs_calls.specs.Content.{Shows, IsListing, FitsNowhere, block_at, listed}
-use Rattle.lfs_calls.specs.Makes.{IsParent, IsRoom, MakesFile}
+use Rattle.lfs_calls.specs.Makes.{EntersFirst, IsParent, IsRoom, ListsFirst, MakesFile}
 use Rattle.lfs_model.specs.Steps.{AllUsed}
 use Rattle.lfs_model.proofs.Children.{child-new, child-new_other}
 use Rattle.lfs_calls.proofs.Crowded.{crowded}
@@ -35,7 +35,7 @@ use Rattle.lfs_calls.proofs.StepLemmas.{ShownFile, attrs_reads, child_listed}
 use Rattle.lfs_calls.proofs.Visible.{Stored, shown_of, unused_of}
 
 -- a directory in which a new name may be put
-module _ {c : Content} {w : World} (shows : Shows c w) {caller : Caller} {index : ℕ} {path : List (List ℕ)} {dir : Reached} (is : IsParent c w.rows caller index path dir) where
+module _ {c : Content} {w : World} (shows : Shows c w) {path : List (List ℕ)} {dir : Reached} (is : IsParent c w.rows path dir) where
   abbrev f : ShownFile c dir.number dir.attrs
   f = dir_file shows dir.number dir.attrs is.shown is.directory
 
@@ -53,7 +53,7 @@ module _ {c : Content} {w : World} (shows : Shows c w) {caller : Caller} {index 
   dir_free = child_listed c w shows dir.number dir.attrs is.shown is.directory (last path) ∙ is.free
 
   -- a new row of an unused number
-  module _ (tree : IsTree w.rows) (numbers number : ℕ) (least : IsLeastFree numbers c (Some number)) (kind : Kind) (mode : ℕ) where
+  module _ (caller : Caller) (tree : IsTree w.rows) (numbers number : ℕ) (least : IsLeastFree numbers c (Some number)) (kind : Kind) (mode : ℕ) where
     absent : map.get w.rows number ≡ None
     absent = unused_of c w shows number least.2
 
@@ -158,6 +158,14 @@ module _ {c : Content} {w : World} (shows : Shows c w) {caller : Caller} {index 
         let sum : used_of (entries_of room.block) ≡ used_of (entries_of (block_at (bytes_of c dir.number) k)) + used_of ((number, last path) ∷ []) =
         ap used_of fits.adds ∙ used_of-append (entries_of (block_at (bytes_of c dir.number) k)) ((number, last path) ∷ []) in
         absurd (omega arith)
+
+    -- the directory lists the name where there is room first
+    pub enters_first : (before after : Content) → before ≡ c → (file : File) → MakesFile before after number file dir.number room.off room.block → EntersFirst c after w.rows path
+    enters_first before after same file made =
+        let makes = subst (λ x. MakesFile x after number file dir.number room.off room.block) same made in
+        let bytes : bytes_of after dir.number ≡ splice (bytes_of c dir.number) room.off room.block =
+        ap bytes_of_file (makes.listed f.file f.stored) ∙ ap (λ bs. splice bs room.off room.block) (sym dir_bytes) in
+        subst (λ m. ListsFirst (bytes_of c m) (bytes_of after m) (last path)) (sym is.object) (number, room, k, (fits, bytes))
 
     -- the directory is ready for a block to be written
     pub room_ready : IsSomeAnd (map.get c dir.number) (λ f. (f.kind ≡ Directory) × (length f.bytes % 512 ≡ 0) × (length f.bytes ≤ 71680) × (room.off ≤ length f.bytes))

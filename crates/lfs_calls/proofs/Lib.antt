@@ -1,3 +1,4 @@
+pub mod AskLemmas
 pub mod AttributeLemmas
 pub mod CallLemmas
 pub mod ChangeLemmas
@@ -7,6 +8,7 @@ pub mod Crowded
 pub mod CutLemmas
 pub mod Directories
 pub mod GrownStore
+pub mod LastNames
 pub mod ListLemmas
 pub mod Listings
 pub mod ListingsTaken

@@ -1,5 +1,5 @@
 -- What a call that makes a row may be answered, and what it leaves.
-use Rattle.std.proofs.Common.{◌≡◌, ◌≢◌, ℕ, zero, suc, ◌+◌, ◌-◌, ◌%◌, ◌<◌, ◌≤◌, ◌==◌, true, false, List, [], ◌∷◌, ◌++◌, length, drop, Option, None, Some, Ok, Err, refl, sym, ap, subst, ◌∙◌, ⊎_elim, arith}
+use Rattle.std.proofs.Common.{◌≡◌, ◌≢◌, ℕ, zero, suc, ◌+◌, ◌-◌, ◌%◌, ◌<◌, ◌≤◌, ◌==◌, Bool, true, false, List, [], ◌∷◌, ◌++◌, length, Option, None, Some, Ok, Err, refl, sym, ap, subst, ◌∙◌, ⊎_elim, arith}
 use Rattle.std.specs.Prelude.{not, is_some, is_none, IsSome}
 use Rattle.std.specs.Borrow.{Bor}
 use Rattle.std.proofs.lemmas.Bool.{cond-true, cond-false, ne_eqb, cases_Bool, cases_eq}
@@ -8,32 +8,27 @@ use Rattle.lfs_types.specs.Caller.{Caller}
 use Rattle.lfs_types.specs.Changes.{IsLength, CanApply, changed_at}
 use Rattle.lfs_types.specs.Kinds.{is_directory_kind}
 use Rattle.lfs_types.specs.Splicing.{splice}
-use Rattle.lfs_types.specs.Stored.{shown_attrs, bytes_of, IsUsedBelow}
+use Rattle.lfs_types.specs.Stored.{shown_attrs, IsUsedBelow}
 use Rattle.lfs_types.specs.Tree.{File, World, Content, root, file_of}
 use Rattle.lfs_types.specs.declared.attrs.Attrs.{Attrs}
-use Rattle.lfs_types.specs.declared.attrs.Bit.{Bit}
-use Rattle.lfs_types.specs.declared.attrs.Bit.TheVariants as bits
 use Rattle.lfs_types.specs.declared.attrs.Kind.{Kind}
 use Rattle.lfs_types.specs.declared.attrs.Kind.TheVariants.{Directory}
 use Rattle.lfs_types.specs.declared.rule.Denial.{Denial}
 use Rattle.lfs_types.specs.declared.rule.Rule.{Rule}
-use Rattle.lfs_types.specs.declared.rule.Rule.TheVariants.{IsDirectory, GrantsSearch, NameFree, IsMutable, GrantsWrite}
+use Rattle.lfs_types.specs.declared.rule.Rule.TheVariants.{NameFree}
 use Rattle.lfs_types.specs.declared.store.Change.TheVariants.{Make, Put}
-use Rattle.lfs_dirs.specs.Directory.{number_in}
-use Rattle.lfs_rules.specs.Grants.{grants_of}
-use Rattle.lfs_rules.specs.Locks.{is_immutable}
 use Rattle.lfs_model.specs.World.{Rows, child}
-use Rattle.lfs_model.specs.Rules.{Check, asks, first_failing, is_directory_row, row_grants, attrs_at, reached, walk, making, front, last}
+use Rattle.lfs_model.specs.Rules.{Check, first_failing, attrs_at, reached, walk, making, making_tests, front, last}
 use Rattle.lfs_model.specs.Effects.{least_unused}
-use Rattle.lfs_calls.specs.Content.{Shows, listed}
-use Rattle.lfs_calls.specs.Makes.{MakesFile}
+use Rattle.lfs_calls.specs.Content.{Shows}
+use Rattle.lfs_calls.specs.Makes.{IsParent, MakesFile}
 use Rattle.lfs_model.specs.Steps.{AllUsed}
 use Rattle.lfs_model.specs.Walks.{walked}
 use Rattle.lfs_model.proofs.Deciding.{walk_denied, walk_passed, walked-reached}
 use Rattle.lfs_types.proofs.Maps.{get-insert_same, get-insert_other}
 use Rattle.lfs_types.proofs.Pieces.{splice-put_over, length-put_over}
 use Rattle.lfs_types.proofs.Somewhere.{present, is_some_and, there_of}
-use Rattle.lfs_calls.proofs.StepLemmas.{directory_reads, attrs_reads, grants_reads, child_listed}
+use Rattle.lfs_calls.proofs.StepLemmas.{attrs_reads}
 use Rattle.lfs_calls.proofs.Visible.{shown_of}
 
 -- ---- the last name of a path
@@ -54,15 +49,11 @@ last-last (y ∷ z ∷ zs) x = last-last (z ∷ zs) x
 pub last_of : (names parents : List (List ℕ)) (name : List ℕ) → names ≡ parents ++ name ∷ [] → last names ≡ name
 last_of names parents name e = ap last e ∙ last-last parents name
 
--- the tests behind the first, by the names before the last and the last
+-- the tests behind the walk, by the names before the last and the last
 abbrev in_parent : Rows → Caller → ℕ → List (List ℕ) → List ℕ → List Check
 in_parent rows caller path parents name =
-    (asks (is_directory_row (map.get rows (reached rows root parents))) IsDirectory path (length parents)
-    ∷ asks (row_grants caller bits.Search (map.get rows (reached rows root parents))) GrantsSearch path (length parents)
-    ∷ asks (is_none (child rows (reached rows root parents) name)) NameFree path (length parents + 1)
-    ∷ asks (not (is_immutable (attrs_at rows (reached rows root parents)))) IsMutable path (length parents)
-    ∷ asks (row_grants caller bits.Write (map.get rows (reached rows root parents))) GrantsWrite path (length parents)
-    ∷ [])
+    let dir = reached rows root parents in
+    making_tests caller (is_none (child rows dir name)) path (attrs_at rows dir) (length parents)
 
 -- no name may be given to the root
 pub make_root : (rows : Rows) (caller : Caller) (path : ℕ) (names : List (List ℕ)) → length names ≡ 0 → first_failing (making rows caller path names) ≡ Some (record { rule = NameFree; path = path; at = 0 })
@@ -95,6 +86,17 @@ pub record Way (c : Content) (w : World) (caller : Caller) (path : ℕ) (names p
   pub leads : walked w.rows caller path 0 root parents ≡ Ok n
   pub shown : Some a ≡ shown_attrs c n
 
+-- a value isn't there where it is not that it is
+pub none_of : (o : Option ℕ) (none : Bool) → is_some o ≡ not none → none ≡ is_none o
+none_of None true h = refl
+none_of None false h = absurd (cc)
+none_of (Some n) true h = absurd (cc)
+none_of (Some n) false h = refl
+
+not_there : (o : Option ℕ) → is_none o ≡ true → o ≡ None
+not_there None h = refl
+not_there (Some n) h = absurd (cc)
+
 module _ {c : Content} {w : World} {caller : Caller} {path : ℕ} {names parents : List (List ℕ)} {name : List ℕ} {n : ℕ} {a : Attrs} (way : Way c w caller path names parents name n a) where
   abbrev failing : Option Denial
   failing = first_failing (making w.rows caller path names)
@@ -113,57 +115,24 @@ module _ {c : Content} {w : World} {caller : Caller} {path : ℕ} {names parents
   pub last_is : last names ≡ name
   last_is = last_of names parents name way.names_are
 
-  to_tests : failing ≡ first_failing (in_parent w.rows caller path parents name)
-  to_tests = to_walk w.rows caller path names parents name way.names_are way.count ∙ walk_passed w.rows caller path parents _ n way.leads
+  -- the tests of the directory decide
+  pub to_tests : (at : ℕ) → at ≡ length parents → failing ≡ first_failing (making_tests caller (is_none (child w.rows n name)) path a at)
+  to_tests at same =
+      to_walk w.rows caller path names parents name way.names_are way.count
+      ∙ walk_passed w.rows caller path parents _ n way.leads
+      ∙ ap (λ m. first_failing (making_tests caller (is_none (child w.rows m name)) path (attrs_at w.rows m) (length parents))) parent_is
+      ∙ ap (λ x. first_failing (making_tests caller (is_none (child w.rows n name)) path x (length parents))) (attrs_reads c w way.shows n a way.shown)
+      ∙ ap (λ k. first_failing (making_tests caller (is_none (child w.rows n name)) path a k)) (sym same)
 
-  kind_test : is_directory_row (map.get w.rows (reached w.rows root parents)) ≡ is_directory_kind a.kind
-  kind_test = ap (λ m. is_directory_row (map.get w.rows m)) parent_is ∙ directory_reads c w way.shows n a way.shown
-
-  grants_test : (bit : Bit) → row_grants caller bit (map.get w.rows (reached w.rows root parents)) ≡ grants_of caller a bit
-  grants_test bit = ap (λ m. row_grants caller bit (map.get w.rows m)) parent_is ∙ grants_reads c w way.shows n a way.shown caller bit
-
-  mutable_test : not (is_immutable (attrs_at w.rows (reached w.rows root parents))) ≡ not (is_immutable a)
-  mutable_test = ap (λ m. not (is_immutable (attrs_at w.rows m))) parent_is ∙ ap (λ x. not (is_immutable x)) (attrs_reads c w way.shows n a way.shown)
-
-  -- a new name in a file is denied
-  pub make_not_directory : is_directory_kind a.kind ≡ false → fails_by IsDirectory (length parents)
-  make_not_directory h = to_tests ∙ cond-false _ _ _ (kind_test ∙ h)
-
-  module _ (h : is_directory_kind a.kind ≡ true) where
-    -- and in a directory that the caller may not search
-    pub make_no_search : grants_of caller a bits.Search ≡ false → fails_by GrantsSearch (length parents)
-    make_no_search s = to_tests ∙ cond-true _ _ _ (kind_test ∙ h) ∙ cond-false _ _ _ (grants_test bits.Search ∙ s)
-
-    module _ (s : grants_of caller a bits.Search ≡ true) (found : Option ℕ) (f : found ≡ number_in name (listed (bytes_of c n))) where
-      -- what the look-up found is the directory's child
-      pub child_found : child w.rows n name ≡ found
-      child_found = sym (f ∙ child_listed c w way.shows n a way.shown h name)
-
-      free_test : is_none (child w.rows (reached w.rows root parents) name) ≡ is_none found
-      free_test = ap (λ m. is_none (child w.rows m name)) parent_is ∙ ap is_none child_found
-
-      to_free : failing ≡ first_failing (drop 2 (in_parent w.rows caller path parents name))
-      to_free = to_tests ∙ cond-true _ _ _ (kind_test ∙ h) ∙ cond-true _ _ _ (grants_test bits.Search ∙ s)
-
-      -- a name that is there is denied
-      pub make_taken : is_some found ≡ true → fails_by NameFree (length parents + 1)
-      make_taken t = to_free ∙ cond-false _ _ _ (free_test ∙ ap not t)
-
-      module _ (t : is_some found ≡ false) where
-        to_mutable : failing ≡ first_failing (drop 3 (in_parent w.rows caller path parents name))
-        to_mutable = to_free ∙ cond-true _ _ _ (free_test ∙ ap not t)
-
-        -- a name in an immutable directory is
-        pub make_immutable : is_immutable a ≡ true → fails_by IsMutable (length parents)
-        make_immutable i = to_mutable ∙ cond-false _ _ _ (mutable_test ∙ ap not i)
-
-        -- a name in a directory that the caller may not write is
-        pub make_not_granted : is_immutable a ≡ false → grants_of caller a bits.Write ≡ false → fails_by GrantsWrite (length parents)
-        make_not_granted i g = to_mutable ∙ cond-true _ _ _ (mutable_test ∙ ap not i) ∙ cond-false _ _ _ (grants_test bits.Write ∙ g)
-
-        -- another is allowed
-        pub make_allowed : is_immutable a ≡ false → grants_of caller a bits.Write ≡ true → failing ≡ None
-        make_allowed i g = to_mutable ∙ cond-true _ _ _ (mutable_test ∙ ap not i) ∙ cond-true _ _ _ (grants_test bits.Write ∙ g)
+  -- where they are met, the directory may list the name
+  pub parent_is_free : is_directory_kind a.kind ≡ true → is_none (child w.rows n name) ≡ true → IsParent c w.rows names (record { number = n; attrs = a })
+  parent_is_free directory free = record {
+    some = let count = way.count in omega (arith, count);
+    object = make_object;
+    shown = way.shown;
+    directory = directory;
+    free = ap (child w.rows n) last_is ∙ not_there (child w.rows n name) free;
+  }
 
 -- ---- what the store is asked
 

@@ -18,9 +18,19 @@ use Rattle.lfs_model.specs.Effects.{with_new}
 use Rattle.lfs_calls.specs.Content.{FitsNowhere}
 use Rattle.lfs_calls.specs.Makes.{request_for}
 use Rattle.lfs_calls.specs.Outcomes.{IsOutcome}
-use Rattle.lfs_model.specs.Steps.{AllUsed, after_answer}
-use Rattle.lfs_calls.specs.Calls.{resource_of}
+use Rattle.lfs_model.specs.Steps.{AllUsed, IsChanging, after_answer}
+use Rattle.lfs_calls.specs.Calls.{LooksOn, resource_of}
 use Rattle.lfs_calls.proofs.WriteLemmas.{refused_outcome}
+
+-- such a call changes files
+pub make_changing : (path : List (List ℕ)) (mode : ℕ) (kind : Kind) → IsChanging (request_for kind path mode)
+make_changing path mode Regular = tt
+make_changing path mode Directory = tt
+
+-- and does not look alone
+pub make_looks : (old new : StoreState) (path : List (List ℕ)) (mode : ℕ) (kind : Kind) → LooksOn (request_for kind path mode) old new
+make_looks old new path mode Regular = tt
+make_looks old new path mode Directory = tt
 
 module _ (s : StoreState) (w : World) (caller : Caller) (path : List (List ℕ)) (mode : ℕ) where
   abbrev may_be : Kind → Answer → Type 0

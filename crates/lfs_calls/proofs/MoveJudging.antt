@@ -1,102 +1,90 @@
 -- What the judge of a Rename finds, and what the rules say of it.
-use Rattle.std.proofs.Common.{◌≡◌, ◌≢◌, ℕ, ◌==◌, Bool, true, false, List, [], ◌∷◌, ◌++◌, length, None, Some, Ok, refl, ap, subst, ◌∙◌}
-use Rattle.std.specs.Prelude.{◌||◌, not}
-use Rattle.std.proofs.lemmas.Bool.{eq-eqb, ne_eqb}
-use Rattle.std.specs.FinMap as map
+use Rattle.std.proofs.Common.{◌≡◌, ℕ, ◌==◌, true, false, List, [], ◌∷◌, length, None, Some, Ok, Err, sym, ap, ◌∙◌}
+use Rattle.std.specs.Prelude.{not, Result, OnOk, IfErr}
+use Rattle.std.proofs.lemmas.Bool.{cond-true, cond-false}
 use Rattle.lfs_types.specs.Caller.{Caller}
 use Rattle.lfs_types.specs.Kinds.{is_directory_kind}
+use Rattle.lfs_types.specs.Stored.{shown_attrs}
 use Rattle.lfs_types.specs.Tree.{World, Content, root}
-use Rattle.lfs_types.specs.declared.attrs.Bit.TheVariants as bits
+use Rattle.lfs_types.specs.declared.attrs.Attrs.{Attrs}
 use Rattle.lfs_types.specs.declared.request.Request.TheVariants.{Rename}
-use Rattle.lfs_types.specs.declared.rule.Rule.TheVariants.{IsNotBeneathItself, GrantsWrite}
-use Rattle.lfs_rules.specs.Grants.{grants_of}
+use Rattle.lfs_types.specs.declared.rule.Denial.{Denial}
+use Rattle.lfs_types.specs.declared.rule.Rule.TheVariants.{IsNotBeneathItself}
+use Rattle.lfs_types.specs.StoreStates.{StoreState}
 use Rattle.lfs_calls.specs.declared.removing.Removal.{Removal}
 use Rattle.lfs_calls.specs.declared.walking.Reached.{Reached}
-use Rattle.lfs_model.specs.Rules.{is_directory_row, row_grants, reached, front, visited, position, decide}
+use Rattle.lfs_model.specs.World.{IsTree}
+use Rattle.lfs_model.specs.Rules.{apart_test, attrs_at, first_failing, judged, leaves_test, making, removing, reached, front, decide, position, visited}
+use Rattle.lfs_model.specs.Walks.{is_on_way}
+use Rattle.lfs_model.proofs.Allowed.{may_make}
+use Rattle.lfs_model.proofs.Deciding.{failing-front, failing-behind, judged_all, judged_none}
+use Rattle.lfs_model.proofs.MovedWay.{no_file_on_way}
 use Rattle.lfs_calls.specs.Content.{Shows}
 use Rattle.lfs_calls.specs.Makes.{IsParent}
 use Rattle.lfs_calls.specs.Removes.{IsRemoval}
-use Rattle.lfs_model.specs.Walks.{is_on_way}
-use Rattle.lfs_calls.specs.Renames.{IsMove}
-use Rattle.lfs_model.specs.Walks.{walked}
-use Rattle.lfs_model.proofs.Deciding.{denied_at}
-use Rattle.lfs_model.proofs.Allowed.{may_make}
-use Rattle.lfs_calls.proofs.MakeLemmas.{front-last}
-use Rattle.lfs_model.proofs.MovedWay.{no_file_on_way}
-use Rattle.lfs_calls.proofs.RenameLemmas.{rename_beneath, rename_not_granted, rename_allowed}
-use Rattle.lfs_calls.proofs.StepLemmas.{directory_reads, grants_reads}
-
-or_right : (a b : Bool) → b ≡ true → (a || b) ≡ true
-or_right true b h = refl
-or_right false b h = h
-
-or_middle : (a b c : Bool) → b ≡ true → (a || b || c) ≡ true
-or_middle true b c h = refl
-or_middle false b c h = ap (λ x. x || c) h
-
-or_none : (a b c : Bool) → a ≡ false → b ≡ false → c ≡ false → (a || b || c) ≡ false
-or_none a b c h k l = ap (λ x. x || b || c) h ∙ ap (λ x. x || c) k ∙ l
+use Rattle.lfs_calls.specs.Volumes.{InWorld}
+use Rattle.lfs_calls.proofs.RenameLemmas.{to_last}
+use Rattle.lfs_calls.proofs.StepLemmas.{attrs_reads, directory_reads}
 
 module _ (c : Content) (w : World) (shows : Shows c w) (caller : Caller) (from to : List (List ℕ)) (removal : Removal) (dir : Reached)
-    (removes : IsRemoval c w.rows caller from removal) (makes : IsParent c w.rows caller 1 to dir) where
-  abbrev moved : ℕ
-  moved = reached w.rows root from
+    (out : first_failing (removing w.rows caller from) ≡ None) (into : first_failing (making w.rows caller 1 to) ≡ None)
+    (removes : IsRemoval c w.rows from removal) (makes : IsParent c w.rows to dir) (at : ℕ) (same : at ≡ length from) where
+  abbrev file : Reached
+  file = removal.file
 
-  kind_is : is_directory_row (map.get w.rows moved) ≡ is_directory_kind removal.file.attrs.kind
-  kind_is = ap (λ n. is_directory_row (map.get w.rows n)) removes.row ∙ directory_reads c w shows removal.file.number removal.file.attrs removes.shown_file
+  -- the last tests, of what the judges gave back
+  to_moving : decide w caller (Rename from to) ≡ first_failing (apart_test w.rows file.number to ∷ leaves_test caller (removal.dir.number == dir.number) file.attrs at ∷ [])
+  to_moving =
+      to_last w caller from to out into
+      ∙ ap (λ m. first_failing (apart_test w.rows m to ∷ leaves_test caller (reached w.rows root (front from) == reached w.rows root (front to)) (attrs_at w.rows m) (length from) ∷ [])) removes.row
+      ∙ ap (λ m. first_failing (apart_test w.rows file.number to ∷ leaves_test caller (m == reached w.rows root (front to)) (attrs_at w.rows file.number) (length from) ∷ [])) removes.object
+      ∙ ap (λ m. first_failing (apart_test w.rows file.number to ∷ leaves_test caller (removal.dir.number == m) (attrs_at w.rows file.number) (length from) ∷ [])) makes.object
+      ∙ ap (λ a. first_failing (apart_test w.rows file.number to ∷ leaves_test caller (removal.dir.number == dir.number) a (length from) ∷ [])) (attrs_reads c w shows file.number file.attrs removes.shown_file)
+      ∙ ap (λ k. first_failing (apart_test w.rows file.number to ∷ leaves_test caller (removal.dir.number == dir.number) file.attrs k ∷ [])) (sym same)
 
-  writes_is : row_grants caller bits.Write (map.get w.rows moved) ≡ grants_of caller removal.file.attrs bits.Write
-  writes_is = ap (λ n. row_grants caller bits.Write (map.get w.rows n)) removes.row ∙ grants_reads c w shows removal.file.number removal.file.attrs removes.shown_file caller bits.Write
+  -- a row on the way to its new place is denied
+  pub move_beneath : (denial : Denial) → Err denial ≡ judged (apart_test w.rows file.number to ∷ []) → decide w caller (Rename from to) ≡ Some denial
+  move_beneath denial h = to_moving ∙ failing-front (apart_test w.rows file.number to ∷ []) (leaves_test caller (removal.dir.number == dir.number) file.attrs at ∷ []) denial
+      (judged_none (apart_test w.rows file.number to ∷ []) denial (sym h))
 
-  abbrev stays : Bool
-  stays = reached w.rows root (front from) == reached w.rows root (front to)
+  module _ (apart : Ok tt ≡ judged (apart_test w.rows file.number to ∷ [])) where
+    to_leaves : decide w caller (Rename from to) ≡ first_failing (leaves_test caller (removal.dir.number == dir.number) file.attrs at ∷ [])
+    to_leaves = to_moving ∙ failing-behind (apart_test w.rows file.number to ∷ []) (leaves_test caller (removal.dir.number == dir.number) file.attrs at ∷ [])
+        (judged_all (apart_test w.rows file.number to ∷ []) (sym apart))
 
-  stays_is : stays ≡ (removal.dir.number == dir.number)
-  stays_is = ap (λ n. n == reached w.rows root (front to)) removes.object ∙ ap (λ n. removal.dir.number == n) makes.object
+    -- one that the caller may not move is too
+    pub move_not_granted : (denial : Denial) → Err denial ≡ judged (leaves_test caller (removal.dir.number == dir.number) file.attrs at ∷ []) → decide w caller (Rename from to) ≡ Some denial
+    move_not_granted denial h = to_leaves ∙ judged_none (leaves_test caller (removal.dir.number == dir.number) file.attrs at ∷ []) denial (sym h)
 
-  move_is : decide w caller (Rename from to) ≡ None → IsMove c w caller from to (record { removal = removal; dir = dir })
-  move_is h = record { allowed = h; removal = removes; parent = makes }
+    -- another may be moved
+    pub move_granted : Ok tt ≡ judged (leaves_test caller (removal.dir.number == dir.number) file.attrs at ∷ []) → decide w caller (Rename from to) ≡ None
+    move_granted h = to_leaves ∙ judged_all (leaves_test caller (removal.dir.number == dir.number) file.attrs at ∷ []) (sym h)
 
-  -- a file may be moved
-  pub move_of_file : is_directory_kind removal.file.attrs.kind ≡ false → IsMove c w caller from to (record { removal = removal; dir = dir })
-  move_of_file h =
-      let may = may_make w.rows caller 1 to makes.allowed in
-      let file = kind_is ∙ h in
-      move_is (rename_allowed w caller from to removes.allowed makes.allowed
-      (no_file_on_way w.rows caller 1 0 root moved (reached w.rows root (front to)) (front to) may.way file may.directory)
-      (ap (λ b. not b || stays || row_grants caller bits.Write (map.get w.rows moved)) file))
+-- ---- the way to a new place
 
-  module _ (parents : List (List ℕ)) (name : List ℕ) (e : to ≡ parents ++ name ∷ []) where
-    parents_are : front to ≡ parents
-    parents_are = ap front e ∙ front-last parents name
+-- a row that isn't on the way to it
+pub apart_met : (w : World) (moved : ℕ) (to : List (List ℕ)) → is_on_way w.rows (front to) moved ≡ false → Ok tt ≡ judged (apart_test w.rows moved to ∷ [])
+apart_met w moved to h = sym (cond-true _ _ _ (ap not h))
 
-    -- the names before the last of the new path lead somewhere
-    pub way_leads : (n : ℕ) × (walked w.rows caller 1 0 root parents ≡ Ok n)
-    way_leads = subst (λ names. (n : ℕ) × (walked w.rows caller 1 0 root names ≡ Ok n)) parents_are (reached w.rows root (front to), (may_make w.rows caller 1 to makes.allowed).way)
+-- and one that is
+pub apart_unmet : (w : World) (moved : ℕ) (to : List (List ℕ)) → is_on_way w.rows (front to) moved ≡ true → Err (apart_test w.rows moved to).denial ≡ judged (apart_test w.rows moved to ∷ [])
+apart_unmet w moved to h = sym (cond-false _ _ _ (ap not h))
 
-    way_is : is_on_way w.rows (front to) moved ≡ is_on_way w.rows parents removal.file.number
-    way_is = ap (λ names. is_on_way w.rows names moved) parents_are ∙ ap (is_on_way w.rows parents) removes.row
+-- a file is on no way
+pub file_apart : (c : Content) (w : World) → Shows c w → IsTree w.rows → (caller : Caller) (to : List (List ℕ)) → first_failing (making w.rows caller 1 to) ≡ None
+    → (n : ℕ) (a : Attrs) → Some a ≡ shown_attrs c n → is_directory_kind a.kind ≡ false → is_on_way w.rows (front to) n ≡ false
+file_apart c w shows tree caller to into n a shown regular =
+    let may = may_make w.rows tree caller 1 to into in
+    no_file_on_way w.rows caller 1 0 root n (reached w.rows root (front to)) (front to) may.way (directory_reads c w shows n a shown ∙ regular) may.directory
 
-    -- a row on the way to its new place is denied
-    pub move_beneath : is_on_way w.rows parents removal.file.number ≡ true
-        → decide w caller (Rename from to) ≡ Some (record { rule = IsNotBeneathItself; path = 1; at = position removal.file.number (visited w.rows root parents) })
-    move_beneath h = rename_beneath w caller from to removes.allowed makes.allowed (way_is ∙ h)
-        ∙ ap (λ names. Some (record { rule = IsNotBeneathItself; path = 1; at = position moved (visited w.rows root names) })) parents_are
-        ∙ ap (λ n. Some (record { rule = IsNotBeneathItself; path = 1; at = position n (visited w.rows root parents) })) removes.row
-
-    module _ (apart : is_on_way w.rows parents removal.file.number ≡ false) where
-      -- a directory that keeps its parent may be moved
-      pub move_that_stays : removal.dir.number ≡ dir.number → IsMove c w caller from to (record { removal = removal; dir = dir })
-      move_that_stays h = move_is (rename_allowed w caller from to removes.allowed makes.allowed (way_is ∙ apart)
-          (or_middle (not (is_directory_row (map.get w.rows moved))) stays _ (stays_is ∙ eq-eqb removal.dir.number dir.number h)))
-
-      -- and one that the caller may write
-      pub move_granted : grants_of caller removal.file.attrs bits.Write ≡ true → IsMove c w caller from to (record { removal = removal; dir = dir })
-      move_granted h = move_is (rename_allowed w caller from to removes.allowed makes.allowed (way_is ∙ apart)
-          (or_right (not (is_directory_row (map.get w.rows moved)) || stays) _ (writes_is ∙ h)))
-
-      -- another directory is denied
-      pub move_not_granted : is_directory_kind removal.file.attrs.kind ≡ true → removal.dir.number ≢ dir.number → grants_of caller removal.file.attrs bits.Write ≡ false
-          → decide w caller (Rename from to) ≡ Some (denied_at (length from) GrantsWrite)
-      move_not_granted d other g = rename_not_granted w caller from to removes.allowed makes.allowed (way_is ∙ apart)
-          (or_none _ _ _ (ap not (kind_is ∙ d)) (stays_is ∙ ne_eqb removal.dir.number dir.number other) (writes_is ∙ g))
+-- what the walk along the names before the last found
+pub way_judged : {s : StoreState} (moved : ℕ) (to names : List (List ℕ)) → names ≡ front to → (result : Result (Unit {0}) Denial)
+    → OnOk result (InWorld s (λ w. is_on_way w.rows names moved ≡ false))
+    → IfErr result (λ denial. InWorld s (λ w. (is_on_way w.rows names moved ≡ true)
+    × (denial ≡ record { rule = IsNotBeneathItself; path = 1; at = position moved (visited w.rows root names) })))
+    → InWorld s (λ w. result ≡ judged (apart_test w.rows moved to ∷ []))
+way_judged moved to names e (Ok tt) ok err w v = apart_met w moved to (ap (λ ns. is_on_way w.rows ns moved) (sym e) ∙ ok w v)
+way_judged moved to names e (Err denial) ok err w v =
+    let found = err w v in
+    ap Err (found.1 ∙ ap (λ ns. record { rule = IsNotBeneathItself; path = 1; at = position moved (visited w.rows root ns) }) e)
+    ∙ apart_unmet w moved to (ap (λ ns. is_on_way w.rows ns moved) (sym e) ∙ found.0)

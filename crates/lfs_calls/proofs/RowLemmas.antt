@@ -1,35 +1,36 @@
 -- What a call that removes a file or an empty directory may be answered.
-use Rattle.std.proofs.Common.{◌≡◌, ℕ, ◌<◌, ◌==◌, true, false, List, [], ◌∷◌, length, None, Some, refl, sym, ap, subst, ◌∙◌, arith}
-use Rattle.std.specs.Prelude.{not, Contains}
-use Rattle.std.proofs.lemmas.Bool.{cond-true, cond-false, ne_eqb}
+use Rattle.std.proofs.Common.{◌≡◌, ℕ, ◌<◌, ◌==◌, Bool, true, false, List, [], ◌∷◌, length, None, Some, refl, sym, ap, subst, ◌∙◌, arith}
+use Rattle.std.specs.Prelude.{Contains, IsTrue, ◌↔◌}
+use Rattle.std.proofs.lemmas.Bool.{ne_eqb, not-true}
 use Rattle.std.specs.FinMap as map
 use Rattle.lfs_types.specs.Caller.{Caller}
 use Rattle.lfs_types.specs.Kinds.{is_directory_kind}
-use Rattle.lfs_types.specs.Stored.{bytes_of}
+use Rattle.lfs_types.specs.Stored.{bytes_of, shown_attrs}
 use Rattle.lfs_types.specs.Tree.{World, Content, root}
-use Rattle.lfs_types.specs.declared.request.Request.{Request}
+use Rattle.lfs_types.specs.declared.attrs.Attrs.{Attrs}
 use Rattle.lfs_types.specs.declared.request.Request.TheVariants.{Unlink, Rmdir}
 use Rattle.lfs_types.specs.declared.rule.Denial.{Denial}
-use Rattle.lfs_types.specs.declared.rule.Rule.TheVariants.{IsDirectory, IsNoDirectory, IsEmpty}
 use Rattle.lfs_dirs.specs.Changes.{number_in-nil}
 use Rattle.lfs_dirs.specs.Directory.{Entry, number_in}
 use Rattle.lfs_calls.specs.declared.making.Room.{Room}
 use Rattle.lfs_calls.specs.declared.removing.Removal.{Removal}
+use Rattle.lfs_calls.specs.declared.walking.Reached.{Reached}
 use Rattle.lfs_model.specs.World.{Rows, child, children, IsTree}
-use Rattle.lfs_model.specs.Rules.{Check, asks, first_failing, decide, is_directory_row, last, reached, removing}
+use Rattle.lfs_model.specs.Rules.{Check, attrs_at, first_failing, decide, last, reached, removing, rmdir_tests, unlink_tests}
 use Rattle.lfs_model.specs.Effects.{without_row}
-use Rattle.lfs_calls.specs.Content.{Shows, listed}
+use Rattle.lfs_calls.specs.Content.{Shows, listed, visible}
 use Rattle.lfs_types.specs.StoreStates.{StoreState}
 use Rattle.lfs_calls.specs.Volumes.{InWorld, IsVolume}
 use Rattle.lfs_calls.proofs.StateLemmas.{same_content}
 use Rattle.lfs_calls.specs.Removes.{TakesRow, IsRemoval, IsRemovable, HangsAs, IsTaking, TakesFile}
 use Rattle.lfs_model.proofs.Children.{child-is, child-none, child-answer}
 use Rattle.lfs_calls.proofs.Crowded.{listed-le-children}
-use Rattle.lfs_model.proofs.Deciding.{failing-front, failing-behind, denied_at}
+use Rattle.lfs_model.proofs.Deciding.{failing-front, failing-behind, met_first}
 use Rattle.lfs_calls.proofs.Directories.{bytes_listing}
+use Rattle.lfs_model.proofs.LawTree.{childless}
 use Rattle.lfs_model.proofs.Members.{children-hang}
 use Rattle.lfs_model.proofs.Shrunk.{IsTree-shrunk}
-use Rattle.lfs_calls.proofs.StepLemmas.{directory_reads, child_listed}
+use Rattle.lfs_calls.proofs.StepLemmas.{shown_file, attrs_reads, directory_reads, child_listed}
 use Rattle.lfs_calls.proofs.TakeLemmas.{shows_without}
 use Rattle.lfs_model.proofs.Trees.{no_parent}
 
@@ -47,84 +48,84 @@ some_entry : (es : List Entry) → (es ≡ [] → ⊥) → 0 < length es
 some_entry [] h = absurd (h refl)
 some_entry (e ∷ es) h = omega arith
 
+-- what a store shows of a row says whether a row hangs in it
+module _ (c : Content) (w : World) (shows : Shows c w) (n : ℕ) (a : Attrs) (shown : Some a ≡ shown_attrs c n) where
+  -- none hangs in a file
+  pub file_childless : IsTree w.rows → is_directory_kind a.kind ≡ false → (name : List ℕ) → child w.rows n name ≡ None
+  file_childless tree regular name = child-answer w.rows tree.unique n name None (no_parent w.rows tree n (directory_reads c w shows n a shown ∙ regular) name)
+
+  pub file_empty : IsTree w.rows → is_directory_kind a.kind ≡ false → (length (children w.rows n) == 0) ≡ true
+  file_empty tree regular = ap (λ (ms : List ℕ). length ms == 0) (no_children w.rows n (file_childless tree regular))
+
+  module _ (directory : is_directory_kind a.kind ≡ true) where
+    listed_childless : listed (bytes_of c n) ≡ [] → (name : List ℕ) → child w.rows n name ≡ None
+    listed_childless none name = sym (child_listed c w shows n a shown directory name) ∙ ap (number_in name) none ∙ number_in-nil name
+
+    -- in a directory none hangs exactly where it lists none
+    pub directory_empty : (b : Bool) → (IsTrue b ↔ (listed (bytes_of c n) ≡ [])) → b ≡ (length (children w.rows n) == 0)
+    directory_empty true same = sym (ap (λ (ms : List ℕ). length ms == 0) (no_children w.rows n (listed_childless (same.0 refl))))
+    directory_empty false same =
+        let fewer = listed-le-children w.rows n (bytes_of c n) (bytes_listing shows n a shown directory) in
+        let many = some_entry (listed (bytes_of c n)) (λ none. let wrong = same.1 none in absurd (cc)) in
+        sym (ne_eqb (length (children w.rows n)) 0 (λ z. absurd (omega (arith, fewer, many))))
+
 -- ---- the rules behind those that files and directories share
 
 -- the tests of an Unlink's and of a Rmdir's own
-abbrev unlink_tests : Rows → List (List ℕ) → List Check
-unlink_tests rows names = asks (not (is_directory_row (map.get rows (reached rows root names)))) IsNoDirectory 0 (length names) ∷ []
+abbrev own_unlink : Rows → List (List ℕ) → List Check
+own_unlink rows names = unlink_tests (attrs_at rows (reached rows root names)) (length names)
 
-abbrev rmdir_tests : Rows → List (List ℕ) → List Check
-rmdir_tests rows names =
+abbrev own_rmdir : Rows → List (List ℕ) → List Check
+own_rmdir rows names =
     let dir = reached rows root names in
-    asks (is_directory_row (map.get rows dir)) IsDirectory 0 (length names)
-    ∷ asks (length (children rows dir) == 0) IsEmpty 0 (length names)
-    ∷ []
+    rmdir_tests (length (children rows dir) == 0) (attrs_at rows dir) (length names)
 
 -- where the shared tests deny, the call is denied
 pub unlink_denied : (w : World) (caller : Caller) (names : List (List ℕ)) (denial : Denial) → first_failing (removing w.rows caller names) ≡ Some denial → decide w caller (Unlink names) ≡ Some denial
-unlink_denied w caller names denial h = failing-front (removing w.rows caller names) (unlink_tests w.rows names) denial h
+unlink_denied w caller names denial h = failing-front (removing w.rows caller names) (own_unlink w.rows names) denial h
 
 -- and so for a Rmdir
 pub rmdir_denied : (w : World) (caller : Caller) (names : List (List ℕ)) (denial : Denial) → first_failing (removing w.rows caller names) ≡ Some denial → decide w caller (Rmdir names) ≡ Some denial
-rmdir_denied w caller names denial h = failing-front (removing w.rows caller names) (rmdir_tests w.rows names) denial h
+rmdir_denied w caller names denial h = failing-front (removing w.rows caller names) (own_rmdir w.rows names) denial h
 
-module _ (c : Content) (w : World) (shows : Shows c w) (caller : Caller) (names : List (List ℕ)) (removal : Removal) (is : IsRemoval c w.rows caller names removal) where
-  abbrev n : ℕ
-  n = removal.file.number
+module _ (c : Content) (w : World) (shows : Shows c w) (caller : Caller) (names : List (List ℕ)) (removal : Removal) (allowed : first_failing (removing w.rows caller names) ≡ None)
+    (is : IsRemoval c w.rows names removal) (at : ℕ) (same : at ≡ length names) where
+  abbrev file : Reached
+  file = removal.file
 
-  kind_reads : is_directory_row (map.get w.rows n) ≡ is_directory_kind removal.file.attrs.kind
-  kind_reads = directory_reads c w shows n removal.file.attrs is.shown_file
+  seen : attrs_at w.rows file.number ≡ record file.attrs { size = length (visible (shown_file c file.number file.attrs is.shown_file).file).bytes }
+  seen = attrs_reads c w shows file.number file.attrs is.shown_file
 
-  kind_test : is_directory_row (map.get w.rows (reached w.rows root names)) ≡ is_directory_kind removal.file.attrs.kind
-  kind_test = ap (λ m. is_directory_row (map.get w.rows m)) is.row ∙ kind_reads
+  -- where the shared tests are met, the call's own decide
+  pub to_unlink : decide w caller (Unlink names) ≡ first_failing (unlink_tests file.attrs at)
+  to_unlink =
+      failing-behind (removing w.rows caller names) (own_unlink w.rows names) allowed
+      ∙ ap (λ m. first_failing (unlink_tests (attrs_at w.rows m) (length names))) is.row
+      ∙ ap (λ x. first_failing (unlink_tests x (length names))) seen
+      ∙ ap (λ k. first_failing (unlink_tests file.attrs k)) (sym same)
 
-  to_unlink : decide w caller (Unlink names) ≡ first_failing (unlink_tests w.rows names)
-  to_unlink = failing-behind (removing w.rows caller names) (unlink_tests w.rows names) is.allowed
+  pub to_rmdir : decide w caller (Rmdir names) ≡ first_failing (rmdir_tests (length (children w.rows file.number) == 0) file.attrs at)
+  to_rmdir =
+      failing-behind (removing w.rows caller names) (own_rmdir w.rows names) allowed
+      ∙ ap (λ m. first_failing (rmdir_tests (length (children w.rows m) == 0) (attrs_at w.rows m) (length names))) is.row
+      ∙ ap (λ x. first_failing (rmdir_tests (length (children w.rows file.number) == 0) x (length names))) seen
+      ∙ ap (λ k. first_failing (rmdir_tests (length (children w.rows file.number) == 0) file.attrs k)) (sym same)
 
-  to_rmdir : decide w caller (Rmdir names) ≡ first_failing (rmdir_tests w.rows names)
-  to_rmdir = failing-behind (removing w.rows caller names) (rmdir_tests w.rows names) is.allowed
+-- what may be unlinked is a file
+pub unlinks_file : (file : Attrs) (k : ℕ) → first_failing (unlink_tests file k) ≡ None → is_directory_kind file.kind ≡ false
+unlinks_file attrs k h = not-true _ (met_first _ _ _ h).0
 
-  -- an Unlink of a directory is denied
-  pub unlink_of_directory : is_directory_kind removal.file.attrs.kind ≡ true → decide w caller (Unlink names) ≡ Some (denied_at (length names) IsNoDirectory)
-  unlink_of_directory h = to_unlink ∙ cond-false _ _ _ (ap not (kind_test ∙ h))
-
-  -- a Rmdir of a file is
-  pub rmdir_of_file : is_directory_kind removal.file.attrs.kind ≡ false → decide w caller (Rmdir names) ≡ Some (denied_at (length names) IsDirectory)
-  rmdir_of_file h = to_rmdir ∙ cond-false _ _ _ (kind_test ∙ h)
-
-  module _ (regular : is_directory_kind removal.file.attrs.kind ≡ false) where
-    -- an Unlink of a file is allowed
-    pub unlink_allowed : decide w caller (Unlink names) ≡ None
-    unlink_allowed = to_unlink ∙ cond-true _ _ _ (ap not (kind_test ∙ regular))
-
-    -- nothing hangs in a file
-    pub file_childless : IsTree w.rows → (name : List ℕ) → child w.rows n name ≡ None
-    file_childless tree name = child-answer w.rows tree.unique n name None (no_parent w.rows tree n (kind_reads ∙ regular) name)
-
-  module _ (directory : is_directory_kind removal.file.attrs.kind ≡ true) where
-    -- nothing hangs in a directory that lists nothing
-    pub listed_childless : listed (bytes_of c n) ≡ [] → (name : List ℕ) → child w.rows n name ≡ None
-    listed_childless none name = sym (child_listed c w shows n removal.file.attrs is.shown_file directory name) ∙ ap (number_in name) none ∙ number_in-nil name
-
-    -- a Rmdir of a directory that lists nothing is allowed
-    pub rmdir_allowed : listed (bytes_of c n) ≡ [] → decide w caller (Rmdir names) ≡ None
-    rmdir_allowed none =
-        let empty = no_children w.rows n (listed_childless none) in
-        to_rmdir ∙ cond-true _ _ _ (kind_test ∙ directory)
-        ∙ cond-true _ _ _ (ap (λ m. length (children w.rows m) == 0) is.row ∙ ap (λ (ms : List ℕ). length ms == 0) empty)
-
-    -- one of a directory that lists a name is denied
-    pub rmdir_of_full : (listed (bytes_of c n) ≡ [] → ⊥) → decide w caller (Rmdir names) ≡ Some (denied_at (length names) IsEmpty)
-    rmdir_of_full some =
-        let fewer = listed-le-children w.rows n (bytes_of c n) (bytes_listing shows n removal.file.attrs is.shown_file directory) in
-        let many = some_entry (listed (bytes_of c n)) some in
-        to_rmdir ∙ cond-true _ _ _ (kind_test ∙ directory)
-        ∙ cond-false _ _ _ (ap (λ m. length (children w.rows m) == 0) is.row ∙ ne_eqb (length (children w.rows n)) 0 (λ z. absurd (omega (arith, fewer, many))))
+-- what may be removed as a directory is empty
+pub rmdir_childless : (rows : Rows) → IsTree rows → (n : ℕ) (file : Attrs) (k : ℕ) → first_failing (rmdir_tests (length (children rows n) == 0) file k) ≡ None
+    → (name : List ℕ) → child rows n name ≡ None
+rmdir_childless rows tree n attrs k h name =
+    let one = met_first _ _ _ h in
+    let two = met_first _ _ _ one.1 in
+    child-answer rows tree.unique n name None (childless rows n two.0 name)
 
 -- ---- the world after it
 
-module _ (c : Content) (w : World) (shows : Shows c w) (tree : IsTree w.rows) (caller : Caller) (path : List (List ℕ)) (request : Request) (removal : Removal)
-    (is : IsRemovable c w caller path request removal) where
+module _ (c : Content) (w : World) (shows : Shows c w) (tree : IsTree w.rows) (path : List (List ℕ)) (removal : Removal) (is : IsRemovable c w.rows path removal) where
   -- the row hangs under the last name
   pub row_hangs : HangsAs c w.rows removal (last path)
   row_hangs = record { hangs = is.is.hangs; shown_dir = is.is.shown_dir; shown_file = is.is.shown_file; directory = is.is.directory }
@@ -142,12 +143,12 @@ module _ (c : Content) (w : World) (shows : Shows c w) (tree : IsTree w.rows) (c
       (shows_without c w shows tree removal (last path) row_hangs room k taking after takes)
 
 -- the store after a call took a row away
-pub row_taken : {s mid : StoreState} (new : StoreState) (caller : Caller) (names : List (List ℕ)) (request : Request) (removal : Removal) → mid ≡ s
-    → InWorld s (λ w. IsRemovable s.content w caller names request removal) → TakesRow mid.content new.content removal (last names)
+pub row_taken : {s mid : StoreState} (new : StoreState) (names : List (List ℕ)) (removal : Removal) → mid ≡ s
+    → InWorld s (λ w. IsRemovable s.content w.rows names removal) → TakesRow mid.content new.content removal (last names)
     → InWorld s (λ w. IsVolume new (without_row (reached w.rows root names) w))
-row_taken {s = s} new caller names request removal same is took w v =
+row_taken {s = s} new names removal same is took w v =
     let here = subst (λ (c : Content). TakesRow c new.content removal (last names)) (same_content same) took in
     record {
-      shows = row_shows s.content w v.shows v.tree caller names request removal (is w v) new.content here.0 here.1 here.2.0 here.2.1;
-      tree = row_tree s.content w v.shows v.tree caller names request removal (is w v);
+      shows = row_shows s.content w v.shows v.tree names removal (is w v) new.content here.0 here.1 here.2.0 here.2.1;
+      tree = row_tree s.content w v.shows v.tree names removal (is w v);
     }

@@ -12,6 +12,7 @@ use Rattle.lfs_types.specs.declared.answer.Resource.TheVariants as resources
 use Rattle.lfs_types.specs.declared.answer.Served.{Served}
 use Rattle.lfs_types.specs.declared.level.Level.{Level}
 use Rattle.lfs_types.specs.declared.request.Request.{Request}
+use Rattle.lfs_types.specs.declared.request.Request.TheVariants.{Stat, Read, List as Names, SetLevel, Sync}
 use Rattle.lfs_types.specs.declared.store.StoreRefusal.{StoreRefusal}
 use Rattle.lfs_types.specs.declared.store.StoreRefusal.TheVariants.{NoSpace, NoMemory}
 use Rattle.lfs_model.specs.Steps.{after_answer}
@@ -38,12 +39,22 @@ pub record ChangesTo (old : StoreState) (P : Content → Type 0) (result : Resul
   pub refused : IfErr result (MayRefuse old.clean old.shape.can_lack_memory)
   pub follows : Follows old new
 
+-- what a call leaves that only looks, or that sets the level: the state as it was; and of a Sync the content
+abbrev pub LooksOn : Request → StoreState → StoreState → Type 0
+LooksOn (Stat path) old new = new ≡ old
+LooksOn (Read path off len) old new = new ≡ old
+LooksOn (Names path) old new = new ≡ old
+LooksOn (SetLevel level) old new = new ≡ old
+LooksOn Sync old new = new.content ≡ old.content
+LooksOn request old new = Unit {0}
+
 -- A caller made a call of a store at this securelevel, and it came to this: the answer has its cause, the store shows
--- the world that the answer leaves, a call that halts or lists changes no content, and no more segments are clean.
+-- the world that the answer leaves, a call that halts, looks or lists changes nothing, and no more segments are clean.
 pub record IsCallAt (level : Level) (old new : StoreState) (caller : Caller) (request : Request) (result : Result Served Halt) : Type 0 where
   pub outcome : InWorld old (λ w. w.level ≡ level → IsOutcome old w caller request (answered result))
   pub leaves : InWorld old (λ w. IsVolume new (after_answer old.shape.numbers w caller request (answered result)))
   pub halted : OnErr result (new.content ≡ old.content)
+  pub looks : LooksOn request old new
   pub listed : ServesList (answered result) → new.content ≡ old.content
   pub follows : Follows old new
 

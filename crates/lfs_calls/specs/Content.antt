@@ -1,6 +1,8 @@
 -- What a store's content shows as a world.
 use Rattle.std.specs.Prelude.{◌≡◌, ℕ, zero, suc, ◌+◌, ◌*◌, ◌/◌, ◌<◌, List, [], ◌++◌, length, take, drop, Option, None, Some, option_map}
 use Rattle.std.specs.FinMap as map
+use Rattle.lfs_types.specs.declared.limits.TheConstants.{FILE_BLOCKS, FILE_BYTES}
+use Rattle.lfs_types.specs.declared.block.TheConstants.{BLOCK_SIZE}
 use Rattle.lfs_types.specs.Changes.{IsLength}
 use Rattle.lfs_types.specs.Tree.{File, Row, World, Content}
 use Rattle.lfs_types.specs.declared.attrs.Kind.{Kind}
@@ -11,7 +13,7 @@ use Rattle.lfs_model.specs.World.{Rows, child}
 
 -- a block of a directory's bytes
 abbrev pub block_at : List ℕ → ℕ → List ℕ
-block_at bytes k = take 512 (drop (512 * k) bytes)
+block_at bytes k = take BLOCK_SIZE (drop (BLOCK_SIZE * k) bytes)
 
 -- the entries of the first blocks of a directory's bytes, so many of them
 unfoldable pub entries_below : List ℕ → ℕ → List Entry
@@ -20,11 +22,11 @@ entries_below bytes (suc k) = entries_below bytes k ++ entries_of (block_at byte
 
 -- the entries of a directory's bytes
 abbrev pub listed : List ℕ → List Entry
-listed bytes = entries_below bytes (length bytes / 512)
+listed bytes = entries_below bytes (length bytes / BLOCK_SIZE)
 
 -- each block of a directory's bytes is a directory block
 abbrev pub AreBlocks : List ℕ → Type 0
-AreBlocks bytes = (k : ℕ) → k < length bytes / 512 → IsDirectoryBlock (block_at bytes k) (entries_of (block_at bytes k))
+AreBlocks bytes = (k : ℕ) → k < length bytes / BLOCK_SIZE → IsDirectoryBlock (block_at bytes k) (entries_of (block_at bytes k))
 
 -- A directory's bytes list the rows that hang in it: each block is a directory block, no name stands twice, and
 -- a name's entry has the number of the row that hangs there under that name.
@@ -57,5 +59,5 @@ left_of (Some name) es = without name es
 -- a new name fits in no block of a directory, from which a name was taken away or none, and which has all the blocks
 -- that it may have
 pub record FitsNowhere (bytes : List ℕ) (taken : Option (List ℕ)) (name : List ℕ) : Type 0 where
-  pub whole : length bytes ≡ 71680
-  pub full : (k : ℕ) → k < 140 → 512 < used_of (left_of taken (entries_of (block_at bytes k))) + 5 + length name
+  pub whole : length bytes ≡ FILE_BYTES
+  pub full : (k : ℕ) → k < FILE_BLOCKS → BLOCK_SIZE < used_of (left_of taken (entries_of (block_at bytes k))) + 5 + length name

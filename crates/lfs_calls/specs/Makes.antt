@@ -1,37 +1,32 @@
 -- What judging and making a new row come to, over a store.
-use Rattle.std.specs.Prelude.{◌≡◌, ◌≢◌, ℕ, ◌+◌, ◌*◌, ◌/◌, ◌%◌, ◌<◌, ◌≤◌, true, List, [], ◌∷◌, ◌++◌, length, Option, None, Some, Result, Ok, Err}
+use Rattle.std.specs.Prelude.{◌≡◌, ◌≢◌, ℕ, ◌+◌, ◌*◌, ◌/◌, ◌%◌, ◌<◌, ◌≤◌, true, List, [], ◌∷◌, ◌++◌, length, Option, None, Some}
 use Rattle.std.specs.Borrow.{Bor}
 use Rattle.std.specs.FinMap as map
-use Rattle.lfs_types.specs.Caller.{Caller}
+use Rattle.lfs_types.specs.declared.limits.TheConstants.{FILE_BLOCKS}
+use Rattle.lfs_types.specs.declared.block.TheConstants.{BLOCK_SIZE}
 use Rattle.lfs_types.specs.Kinds.{is_directory_kind}
 use Rattle.lfs_types.specs.Splicing.{splice}
-use Rattle.lfs_types.specs.Stored.{shown_attrs}
+use Rattle.lfs_types.specs.Stored.{bytes_of, shown_attrs}
 use Rattle.lfs_types.specs.Tree.{File, Content, root}
 use Rattle.lfs_types.specs.declared.attrs.Kind.{Kind}
 use Rattle.lfs_types.specs.declared.attrs.Kind.TheVariants.{File as Regular, Directory}
 use Rattle.lfs_types.specs.declared.request.Request.{Request}
 use Rattle.lfs_types.specs.declared.request.Request.TheVariants.{Create, Mkdir}
-use Rattle.lfs_types.specs.declared.rule.Denial.{Denial}
 use Rattle.lfs_dirs.specs.Directory.{IsDirectoryBlock, used_of}
 use Rattle.lfs_dirs.specs.Reading.{entries_of}
 use Rattle.lfs_calls.specs.declared.making.Room.{Room}
 use Rattle.lfs_calls.specs.declared.walking.Reached.{Reached}
 use Rattle.lfs_model.specs.World.{Rows, child}
-use Rattle.lfs_model.specs.Rules.{first_failing, making, front, last, reached}
+use Rattle.lfs_model.specs.Rules.{front, last, reached}
 use Rattle.lfs_calls.specs.Content.{block_at}
 
--- a directory in which a new name may be put, as the store shows it
-pub record IsParent (c : Content) (rows : Rows) (caller : Caller) (index : ℕ) (path : List (List ℕ)) (dir : Reached) : Type 0 where
-  pub allowed : first_failing (making rows caller index path) ≡ None
+-- a directory that a path's names before the last lead to, and that hasn't the last name, as the store shows it
+pub record IsParent (c : Content) (rows : Rows) (path : List (List ℕ)) (dir : Reached) : Type 0 where
+  pub some : 0 < length path
   pub object : reached rows root (front path) ≡ dir.number
   pub shown : Some dir.attrs ≡ shown_attrs c dir.number
   pub directory : is_directory_kind dir.attrs.kind ≡ true
   pub free : child rows dir.number (last path) ≡ None
-
--- the directory in which the new name of the path of this index may be put, or the denial
-abbrev pub JudgesMaking : Content → Rows → Caller → ℕ → List (List ℕ) → Result Reached Denial → Type 0
-JudgesMaking c rows caller index path (Ok dir) = IsParent c rows caller index path dir
-JudgesMaking c rows caller index path (Err denial) = first_failing (making rows caller index path) ≡ Some denial
 
 -- the request that makes an empty file of this kind
 abbrev pub request_for : Kind → List (List ℕ) → ℕ → Request
@@ -40,18 +35,18 @@ request_for Directory path mode = Mkdir path mode
 
 -- a block of a directory's bytes, or one at their end, with an entry more; the name fits in none before it
 pub record IsRoom (bytes : List ℕ) (number : ℕ) (name : List ℕ) (room : Room) (k : ℕ) : Type 0 where
-  pub off : room.off ≡ 512 * k
-  pub within : k ≤ length bytes / 512
-  pub fits : k < 140
+  pub off : room.off ≡ BLOCK_SIZE * k
+  pub within : k ≤ length bytes / BLOCK_SIZE
+  pub fits : k < FILE_BLOCKS
   pub block : IsDirectoryBlock room.block (entries_of room.block)
   pub adds : entries_of room.block ≡ entries_of (block_at bytes k) ++ (number, name) ∷ []
-  pub first : (j : ℕ) → j < k → 512 < used_of (entries_of (block_at bytes j)) + 5 + length name
+  pub first : (j : ℕ) → j < k → BLOCK_SIZE < used_of (entries_of (block_at bytes j)) + 5 + length name
 
 -- a block may be read in place of one of a directory's bytes
 pub record StandsIn (bytes : List ℕ) (room : Room) : Type 0 where
-  pub aligned : room.off % 512 ≡ 0
+  pub aligned : room.off % BLOCK_SIZE ≡ 0
   pub within : room.off < length bytes
-  pub size : length room.block ≡ 512
+  pub size : length room.block ≡ BLOCK_SIZE
 
 -- a directory's bytes, with a block read in place of the stored one, if one is given
 abbrev pub with_block : List ℕ → Option (Bor Room) → List ℕ
@@ -63,3 +58,15 @@ pub record MakesFile (old new : Content) (number : ℕ) (file : File) (dir : ℕ
   pub made : map.get new number ≡ Some file
   pub listed : (f : File) → map.get old dir ≡ Some f → map.get new dir ≡ Some (record f { bytes = splice f.bytes off block })
   pub others : (q : ℕ) → q ≢ number → q ≢ dir → map.get new q ≡ map.get old q
+
+-- A directory's bytes list a new name: its entry stands in the first block where it fits, or else in a new one at the
+-- end, and all other blocks are what they were.
+abbrev pub ListsFirst : List ℕ → List ℕ → List ℕ → Type 0
+ListsFirst old new name =
+    (number : ℕ) × (room : Room) × (k : ℕ) × (IsRoom old number name room k × (new ≡ splice old room.off room.block))
+
+-- the directory of a new path's last name lists it so
+abbrev pub EntersFirst : Content → Content → Rows → List (List ℕ) → Type 0
+EntersFirst old new rows path =
+    let dir = reached rows root (front path) in
+    ListsFirst (bytes_of old dir) (bytes_of new dir) (last path)

@@ -1,41 +1,21 @@
 -- What judging and taking away a name come to, over a store.
-use Rattle.std.specs.Prelude.{◌≡◌, ◌≢◌, ℕ, ◌+◌, ◌*◌, ◌/◌, ◌<◌, not, true, List, [], ◌∷◌, length, None, Some, IsSome, Result, Ok, Err}
+use Rattle.std.specs.Prelude.{◌≡◌, ◌≢◌, ℕ, ◌*◌, ◌/◌, ◌<◌, true, List, length, None, Some, IsSome}
 use Rattle.std.specs.FinMap as map
-use Rattle.lfs_types.specs.Caller.{Caller}
+use Rattle.lfs_types.specs.declared.block.TheConstants.{BLOCK_SIZE}
 use Rattle.lfs_types.specs.Kinds.{is_directory_kind}
 use Rattle.lfs_types.specs.Splicing.{splice}
 use Rattle.lfs_types.specs.Stored.{shown_attrs, bytes_of}
-use Rattle.lfs_types.specs.Tree.{File, World, Content, root}
-use Rattle.lfs_types.specs.declared.attrs.Attrs.{Attrs}
-use Rattle.lfs_types.specs.declared.attrs.Bit.TheVariants as bits
-use Rattle.lfs_types.specs.declared.request.Request.{Request}
-use Rattle.lfs_types.specs.declared.rule.Denial.{Denial}
-use Rattle.lfs_types.specs.declared.rule.Rule.TheVariants.{IsMutable, IsNotAppendOnly, GrantsWrite, PassesSticky}
+use Rattle.lfs_types.specs.Tree.{File, Content, root}
 use Rattle.lfs_dirs.specs.Directory.{IsDirectoryBlock, number_in, without}
 use Rattle.lfs_dirs.specs.Reading.{entries_of}
-use Rattle.lfs_rules.specs.Grants.{grants_of}
-use Rattle.lfs_rules.specs.Locks.{is_immutable, is_append_only}
-use Rattle.lfs_rules.specs.Sticky.{is_barred}
 use Rattle.lfs_calls.specs.declared.making.Room.{Room}
 use Rattle.lfs_calls.specs.declared.removing.Removal.{Removal}
 use Rattle.lfs_model.specs.World.{Rows, child}
-use Rattle.lfs_model.specs.Rules.{Check, asks, first_failing, decide, removing, front, last, reached}
+use Rattle.lfs_model.specs.Rules.{front, last, reached}
 use Rattle.lfs_calls.specs.Content.{block_at}
 
--- the tests of a directory, which stands at component k, and of a file in it whose name is to be taken away
-abbrev pub barriers : Caller → Attrs → Attrs → ℕ → List Check
-barriers caller dir file k =
-    asks (not (is_immutable dir)) IsMutable 0 k
-    ∷ asks (grants_of caller dir bits.Write) GrantsWrite 0 k
-    ∷ asks (not (is_append_only dir)) IsNotAppendOnly 0 k
-    ∷ asks (not (is_barred caller dir file)) PassesSticky 0 (k + 1)
-    ∷ asks (not (is_immutable file)) IsMutable 0 (k + 1)
-    ∷ asks (not (is_append_only file)) IsNotAppendOnly 0 (k + 1)
-    ∷ []
-
--- a row whose name may be taken away, and its directory, as the store shows them
-pub record IsRemoval (c : Content) (rows : Rows) (caller : Caller) (path : List (List ℕ)) (removal : Removal) : Type 0 where
-  pub allowed : first_failing (removing rows caller path) ≡ None
+-- the row that a path leads to, and its directory, as the store shows them
+pub record IsRemoval (c : Content) (rows : Rows) (path : List (List ℕ)) (removal : Removal) : Type 0 where
   pub some : 0 < length path
   pub object : reached rows root (front path) ≡ removal.dir.number
   pub row : reached rows root path ≡ removal.file.number
@@ -44,21 +24,10 @@ pub record IsRemoval (c : Content) (rows : Rows) (caller : Caller) (path : List 
   pub shown_file : Some removal.file.attrs ≡ shown_attrs c removal.file.number
   pub directory : is_directory_kind removal.dir.attrs.kind ≡ true
 
--- the row whose name may be taken away, or the denial
-abbrev pub JudgesRemoving : Content → Rows → Caller → List (List ℕ) → Result Removal Denial → Type 0
-JudgesRemoving c rows caller path (Ok removal) = IsRemoval c rows caller path removal
-JudgesRemoving c rows caller path (Err denial) = first_failing (removing rows caller path) ≡ Some denial
-
--- a row that a call takes away: the call is allowed, and nothing hangs in the row
-pub record IsRemovable (c : Content) (w : World) (caller : Caller) (path : List (List ℕ)) (request : Request) (removal : Removal) : Type 0 where
-  pub allowed : decide w caller request ≡ None
-  pub is : IsRemoval c w.rows caller path removal
-  pub childless : (name : List ℕ) → child w.rows removal.file.number name ≡ None
-
--- the row that a call takes away, or its denial
-abbrev pub JudgesRow : Content → World → Caller → List (List ℕ) → Request → Result Removal Denial → Type 0
-JudgesRow c w caller path request (Ok removal) = IsRemovable c w caller path request removal
-JudgesRow c w caller path request (Err denial) = decide w caller request ≡ Some denial
+-- such a row, in which nothing hangs
+pub record IsRemovable (c : Content) (rows : Rows) (path : List (List ℕ)) (removal : Removal) : Type 0 where
+  pub is : IsRemoval c rows path removal
+  pub childless : (name : List ℕ) → child rows removal.file.number name ≡ None
 
 -- a row hangs in a directory under a name, and the store shows both
 pub record HangsAs (c : Content) (rows : Rows) (removal : Removal) (name : List ℕ) : Type 0 where
@@ -69,8 +38,8 @@ pub record HangsAs (c : Content) (rows : Rows) (removal : Removal) (name : List 
 
 -- the block of a directory's bytes that lists a name, without it
 pub record IsTaking (bytes : List ℕ) (name : List ℕ) (room : Room) (k : ℕ) : Type 0 where
-  pub off : room.off ≡ 512 * k
-  pub within : k < length bytes / 512
+  pub off : room.off ≡ BLOCK_SIZE * k
+  pub within : k < length bytes / BLOCK_SIZE
   pub listed : IsSome (number_in name (entries_of (block_at bytes k)))
   pub block : IsDirectoryBlock room.block (entries_of room.block)
   pub takes : entries_of room.block ≡ without name (entries_of (block_at bytes k))

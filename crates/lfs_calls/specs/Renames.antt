@@ -1,33 +1,26 @@
 -- What judging and making a Rename come to, over a store.
-use Rattle.std.specs.Prelude.{◌≡◌, ◌==◌, ℕ, ◌%◌, ◌<◌, ◌≤◌, true, List, length, Option, None, Some, Result, Ok, Err, IsSomeAnd, if◌then◌else◌}
+use Rattle.std.specs.Prelude.{◌≡◌, ◌==◌, ℕ, ◌%◌, ◌<◌, ◌≤◌, true, List, length, Option, None, Some, IsSomeAnd, if◌then◌else◌}
 use Rattle.std.specs.FinMap as map
-use Rattle.lfs_types.specs.Caller.{Caller}
+use Rattle.lfs_types.specs.declared.limits.TheConstants.{FILE_BYTES}
+use Rattle.lfs_types.specs.declared.block.TheConstants.{BLOCK_SIZE}
 use Rattle.lfs_types.specs.Changes.{changed_at}
 use Rattle.lfs_types.specs.Kinds.{is_directory_kind}
 use Rattle.lfs_types.specs.Splicing.{splice}
 use Rattle.lfs_types.specs.Stored.{shown_attrs, bytes_of}
-use Rattle.lfs_types.specs.Tree.{World, Content}
+use Rattle.lfs_types.specs.Tree.{Content, root}
 use Rattle.lfs_types.specs.declared.attrs.Kind.TheVariants.{Directory}
-use Rattle.lfs_types.specs.declared.request.Request.TheVariants.{Rename}
-use Rattle.lfs_types.specs.declared.rule.Denial.{Denial}
 use Rattle.lfs_calls.specs.declared.making.Room.{Room}
 use Rattle.lfs_calls.specs.declared.renaming.Move.{Move}
 use Rattle.lfs_calls.specs.declared.renaming.Places.{Places}
 use Rattle.lfs_model.specs.World.{Rows, child}
-use Rattle.lfs_model.specs.Rules.{decide}
-use Rattle.lfs_calls.specs.Makes.{IsParent, IsRoom}
+use Rattle.lfs_model.specs.Rules.{front, last, reached}
+use Rattle.lfs_calls.specs.Makes.{IsParent, IsRoom, ListsFirst}
 use Rattle.lfs_calls.specs.Removes.{IsRemoval, HangsAs, IsTaking}
 
--- a row that may get another place, and the directory of that place, as the store shows them
-pub record IsMove (c : Content) (w : World) (caller : Caller) (from to : List (List ℕ)) (move : Move) : Type 0 where
-  pub allowed : decide w caller (Rename from to) ≡ None
-  pub removal : IsRemoval c w.rows caller from move.removal
-  pub parent : IsParent c w.rows caller 1 to move.dir
-
--- the row that may get another place, or the denial
-abbrev pub JudgesMove : Content → World → Caller → List (List ℕ) → List (List ℕ) → Result Move Denial → Type 0
-JudgesMove c w caller from to (Ok move) = IsMove c w caller from to move
-JudgesMove c w caller from to (Err denial) = decide w caller (Rename from to) ≡ Some denial
+-- the row that a path leads to, and the directory that is to list it at another path, as the store shows them
+pub record IsMove (c : Content) (rows : Rows) (from to : List (List ℕ)) (move : Move) : Type 0 where
+  pub removal : IsRemoval c rows from move.removal
+  pub parent : IsParent c rows to move.dir
 
 -- the content after a block of a directory was written
 abbrev pub block_put : ℕ → Room → Content → Content
@@ -35,10 +28,10 @@ block_put dir room c = changed_at (map.get c dir) dir (λ f. record f { bytes = 
 
 -- a block of a directory's bytes, or one at their end
 pub record IsBlockOf (c : Content) (dir : ℕ) (room : Room) : Type 0 where
-  pub directory : IsSomeAnd (map.get c dir) (λ f. (f.kind ≡ Directory) × (length f.bytes % 512 ≡ 0) × (length f.bytes ≤ 71680) × (room.off ≤ length f.bytes))
-  pub aligned : room.off % 512 ≡ 0
-  pub fits : room.off < 71680
-  pub size : length room.block ≡ 512
+  pub directory : IsSomeAnd (map.get c dir) (λ f. (f.kind ≡ Directory) × (length f.bytes % BLOCK_SIZE ≡ 0) × (length f.bytes ≤ FILE_BYTES) × (room.off ≤ length f.bytes))
+  pub aligned : room.off % BLOCK_SIZE ≡ 0
+  pub fits : room.off < FILE_BYTES
+  pub size : length room.block ≡ BLOCK_SIZE
 
 -- the content after blocks of two directories, or of one, were written, one after the other
 abbrev pub WritesBlocks : Content → Content → ℕ → Room → ℕ → Room → Type 0
@@ -59,3 +52,12 @@ name_left move old = if move.removal.dir.number == move.dir.number then Some old
 pub record ArePlaces (c : Content) (move : Move) (old new : List ℕ) (places : Places) : Type 0 where
   pub taking : (k : ℕ) × IsTaking (bytes_of c move.removal.dir.number) old places.taken k
   pub room : (k : ℕ) × IsRoom (bytes_of (block_put move.removal.dir.number places.taken c) move.dir.number) move.removal.file.number new places.room k
+
+-- A Rename's new name stands in the first block of its directory where it fits, once the old name was taken away, or
+-- else in a new one at the end.
+pub record MovesFirst (old new : Content) (rows : Rows) (from to : List (List ℕ)) : Type 0 where
+  pub taken : Room
+  pub takes : (k : ℕ) × IsTaking (bytes_of old (reached rows root (front from))) (last from) taken k
+  pub lists : ListsFirst
+      (bytes_of (block_put (reached rows root (front from)) taken old) (reached rows root (front to)))
+      (bytes_of new (reached rows root (front to))) (last to)

@@ -32,7 +32,8 @@ pub fn chmod<F: FileStore>(
     mode: Mode,
 ) -> Result<Served, Halt>
     requires { HasWorld (F.state store.old) }
-    ensures { IsCall (F.state store.old) (F.state store.new) cred.now (Request.Chmod path.now mode) result }
+    ensures { IsCall (F.state store.old) (F.state store.new) cred.now (Request.Chmod path.now mode)
+        result }
 {
     let file = find(store, cred, path)?;
     may_chmod(&file.attrs, cred, depth(path))?;
@@ -58,7 +59,8 @@ pub fn chown<F: FileStore>(
     gid: u32,
 ) -> Result<Served, Halt>
     requires { HasWorld (F.state store.old) }
-    ensures { IsCall (F.state store.old) (F.state store.new) cred.now (Request.Chown path.now uid gid)
+    ensures { IsCall (F.state store.old) (F.state store.new) cred.now
+        (Request.Chown path.now uid gid)
         result }
 {
     let file = find(store, cred, path)?;

@@ -1,6 +1,7 @@
 //! The call that cuts a file or adds zeros to it.
 
 ghost use Rattle.std.specs.Prelude.{◌≡◌, ◌≤◌, Some, false};
+ghost use Rattle.lfs_types.specs.declared.limits.TheConstants.{FILE_BYTES};
 ghost use Rattle.lfs_types.specs.Kinds.{is_directory_kind};
 ghost use Rattle.lfs_types.specs.Splicing.{resized};
 ghost use Rattle.lfs_types.specs.Stored.{shown_attrs};
@@ -30,7 +31,8 @@ pub fn set_length<F: FileStore>(
     len: u64,
 ) -> Result<Served, Halt>
     requires { HasWorld (F.state store.old) }
-    ensures { IsCall (F.state store.old) (F.state store.new) cred.now (Request.SetLength path.now len)
+    ensures { IsCall (F.state store.old) (F.state store.new) cred.now
+        (Request.SetLength path.now len)
         result }
 {
     let file = find(store, cred, path)?;
@@ -56,7 +58,7 @@ fn cut<F: FileStore>(
 ) -> Result<(), StoreRefusal>
     requires shown { Some file.now.attrs ≡ shown_attrs (F.state store.old).content file.now.number }
     requires regular { is_directory_kind file.now.attrs.kind ≡ false }
-    requires fits { len ≤ 71680 }
+    requires fits { len ≤ FILE_BYTES }
     ensures { ChangesTo (F.state store.old)
         (λ after. ChangesBytes (F.state store.old).content after
         file.now.number cred.now (λ old. resized old len))

@@ -5,6 +5,7 @@ ghost use Rattle.std.specs.Cmp.Lexicographic.{slice_cmp};
 ghost use Rattle.std.specs.FinMap.{get};
 ghost use Rattle.std.specs.List.Sorted.{IsPermutation, IsSorted};
 ghost use Rattle.std.specs.Ordering.{nat_cmp};
+ghost use Rattle.lfs_types.specs.declared.block.TheConstants.{BLOCK_SIZE};
 ghost use Rattle.lfs_types.specs.Naming.{name_fault};
 ghost use Rattle.lfs_types.specs.Stored.{bytes_of};
 ghost use Rattle.lfs_dirs.specs.Directory.{IsDirectoryBlock};
@@ -39,7 +40,8 @@ pub fn list<F: FileStore>(
     path: &Path,
 ) -> Result<Served, Halt>
     requires { HasWorld (F.state store.old) }
-    ensures call { IsCall (F.state store.old) (F.state store.new) cred.now (Request.List path.now) result }
+    ensures call { IsCall (F.state store.old) (F.state store.new) cred.now (Request.List path.now)
+        result }
     ensures state { F.state store.new ≡ F.state store.old }
 {
     let dir = find(store, cred, path)?;
@@ -67,7 +69,7 @@ fn names_of_directory<F: FileStore>(
 ) -> Result<Vec<Name>, AllocError>
     requires used { IsSome (get (F.state store.old).content dir) }
     requires size { size ≡ length (bytes_of (F.state store.old).content dir) }
-    requires whole { size % 512 ≡ 0 }
+    requires whole { size % BLOCK_SIZE ≡ 0 }
     requires blocks { AreBlocks (bytes_of (F.state store.old).content dir) }
     ensures names { IfOk result (λ names. names.items
         ≡ map (λ e. e.1) (listed (bytes_of (F.state store.old).content dir))) }

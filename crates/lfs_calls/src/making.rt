@@ -1,20 +1,24 @@
 //! The calls that make a row.
 
-ghost use Rattle.std.specs.Prelude.{◌≡◌, ℕ, [], ◌∷◌, IsSomeAnd, ◌≤◌, ◌+◌, ◌%◌, ◌<◌, IsSome, IfSome, Some, None, length, take, drop, MatchOption};
+ghost use Rattle.std.specs.Prelude.{◌≡◌, ℕ, [], ◌∷◌, IsSomeAnd, ◌≤◌, ◌+◌, ◌%◌, ◌<◌, IsSome, IfSome, Some, None, length, take, drop, MatchOption, OnOk};
 ghost use Rattle.std.specs.FinMap.{get};
+ghost use Rattle.lfs_types.specs.declared.path.TheConstants.{PATH_MAX};
+ghost use Rattle.lfs_types.specs.declared.limits.TheConstants.{FILE_BYTES};
+ghost use Rattle.lfs_types.specs.declared.block.TheConstants.{BLOCK_SIZE};
 ghost use Rattle.lfs_types.specs.declared.attrs.Kind.TheVariants.{Directory};
 ghost use Rattle.lfs_types.specs.Stored.{bytes_of};
 ghost use Rattle.lfs_types.specs.Tree.{file_of};
 ghost use Rattle.lfs_dirs.specs.Directory.{IsDirectoryBlock, number_in};
 ghost use Rattle.lfs_dirs.specs.Reading.{entries_of};
+ghost use Rattle.lfs_model.specs.Rules.{Judges, judged, making, making_tests};
 ghost use Rattle.lfs_calls.specs.Calls.{ChangesTo, IsCall};
 ghost use Rattle.lfs_calls.specs.Volumes.{HasWorld, InWorld};
 ghost use Rattle.lfs_calls.specs.Content.{listed, FitsNowhere, AreBlocks};
-ghost use Rattle.lfs_calls.specs.Makes.{JudgesMaking, request_for, IsRoom, StandsIn, with_block, MakesFile};
+ghost use Rattle.lfs_calls.specs.Makes.{EntersFirst, IsParent, request_for, IsRoom, StandsIn, with_block, MakesFile};
 
-use crate::directory::{look_up, read_block};
+use crate::directory::{child_of, read_block};
 use crate::halt::Halt;
-use crate::walking::{Reached, component, denial, reach};
+use crate::walking::{Reached, ask, component, denial, last_name, reach};
 use lfs_dirs::added;
 use lfs_rules::access::grants;
 use lfs_rules::flags::immutable;
@@ -48,9 +52,9 @@ pub(crate) fn judge_make<F: FileStore>(
     names: &[Name],
 ) -> Result<Reached, Denial>
     requires world { HasWorld (F.state store.old) }
-    requires short { length names.now ≤ 1024 }
-    ensures judge { InWorld (F.state store.old)
-        (λ w. JudgesMaking (F.state store.old).content w.rows cred.now path names.now result) }
+    requires short { length names.now ≤ PATH_MAX }
+    ensures judge { InWorld (F.state store.old) (λ w. Judges (making w.rows cred.now path names.now)
+        (IsParent (F.state store.old).content w.rows names.now) result) }
     ensures state { F.state store.new ≡ F.state store.old }
 {
     let Some((name, parents)) = names.split_last() else {
@@ -58,22 +62,22 @@ pub(crate) fn judge_make<F: FileStore>(
     };
     let at = component(parents);
     let dir = reach(store, cred, path, parents)?;
-    if !dir.attrs.kind.is_directory() {
-        return Err(denial(Rule::IsDirectory, path, at));
-    }
-    if !grants(&dir.attrs, cred, Bit::Search) {
-        return Err(denial(Rule::GrantsSearch, path, at));
-    }
-    if look_up(store, dir.number, dir.attrs.size, name).is_some() {
-        return Err(denial(Rule::NameFree, path, at + 1));
-    }
-    if immutable(&dir.attrs) {
-        return Err(denial(Rule::IsMutable, path, at));
-    }
-    if !grants(&dir.attrs, cred, Bit::Write) {
-        return Err(denial(Rule::GrantsWrite, path, at));
-    }
+    let free = child_of(store, &dir, name).is_none();
+    may_make(&dir.attrs, cred, free, path, at)?;
     Ok(dir)
+}
+
+/// Whether a caller may put a name, which may be free, into a directory, which stands at component `at` of the path of
+/// this index, or the first rule that fails.
+fn may_make(dir: &Attrs, cred: &Cred, free: bool, path: u8, at: u32) -> Result<(), Denial>
+    requires { at < PATH_MAX }
+    ensures { result ≡ judged (making_tests cred.now free path dir.now at) }
+{
+    ask(dir.kind.is_directory(), Rule::IsDirectory, path, at)?;
+    ask(grants(dir, cred, Bit::Search), Rule::GrantsSearch, path, at)?;
+    ask(free, Rule::NameFree, path, at + 1)?;
+    ask(!immutable(dir), Rule::IsMutable, path, at)?;
+    ask(grants(dir, cred, Bit::Write), Rule::GrantsWrite, path, at)
 }
 
 /// The first block of a directory that has room for a new entry, with that entry, else a new block at the end; None
@@ -89,12 +93,14 @@ pub(crate) fn find_room<F: FileStore>(
 ) -> Option<Room>
     requires used { IsSome (get (F.state store.old).content dir) }
     requires size { size ≡ length (bytes_of (F.state store.old).content dir) }
-    requires whole { size % 512 ≡ 0 }
-    requires bounded { size ≤ 71680 }
-    requires taken { IfSome taken (λ room. StandsIn (bytes_of (F.state store.old).content dir) room.now) }
+    requires whole { size % BLOCK_SIZE ≡ 0 }
+    requires bounded { size ≤ FILE_BYTES }
+    requires taken { IfSome taken
+        (λ room. StandsIn (bytes_of (F.state store.old).content dir) room.now) }
     requires blocks { AreBlocks (with_block (bytes_of (F.state store.old).content dir) taken) }
     requires above { 0 < number }
-    requires free { number_in name.now (listed (with_block (bytes_of (F.state store.old).content dir) taken))
+    requires free { number_in name.now (listed (with_block
+        (bytes_of (F.state store.old).content dir) taken))
         ≡ None }
     ensures room { MatchOption result
         (FitsNowhere (with_block (bytes_of (F.state store.old).content dir) taken.entry)
@@ -122,10 +128,11 @@ pub(crate) fn find_room<F: FileStore>(
 /// The block of a directory that begins at byte `off`: that in `taken` if it begins there, else the stored one.
 fn seen_block<F: FileStore>(store: &mut F, dir: u32, off: u64, taken: Option<&Room>) -> Block
     requires used { IsSome (get (F.state store.old).content dir) }
-    requires aligned { off % 512 ≡ 0 }
-    requires within { off + 512 ≤ length (bytes_of (F.state store.old).content dir) }
-    requires taken { IfSome taken (λ room. StandsIn (bytes_of (F.state store.old).content dir) room.now) }
-    ensures block { result ≡ take 512
+    requires aligned { off % BLOCK_SIZE ≡ 0 }
+    requires within { off + BLOCK_SIZE ≤ length (bytes_of (F.state store.old).content dir) }
+    requires taken { IfSome taken
+        (λ room. StandsIn (bytes_of (F.state store.old).content dir) room.now) }
+    ensures block { result ≡ take BLOCK_SIZE
         (drop off (with_block (bytes_of (F.state store.old).content dir) taken.entry)) }
     ensures state { F.state store.new ≡ F.state store.old }
 {
@@ -161,11 +168,11 @@ fn put_new<F: FileStore>(
     requires within { number < (F.state store.old).shape.numbers }
     requires unused { get (F.state store.old).content number ≡ None }
     requires directory { IsSomeAnd (get (F.state store.old).content dir)
-        (λ f. (f.kind ≡ Directory) × (length f.bytes % 512 ≡ 0) × (length f.bytes ≤ 71680)
+        (λ f. (f.kind ≡ Directory) × (length f.bytes % BLOCK_SIZE ≡ 0) × (length f.bytes ≤ FILE_BYTES)
         × (room.now.off ≤ length f.bytes)) }
-    requires aligned { room.now.off % 512 ≡ 0 }
-    requires fits { room.now.off < 71680 }
-    requires block { length room.now.block ≡ 512 }
+    requires aligned { room.now.off % BLOCK_SIZE ≡ 0 }
+    requires fits { room.now.off < FILE_BYTES }
+    requires block { length room.now.block ≡ BLOCK_SIZE }
     ensures { ChangesTo (F.state store.old)
         (λ after. MakesFile (F.state store.old).content after
         number (file_of attrs []) dir room.now.off room.now.block)
@@ -189,8 +196,10 @@ pub fn create<F: FileStore>(
     mode: Mode,
 ) -> Result<Served, Halt>
     requires { HasWorld (F.state store.old) }
-    ensures { IsCall (F.state store.old) (F.state store.new) cred.now (Request.Create path.now mode)
+    ensures call { IsCall (F.state store.old) (F.state store.new) cred.now (Request.Create path.now mode)
         result }
+    ensures place { OnOk result (InWorld (F.state store.old) (λ w.
+        EntersFirst (F.state store.old).content (F.state store.new).content w.rows path.now)) }
 {
     make(store, cred, path, Kind::File, mode)
 }
@@ -203,7 +212,10 @@ pub fn mkdir<F: FileStore>(
     mode: Mode,
 ) -> Result<Served, Halt>
     requires { HasWorld (F.state store.old) }
-    ensures { IsCall (F.state store.old) (F.state store.new) cred.now (Request.Mkdir path.now mode) result }
+    ensures call { IsCall (F.state store.old) (F.state store.new) cred.now (Request.Mkdir path.now mode)
+        result }
+    ensures place { OnOk result (InWorld (F.state store.old) (λ w.
+        EntersFirst (F.state store.old).content (F.state store.new).content w.rows path.now)) }
 {
     make(store, cred, path, Kind::Directory, mode)
 }
@@ -217,14 +229,14 @@ fn make<F: FileStore>(
     mode: Mode,
 ) -> Result<Served, Halt>
     requires { HasWorld (F.state store.old) }
-    ensures { IsCall (F.state store.old) (F.state store.new) cred.now (request_for kind path.now mode)
+    ensures call { IsCall (F.state store.old) (F.state store.new) cred.now (request_for kind path.now mode)
         result }
+    ensures place { OnOk result (InWorld (F.state store.old) (λ w.
+        EntersFirst (F.state store.old).content (F.state store.new).content w.rows path.now)) }
 {
     let names = path.names();
     let dir = judge_make(store, cred, 0, names)?;
-    let Some((name, _)) = names.split_last() else {
-        unreachable!()
-    };
+    let name = last_name(names);
     prove!(name.as_bytes().len() <= NAME_MAX);
     let Some(number) = store.least_free() else {
         return Err(Halt::Refused(Resource::NoInodes));

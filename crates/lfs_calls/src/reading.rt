@@ -14,8 +14,9 @@ use lfs_rules::access::grants;
 use lfs_types::answer::{Resource, Served};
 use lfs_types::attrs::{Attrs, Bit};
 use lfs_types::cred::Cred;
+use lfs_types::limits::TRANSFER_BYTES;
 use lfs_types::path::Path;
-use lfs_types::payload::{Bytes, PAYLOAD_MAX};
+use lfs_types::payload::Bytes;
 use lfs_types::request::Request;
 use lfs_types::rule::{Denial, Rule};
 use lfs_types::store::FileStore;
@@ -24,7 +25,8 @@ use std::alloc::Global;
 /// The number and the attributes of a file.
 pub fn stat<F: FileStore>(store: &mut F, cred: &Cred, path: &Path) -> Result<Served, Halt>
     requires { HasWorld (F.state store.old) }
-    ensures call { IsCall (F.state store.old) (F.state store.new) cred.now (Request.Stat path.now) result }
+    ensures call { IsCall (F.state store.old) (F.state store.new) cred.now (Request.Stat path.now)
+        result }
     ensures state { F.state store.new ≡ F.state store.old }
 {
     let file = find(store, cred, path)?;
@@ -54,13 +56,14 @@ pub fn read<F: FileStore>(
     len: u32,
 ) -> Result<Served, Halt>
     requires { HasWorld (F.state store.old) }
-    ensures call { IsCall (F.state store.old) (F.state store.new) cred.now (Request.Read path.now off len)
+    ensures call { IsCall (F.state store.old) (F.state store.new) cred.now
+        (Request.Read path.now off len)
         result }
     ensures state { F.state store.new ≡ F.state store.old }
 {
     let file = find(store, cred, path)?;
     may_read(&file.attrs, cred, depth(path))?;
-    let count = (len as usize).min(PAYLOAD_MAX);
+    let count = (len as usize).min(TRANSFER_BYTES);
     match read_bytes(alloc, store, file.number, off, file.attrs.size, count) {
         Some(bytes) => Ok(Served::Bytes(Bytes::from(bytes))),
         None => Err(Halt::Refused(Resource::NoMemory)),
@@ -86,7 +89,8 @@ fn read_bytes<F: FileStore>(
 ) -> Option<Vec<u8>>
     requires used { IsSome (get (F.state store.old).content ino) }
     requires size { size ≡ length (bytes_of (F.state store.old).content ino) }
-    ensures bytes { IfSome result (λ v. v.items ≡ slice_of (bytes_of (F.state store.old).content ino) off count) }
+    ensures bytes { IfSome result
+        (λ v. v.items ≡ slice_of (bytes_of (F.state store.old).content ino) off count) }
     ensures state { F.state store.new ≡ F.state store.old }
 {
     let left = size.saturating_sub(off);

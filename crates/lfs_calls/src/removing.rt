@@ -1,20 +1,24 @@
 //! The calls that take away a name.
 
-ghost use Rattle.std.specs.Prelude.{◌≡◌, ◌↔◌, ℕ, ◌<◌, ◌≤◌, ◌%◌, [], length, IsSome, IsTrue};
+ghost use Rattle.std.specs.Prelude.{◌≡◌, ◌==◌, Some, ◌↔◌, ℕ, ◌<◌, ◌≤◌, ◌%◌, [], length, IsSome, IsTrue};
 ghost use Rattle.std.specs.FinMap.{get};
-ghost use Rattle.lfs_types.specs.Stored.{bytes_of};
+ghost use Rattle.lfs_types.specs.declared.path.TheConstants.{PATH_MAX};
+ghost use Rattle.lfs_types.specs.declared.limits.TheConstants.{FILE_BYTES};
+ghost use Rattle.lfs_types.specs.declared.block.TheConstants.{BLOCK_SIZE};
+ghost use Rattle.lfs_types.specs.Stored.{bytes_of, shown_attrs};
 ghost use Rattle.lfs_types.specs.Tree.{World};
 ghost use Rattle.lfs_dirs.specs.Directory.{number_in};
-ghost use Rattle.lfs_model.specs.Rules.{first_failing, last};
+ghost use Rattle.lfs_model.specs.Rules.{Judges, judged, removing, removing_tests, rmdir_tests, rule_table, unlink_tests};
+ghost use Rattle.lfs_model.specs.World.{children};
 ghost use Rattle.lfs_calls.specs.Calls.{ChangesTo, IsCall};
 ghost use Rattle.lfs_calls.specs.Volumes.{HasWorld, InWorld, IsVolume};
 ghost use Rattle.lfs_calls.specs.Content.{AreBlocks, listed};
-ghost use Rattle.lfs_calls.specs.Removes.{JudgesRemoving, JudgesRow, HangsAs, IsTaking, TakesRow, barriers};
+ghost use Rattle.lfs_calls.specs.Removes.{HangsAs, IsRemovable, IsRemoval, IsTaking, TakesRow};
 
 use crate::directory::read_block;
 use crate::halt::Halt;
 use crate::making::Room;
-use crate::walking::{Reached, component, denial, reach, step};
+use crate::walking::{Reached, ask, component, denial, last_name, reach, step};
 use lfs_dirs::{entries, find, removed};
 use lfs_rules::access::{grants, sticky_bars};
 use lfs_rules::flags::{append_only, immutable};
@@ -44,9 +48,9 @@ pub(crate) fn judge_remove<F: FileStore>(
     names: &[Name],
 ) -> Result<Removal, Denial>
     requires world { HasWorld (F.state store.old) }
-    requires short { length names.now ≤ 1024 }
-    ensures judge { InWorld (F.state store.old)
-        (λ w. JudgesRemoving (F.state store.old).content w.rows cred.now names.now result) }
+    requires short { length names.now ≤ PATH_MAX }
+    ensures judge { InWorld (F.state store.old) (λ w. Judges (removing w.rows cred.now names.now)
+        (IsRemoval (F.state store.old).content w.rows names.now) result) }
     ensures state { F.state store.new ≡ F.state store.old }
 {
     let Some((name, parents)) = names.split_last() else {
@@ -58,50 +62,34 @@ pub(crate) fn judge_remove<F: FileStore>(
     let Some(attrs) = store.attrs(number) else {
         unreachable!()
     };
-    match first_barrier(&dir.attrs, &attrs, cred, at) {
-        None => Ok(Removal {
-            dir,
-            file: Reached { number, attrs },
-        }),
-        Some(denial) => Err(denial),
-    }
+    may_remove(&dir.attrs, &attrs, cred, at)?;
+    let file = Reached { number, attrs };
+    Ok(Removal { dir, file })
 }
 
-/// The first rule of a directory at component `at`, and of a file in it, that keeps the caller from taking away the
-/// file's name.
-fn first_barrier(dir: &Attrs, file: &Attrs, cred: &Cred, at: u32) -> Option<Denial>
-    requires { at < 1024 }
-    ensures { result ≡ first_failing (barriers cred.now dir.now file.now at) }
+/// Whether a caller may take away the name of a file in a directory, which stands at component `at`, or the first rule
+/// that fails.
+fn may_remove(dir: &Attrs, file: &Attrs, cred: &Cred, at: u32) -> Result<(), Denial>
+    requires { at < PATH_MAX }
+    ensures { result ≡ judged (removing_tests cred.now dir.now file.now at) }
 {
-    if immutable(dir) {
-        return Some(denial(Rule::IsMutable, 0, at));
-    }
-    if !grants(dir, cred, Bit::Write) {
-        return Some(denial(Rule::GrantsWrite, 0, at));
-    }
-    if append_only(dir) {
-        return Some(denial(Rule::IsNotAppendOnly, 0, at));
-    }
-    if sticky_bars(dir, file, cred) {
-        return Some(denial(Rule::PassesSticky, 0, at + 1));
-    }
-    if immutable(file) {
-        return Some(denial(Rule::IsMutable, 0, at + 1));
-    }
-    if append_only(file) {
-        return Some(denial(Rule::IsNotAppendOnly, 0, at + 1));
-    }
-    None
+    ask(!immutable(dir), Rule::IsMutable, 0, at)?;
+    ask(grants(dir, cred, Bit::Write), Rule::GrantsWrite, 0, at)?;
+    ask(!append_only(dir), Rule::IsNotAppendOnly, 0, at)?;
+    ask(!sticky_bars(dir, file, cred), Rule::PassesSticky, 0, at + 1)?;
+    ask(!immutable(file), Rule::IsMutable, 0, at + 1)?;
+    ask(!append_only(file), Rule::IsNotAppendOnly, 0, at + 1)
 }
 
 /// The block of a directory that lists a name, without the name, and where it goes.
 pub(crate) fn take_name<F: FileStore>(store: &mut F, dir: u32, size: u64, name: &Name) -> Room
     requires used { IsSome (get (F.state store.old).content dir) }
     requires size { size ≡ length (bytes_of (F.state store.old).content dir) }
-    requires whole { size % 512 ≡ 0 }
-    requires bounded { size ≤ 71680 }
+    requires whole { size % BLOCK_SIZE ≡ 0 }
+    requires bounded { size ≤ FILE_BYTES }
     requires blocks { AreBlocks (bytes_of (F.state store.old).content dir) }
-    requires listed { IsSome (number_in name.now (listed (bytes_of (F.state store.old).content dir))) }
+    requires listed { IsSome (number_in name.now (listed
+        (bytes_of (F.state store.old).content dir))) }
     ensures room { (k : ℕ) × IsTaking (bytes_of (F.state store.old).content dir) name.now result k }
     ensures state { F.state store.new ≡ F.state store.old }
 {
@@ -117,22 +105,14 @@ pub(crate) fn take_name<F: FileStore>(store: &mut F, dir: u32, size: u64, name: 
     unreachable!()
 }
 
-/// Takes away the row that names lead to: its name from the directory, and the file under its number.
-fn take_row<F: FileStore>(
-    store: &mut F,
-    removal: &Removal,
-    names: &[Name],
-) -> Result<(), StoreRefusal>
+/// Takes away a row: its name from the directory, and the file under its number.
+fn take_row<F: FileStore>(store: &mut F, removal: &Removal, name: &Name) -> Result<(), StoreRefusal>
     requires world { (w : World) × (IsVolume (F.state store.old) w
-        × HangsAs (F.state store.old).content w.rows removal.now (last names.now)) }
-    requires some { 0 < length names.now }
+        × HangsAs (F.state store.old).content w.rows removal.now name.now) }
     ensures { ChangesTo (F.state store.old)
-        (λ after. TakesRow (F.state store.old).content after removal.now (last names.now))
+        (λ after. TakesRow (F.state store.old).content after removal.now name.now)
         result (F.state store.new) }
 {
-    let Some((name, _)) = names.split_last() else {
-        unreachable!()
-    };
     let Reached { number, attrs } = removal.dir;
     let room = take_name(store, number, attrs.size, name);
     store.apply(&[
@@ -150,65 +130,91 @@ fn take_row<F: FileStore>(
 /// Removes a file.
 pub fn unlink<F: FileStore>(store: &mut F, cred: &Cred, path: &Path) -> Result<Served, Halt>
     requires { HasWorld (F.state store.old) }
-    ensures { IsCall (F.state store.old) (F.state store.new) cred.now (Request.Unlink path.now) result }
+    ensures { IsCall (F.state store.old) (F.state store.new) cred.now (Request.Unlink path.now)
+        result }
 {
     let names = path.names();
     let removal = judge_unlink(store, cred, names)?;
-    take_row(store, &removal, names)?;
+    take_row(store, &removal, last_name(names))?;
     Ok(Served::Done)
 }
 
 /// The file that may be unlinked, or the first rule that fails.
 fn judge_unlink<F: FileStore>(store: &mut F, cred: &Cred, names: &[Name]) -> Result<Removal, Denial>
     requires world { HasWorld (F.state store.old) }
-    requires short { length names.now ≤ 1024 }
+    requires short { length names.now ≤ PATH_MAX }
     ensures judge { InWorld (F.state store.old) (λ w.
-        JudgesRow (F.state store.old).content w cred.now names.now (Request.Unlink names.now) result) }
+        Judges (rule_table w cred.now (Request.Unlink names.now))
+        (IsRemovable (F.state store.old).content w.rows names.now) result) }
     ensures state { F.state store.new ≡ F.state store.old }
 {
     let removal = judge_remove(store, cred, names)?;
-    if removal.file.attrs.kind.is_directory() {
-        return Err(denial(Rule::IsNoDirectory, 0, component(names)));
-    }
+    may_unlink(&removal.file.attrs, component(names))?;
     Ok(removal)
+}
+
+/// Whether a file, which stands at component `at`, may be unlinked, or the rule that fails.
+fn may_unlink(file: &Attrs, at: u32) -> Result<(), Denial>
+    ensures { result ≡ judged (unlink_tests file.now at) }
+{
+    ask(!file.kind.is_directory(), Rule::IsNoDirectory, 0, at)
 }
 
 /// Removes an empty directory.
 pub fn rmdir<F: FileStore>(store: &mut F, cred: &Cred, path: &Path) -> Result<Served, Halt>
     requires { HasWorld (F.state store.old) }
-    ensures { IsCall (F.state store.old) (F.state store.new) cred.now (Request.Rmdir path.now) result }
+    ensures { IsCall (F.state store.old) (F.state store.new) cred.now (Request.Rmdir path.now)
+        result }
 {
     let names = path.names();
     let removal = judge_rmdir(store, cred, names)?;
-    take_row(store, &removal, names)?;
+    take_row(store, &removal, last_name(names))?;
     Ok(Served::Done)
 }
 
 /// The directory that may be removed, or the first rule that fails.
 fn judge_rmdir<F: FileStore>(store: &mut F, cred: &Cred, names: &[Name]) -> Result<Removal, Denial>
     requires world { HasWorld (F.state store.old) }
-    requires short { length names.now ≤ 1024 }
+    requires short { length names.now ≤ PATH_MAX }
     ensures judge { InWorld (F.state store.old) (λ w.
-        JudgesRow (F.state store.old).content w cred.now names.now (Request.Rmdir names.now) result) }
+        Judges (rule_table w cred.now (Request.Rmdir names.now))
+        (IsRemovable (F.state store.old).content w.rows names.now) result) }
     ensures state { F.state store.new ≡ F.state store.old }
 {
     let removal = judge_remove(store, cred, names)?;
-    let at = component(names);
-    let dir = removal.file;
-    if !dir.attrs.kind.is_directory() {
-        return Err(denial(Rule::IsDirectory, 0, at));
-    }
-    if !is_empty_directory(store, dir.number, dir.attrs.size) {
-        return Err(denial(Rule::IsEmpty, 0, at));
-    }
+    let empty = is_childless(store, &removal.file);
+    may_rmdir(&removal.file.attrs, empty, component(names))?;
     Ok(removal)
+}
+
+/// Whether a directory, which stands at component `at` and may be empty, may be removed, or the first rule that fails.
+fn may_rmdir(dir: &Attrs, empty: bool, at: u32) -> Result<(), Denial>
+    ensures { result ≡ judged (rmdir_tests empty dir.now at) }
+{
+    ask(dir.kind.is_directory(), Rule::IsDirectory, 0, at)?;
+    ask(empty, Rule::IsEmpty, 0, at)
+}
+
+/// Whether nothing hangs in a row; nothing hangs in a file.
+fn is_childless<F: FileStore>(store: &mut F, row: &Reached) -> bool
+    requires world { HasWorld (F.state store.old) }
+    requires shown { Some row.now.attrs ≡ shown_attrs (F.state store.old).content row.now.number }
+    ensures childless { InWorld (F.state store.old)
+        (λ w. result ≡ (length (children w.rows row.now.number) == 0)) }
+    ensures state { F.state store.new ≡ F.state store.old }
+{
+    if row.attrs.kind.is_directory() {
+        is_empty_directory(store, row.number, row.attrs.size)
+    } else {
+        true
+    }
 }
 
 /// Whether a directory of this size lists no name.
 fn is_empty_directory<F: FileStore>(store: &mut F, dir: u32, size: u64) -> bool
     requires used { IsSome (get (F.state store.old).content dir) }
     requires size { size ≡ length (bytes_of (F.state store.old).content dir) }
-    requires whole { size % 512 ≡ 0 }
+    requires whole { size % BLOCK_SIZE ≡ 0 }
     ensures empty { IsTrue result ↔ (listed (bytes_of (F.state store.old).content dir) ≡ []) }
     ensures state { F.state store.new ≡ F.state store.old }
 {

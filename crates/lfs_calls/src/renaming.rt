@@ -1,25 +1,28 @@
 //! The call that gives a row another name.
 
-ghost use Rattle.std.specs.Prelude.{◌≡◌, ◌≤◌, ◌+◌, ℕ, true, false, length, Ok, IfErr, OnOk, MatchOption};
-ghost use Rattle.lfs_types.specs.Stored.{bytes_of};
+ghost use Rattle.std.specs.Prelude.{◌≡◌, ◌≤◌, ◌<◌, ◌+◌, ℕ, [], ◌∷◌, Some, None, true, false, length, Ok, IfErr, OnOk, MatchOption};
+ghost use Rattle.lfs_types.specs.declared.path.TheConstants.{PATH_MAX};
+ghost use Rattle.lfs_types.specs.declared.block.TheConstants.{BLOCK_SIZE};
+ghost use Rattle.lfs_types.specs.Stored.{bytes_of, shown_attrs};
 ghost use Rattle.lfs_types.specs.Tree.{World, root};
 ghost use Rattle.lfs_types.specs.declared.rule.Rule.TheVariants.{IsNotBeneathItself};
-ghost use Rattle.lfs_model.specs.Rules.{visited, position};
+ghost use Rattle.lfs_model.specs.Rules.{Judges, apart_test, first_failing, judged, leaves_test, making, position, rule_table, visited};
 ghost use Rattle.lfs_calls.specs.Calls.{ChangesTo, IsCall};
 ghost use Rattle.lfs_calls.specs.Volumes.{HasWorld, InWorld, IsVolume};
 ghost use Rattle.lfs_calls.specs.Content.{FitsNowhere};
 ghost use Rattle.lfs_model.specs.Walks.{is_on_way};
-ghost use Rattle.lfs_calls.specs.Renames.{JudgesMove, GoesTo, name_left, ArePlaces, IsBlockOf, WritesBlocks};
+ghost use Rattle.lfs_calls.specs.Renames.{IsMove, GoesTo, MovesFirst, name_left, ArePlaces, IsBlockOf, WritesBlocks};
 ghost use Rattle.lfs_model.specs.Walks.{walked};
 
 use crate::halt::Halt;
 use crate::making::{Room, find_room, judge_make};
 use crate::removing::{Removal, judge_remove, take_name};
-use crate::walking::{ROOT, Reached, component, denial, step};
+use crate::walking::{Reached, ask, component, denial, last_name, parents_of, step};
 use lfs_rules::access::grants;
 use lfs_types::answer::{Resource, Served};
-use lfs_types::attrs::Bit;
+use lfs_types::attrs::{Attrs, Bit};
 use lfs_types::cred::Cred;
+use lfs_types::limits::ROOT_INODE;
 use lfs_types::name::{NAME_MAX, Name};
 use lfs_types::path::Path;
 use lfs_types::request::Request;
@@ -52,29 +55,51 @@ fn judge_rename<F: FileStore>(
     to: &[Name],
 ) -> Result<Move, Denial>
     requires world { HasWorld (F.state store.old) }
-    requires short_from { length from.now ≤ 1024 }
-    requires short_to { length to.now ≤ 1024 }
-    ensures judge { InWorld (F.state store.old)
-        (λ w. JudgesMove (F.state store.old).content w cred.now from.now to.now result) }
+    requires short_from { length from.now ≤ PATH_MAX }
+    requires short_to { length to.now ≤ PATH_MAX }
+    ensures judge { InWorld (F.state store.old) (λ w.
+        Judges (rule_table w cred.now (Request.Rename from.now to.now))
+        (IsMove (F.state store.old).content w.rows from.now to.now) result) }
     ensures state { F.state store.new ≡ F.state store.old }
 {
     let removal = judge_remove(store, cred, from)?;
     let dir = judge_make(store, cred, 1, to)?;
-    let file = removal.file;
-    if !file.attrs.kind.is_directory() {
-        return Ok(Move { removal, dir });
-    }
-    let Some((_, parents)) = to.split_last() else {
-        unreachable!()
-    };
-    judge_way(store, cred, parents, file.number)?;
-    if removal.dir.number == dir.number {
-        return Ok(Move { removal, dir });
-    }
-    if !grants(&file.attrs, cred, Bit::Write) {
-        return Err(denial(Rule::GrantsWrite, 0, component(from)));
-    }
+    judge_apart(store, cred, to, &removal.file)?;
+    let stays = removal.dir.number == dir.number;
+    may_move(&removal.file.attrs, cred, stays, component(from))?;
     Ok(Move { removal, dir })
+}
+
+/// Whether a caller may give a file or a directory, which stands at component `at`, its place, where it may stay in its
+/// directory, or the rule that fails.
+fn may_move(file: &Attrs, cred: &Cred, stays: bool, at: u32) -> Result<(), Denial>
+    ensures { result ≡ judged (leaves_test cred.now stays file.now at ∷ []) }
+{
+    let leaves = !file.kind.is_directory() || stays || grants(file, cred, Bit::Write);
+    ask(leaves, Rule::GrantsWrite, 0, at)
+}
+
+/// Whether a row doesn't lie on the way to its new place, or the rule that fails.
+fn judge_apart<F: FileStore>(
+    store: &mut F,
+    cred: &Cred,
+    to: &[Name],
+    file: &Reached,
+) -> Result<(), Denial>
+    requires world { HasWorld (F.state store.old) }
+    requires short { length to.now ≤ PATH_MAX }
+    requires some { 0 < length to.now }
+    requires shown { Some file.now.attrs ≡ shown_attrs (F.state store.old).content file.now.number }
+    requires made { InWorld (F.state store.old)
+        (λ w. first_failing (making w.rows cred.now 1 to.now) ≡ None) }
+    ensures apart { InWorld (F.state store.old)
+        (λ w. result ≡ judged (apart_test w.rows file.now.number to.now ∷ [])) }
+    ensures state { F.state store.new ≡ F.state store.old }
+{
+    if !file.attrs.kind.is_directory() {
+        return Ok(());
+    }
+    judge_way(store, cred, parents_of(to), file.number)
 }
 
 /// Whether a directory isn't among those through which names lead from the root, or else the rule that fails.
@@ -85,10 +110,11 @@ fn judge_way<F: FileStore>(
     number: u32,
 ) -> Result<(), Denial>
     requires world { HasWorld (F.state store.old) }
-    requires short { length names.now ≤ 1024 }
+    requires short { length names.now ≤ PATH_MAX }
     requires leads { InWorld (F.state store.old)
         (λ w. (n : ℕ) × (walked w.rows cred.now 1 0 root names.now ≡ Ok n)) }
-    ensures apart { OnOk result (InWorld (F.state store.old) (λ w. is_on_way w.rows names.now number ≡ false)) }
+    ensures apart { OnOk result (InWorld (F.state store.old)
+        (λ w. is_on_way w.rows names.now number ≡ false)) }
     ensures beneath { IfErr result (λ denial. InWorld (F.state store.old) (λ w.
         (is_on_way w.rows names.now number ≡ true)
         × (denial ≡ record {
@@ -98,7 +124,7 @@ fn judge_way<F: FileStore>(
         }))) }
     ensures state { F.state store.new ≡ F.state store.old }
 {
-    let mut dir = ROOT;
+    let mut dir = ROOT_INODE;
     for (at, name) in names.iter().enumerate() {
         if dir == number {
             return Err(denial(Rule::IsNotBeneathItself, 1, at as u32));
@@ -150,7 +176,8 @@ fn put_blocks<F: FileStore>(
     room: &Room,
 ) -> Result<(), StoreRefusal>
     requires old { IsBlockOf (F.state store.old).content old_dir taken.now }
-    requires old_within { taken.now.off + 512 ≤ length (bytes_of (F.state store.old).content old_dir) }
+    requires old_within { taken.now.off + BLOCK_SIZE ≤ length
+        (bytes_of (F.state store.old).content old_dir) }
     requires new { IsBlockOf (F.state store.old).content dir room.now }
     ensures { ChangesTo (F.state store.old)
         (λ after. WritesBlocks (F.state store.old).content after old_dir taken.now dir room.now)
@@ -180,28 +207,22 @@ pub fn rename<F: FileStore>(
     to: &Path,
 ) -> Result<Served, Halt>
     requires { HasWorld (F.state store.old) }
-    ensures { IsCall (F.state store.old) (F.state store.new) cred.now (Request.Rename from.now to.now)
+    ensures call { IsCall (F.state store.old) (F.state store.new) cred.now
+        (Request.Rename from.now to.now)
         result }
+    ensures place { OnOk result (InWorld (F.state store.old) (λ w.
+        MovesFirst (F.state store.old).content (F.state store.new).content w.rows from.now to.now)) }
 {
     let (from, to) = (from.names(), to.names());
     let planned = judge_rename(store, cred, from, to)?;
-    let Some((old, _)) = from.split_last() else {
-        unreachable!()
-    };
-    let Some((new, _)) = to.split_last() else {
-        unreachable!()
-    };
+    let old = last_name(from);
+    let new = last_name(to);
     prove!(new.as_bytes().len() <= NAME_MAX);
     let Some(places) = find_places(store, &planned, old, new) else {
         return Err(Halt::Refused(Resource::DirectoryFull));
     };
     let Places { taken, room } = places;
-    put_blocks(
-        store,
-        planned.removal.dir.number,
-        &taken,
-        planned.dir.number,
-        &room,
-    )?;
+    let (old_dir, new_dir) = (planned.removal.dir.number, planned.dir.number);
+    put_blocks(store, old_dir, &taken, new_dir, &room)?;
     Ok(Served::Done)
 }

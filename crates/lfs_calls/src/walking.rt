@@ -2,8 +2,9 @@
 
 ghost use Rattle.std.specs.Prelude.{◌≡◌, ◌<◌, ◌≤◌, [], ◌∷◌, IsSome, length};
 ghost use Rattle.std.specs.FinMap.{get};
+ghost use Rattle.lfs_types.specs.declared.path.TheConstants.{PATH_MAX};
 ghost use Rattle.lfs_types.specs.Tree.{root};
-ghost use Rattle.lfs_model.specs.Rules.{asks, judged};
+ghost use Rattle.lfs_model.specs.Rules.{asks, front, judged, last};
 ghost use Rattle.lfs_model.specs.Walks.{stepped, walked};
 ghost use Rattle.lfs_calls.specs.Reaches.{Reaches};
 ghost use Rattle.lfs_calls.specs.Volumes.{HasWorld, InWorld};
@@ -12,13 +13,11 @@ use crate::directory::look_up;
 use lfs_rules::access::grants;
 use lfs_types::attrs::{Attrs, Bit};
 use lfs_types::cred::Cred;
+use lfs_types::limits::ROOT_INODE;
 use lfs_types::name::Name;
 use lfs_types::path::Path;
 use lfs_types::rule::{Denial, Rule};
 use lfs_types::store::FileStore;
-
-/// The number of the root directory.
-pub(crate) const ROOT: u32 = 2;
 
 /// Tests a rule at a component of the path of this index.
 pub(crate) fn ask(met: bool, rule: Rule, path: u8, at: u32) -> Result<(), Denial>
@@ -42,8 +41,9 @@ pub(crate) fn step<F: FileStore>(
 ) -> Result<u32, Denial>
     requires world { HasWorld (F.state store.old) }
     requires used { IsSome (get (F.state store.old).content dir) }
-    requires short { at < 1024 }
-    ensures step { InWorld (F.state store.old) (λ w. result ≡ stepped w.rows cred.now path at dir name.now) }
+    requires short { at < PATH_MAX }
+    ensures step { InWorld (F.state store.old)
+        (λ w. result ≡ stepped w.rows cred.now path at dir name.now) }
     ensures state { F.state store.new ≡ F.state store.old }
 {
     let Some(attrs) = store.attrs(dir) else {
@@ -67,11 +67,12 @@ pub(crate) fn walk<F: FileStore>(
     names: &[Name],
 ) -> Result<u32, Denial>
     requires world { HasWorld (F.state store.old) }
-    requires short { length names.now ≤ 1024 }
-    ensures walk { InWorld (F.state store.old) (λ w. result ≡ walked w.rows cred.now path 0 root names.now) }
+    requires short { length names.now ≤ PATH_MAX }
+    ensures walk { InWorld (F.state store.old)
+        (λ w. result ≡ walked w.rows cred.now path 0 root names.now) }
     ensures state { F.state store.new ≡ F.state store.old }
 {
-    let mut dir = ROOT;
+    let mut dir = ROOT_INODE;
     for (at, name) in names.iter().enumerate() {
         dir = step(store, cred, path, at as u32, dir, name)?;
     }
@@ -95,7 +96,7 @@ pub(crate) fn reach<F: FileStore>(
     names: &[Name],
 ) -> Result<Reached, Denial>
     requires world { HasWorld (F.state store.old) }
-    requires short { length names.now ≤ 1024 }
+    requires short { length names.now ≤ PATH_MAX }
     ensures reach { InWorld (F.state store.old)
         (λ w. Reaches (F.state store.old).content w.rows cred.now path names.now result) }
     ensures state { F.state store.new ≡ F.state store.old }
@@ -126,10 +127,26 @@ pub(crate) fn depth(path: &Path) -> u32
 
 /// The component at which the last of these names stands: their number.
 pub(crate) fn component(names: &[Name]) -> u32
-    requires { length names.now ≤ 1024 }
+    requires { length names.now ≤ PATH_MAX }
     ensures { result ≡ length names.now }
 {
     names.len() as u32
+}
+
+/// The names before the last of some.
+pub(crate) fn parents_of(names: &[Name]) -> &[Name]
+    requires { 0 < length names.now }
+    ensures names { result.now ≡ front names.now }
+{
+    &names[..names.len() - 1]
+}
+
+/// The last of some names.
+pub(crate) fn last_name(names: &[Name]) -> &Name
+    requires { 0 < length names.now }
+    ensures name { result.now ≡ last names.now }
+{
+    &names[names.len() - 1]
 }
 
 /// A rule that fails at a component of the path of this index.

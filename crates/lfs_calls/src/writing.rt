@@ -1,6 +1,7 @@
 //! The call that puts bytes into a file.
 
 ghost use Rattle.std.specs.Prelude.{◌≡◌, ◌≤◌, ◌+◌, ◌<◌, Some, false, nat_le, length};
+ghost use Rattle.lfs_types.specs.declared.limits.TheConstants.{FILE_BYTES, TRANSFER_BYTES};
 ghost use Rattle.lfs_types.specs.Kinds.{is_directory_kind};
 ghost use Rattle.lfs_types.specs.Splicing.{splice};
 ghost use Rattle.lfs_types.specs.Stored.{shown_attrs};
@@ -88,7 +89,7 @@ fn start_in(place: Place, size: u64) -> u64
 
 /// Whether a file may have so many bytes at this place.
 fn fits_file(start: u64, count: usize) -> bool
-    ensures { result ≡ nat_le (start + count) 71680 }
+    ensures { result ≡ nat_le (start + count) FILE_BYTES }
 {
     start <= FILE_BYTES && count as u64 <= FILE_BYTES - start
 }
@@ -103,9 +104,9 @@ fn put<F: FileStore>(
 ) -> Result<(), StoreRefusal>
     requires shown { Some file.now.attrs ≡ shown_attrs (F.state store.old).content file.now.number }
     requires regular { is_directory_kind file.now.attrs.kind ≡ false }
-    requires few { length bytes.now ≤ 4096 }
-    requires fits { start + length bytes.now ≤ 71680 }
-    requires size { file.now.attrs.size ≤ 71680 }
+    requires few { length bytes.now ≤ TRANSFER_BYTES }
+    requires fits { start + length bytes.now ≤ FILE_BYTES }
+    requires size { file.now.attrs.size ≤ FILE_BYTES }
     ensures { ChangesTo (F.state store.old)
         (λ after. ChangesBytes (F.state store.old).content after
         file.now.number cred.now (λ old. splice old start bytes.now))

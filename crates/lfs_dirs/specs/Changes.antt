@@ -2,7 +2,7 @@
 use Rattle.std.proofs.Common.{◌≡◌, ◌≢◌, ℕ, zero, suc, ◌+◌, ◌<◌, ◌≤◌, Bool, true, false, not, List, [], ◌∷◌, ◌++◌, length, get_or, None, Some, refl, sym, ap, ◌∙◌, subst, ⊎_elim, arith}
 use Rattle.std.specs.Prelude.{All, AllPairs, Contains, filter, option_map}
 use Rattle.std.proofs.lemmas.Bool.{cond-true, cond-false, cases_Bool, false_from_ne_true, both_ways}
-use Rattle.std.proofs.lemmas.List.Elements.{All-nil, All-cons, All-filter, All-contains, All-contains_itself}
+use Rattle.std.proofs.lemmas.List.Elements.{All-nil, All-cons}
 use Rattle.std.proofs.lemmas.Slice.Eq.{bytes_eq-Decides}
 use Rattle.lfs_dirs.specs.Directory.{Entry, used_of, has_name, number_in, without, IsEntry, AreEntries}
 
@@ -46,12 +46,6 @@ number_in-append name [] fs h = refl
 number_in-append name (e ∷ es) fs h =
     let none = number_in-none name e es h in
     number_in-later name e (es ++ fs) none.0 ∙ number_in-append name es fs none.1
-
--- an entry that is added is found
-pub number_in-added : (name : List ℕ) (number : ℕ) (es : List Entry) → number_in name es ≡ None
-    → number_in name (es ++ (number, name) ∷ []) ≡ Some number
-number_in-added name number es h =
-    number_in-append name es ((number, name) ∷ []) h ∙ number_in-here name (number, name) [] (has_name-same name (number, name) refl)
 
 -- the other names are found as before
 pub number_in-added_other : (other : List ℕ) (e : Entry) (es : List Entry) → e.1 ≢ other
@@ -249,28 +243,3 @@ apart (e ∷ es) (suc i) (suc j) d a below lt = apart es i j d a.2 (omega arith)
 -- no two entries have one name
 pub AreEntries-distinct : (es : List Entry) → AreEntries es → AllPairs (λ (e f : Entry). e.1 ≢ f.1) es
 AreEntries-distinct es a = λ i j d below lt. apart es i j d a below lt
-
--- what is left are the entries of other names
-pub Contains-from_without : (name : List ℕ) (es : List Entry) (e : Entry) → Contains (without name es) e → Contains es e × (e.1 ≢ name)
-unfolding without
-Contains-from_without name es e c =
-    let each = All-filter (λ (f : Entry). not (has_name name f)) (Contains es) es (All-contains_itself es) in
-    let unlike = number_in-absent name (without name es) c.0 e (number_in-without name es) c.1 in
-    (All-contains (Contains es) (without name es) e each c, λ same. unlike (ap (λ (f : Entry). f.1) c.2 ∙ same))
-
-kept_at : (name : List ℕ) (es : List Entry) (e : Entry) (k : ℕ) → k < length es → get_or es k e ≡ e → e.1 ≢ name → Contains (without name es) e
-kept_at name [] e k lt at other = absurd (omega arith)
-kept_at name (f ∷ es) e zero lt at other =
-    let unlike : f.1 ≢ name = λ same. other (ap (λ (g : Entry). g.1) (sym at) ∙ same) in
-    let P : List Entry → Type 0 = λ fs. Contains fs e in
-    subst P (sym (without-later name f es (has_name-other name f unlike))) (0, omega arith, at)
-kept_at name (f ∷ es) e (suc k) lt at other =
-    let rest = kept_at name es e k (omega arith) at other in
-    let P : List Entry → Type 0 = λ fs. Contains fs e in
-    ⊎_elim
-    (λ t. subst P (sym (without-here name f es t)) rest)
-    (λ t. subst P (sym (without-later name f es t)) (suc rest.0, omega (arith, rest.1), rest.2))
-    (cases_Bool (has_name name f))
-
-pub Contains-without : (name : List ℕ) (es : List Entry) (e : Entry) → Contains es e → e.1 ≢ name → Contains (without name es) e
-Contains-without name es e c other = kept_at name es e c.0 c.1 c.2 other

@@ -45,10 +45,12 @@ impl FlatFiles {
     /// A store with this many inode numbers, 16 to 4,096, and the root directory alone: else TooFew or TooMany.
     /// Memory where a growth is refused.
     pub fn new(alloc: Global, inodes: u32) -> Result<FlatFiles, FormatFault>
-        ensures opening { IfOk result (λ store. ⟦<FlatFiles as FileStore>⟧.state store ≡ opening_state inodes) }
+        ensures opening { IfOk result (λ store. ⟦<FlatFiles as FileStore>⟧.state store
+            ≡ opening_state inodes) }
         ensures too_few { IsErrOf result FormatFault.TooFew ↔ (inodes < 16) }
         ensures too_many { IsErrOf result FormatFault.TooMany ↔ (4096 < inodes) }
-        ensures memory_in_range { IsErrOf result FormatFault.Memory → (16 ≤ inodes) × (inodes ≤ 4096) }
+        ensures memory_in_range { IsErrOf result FormatFault.Memory
+            → (16 ≤ inodes) × (inodes ≤ 4096) }
     {
         if inodes < LEAST_INODES {
             return Err(FormatFault::TooFew);
@@ -107,7 +109,8 @@ impl FlatFiles {
     fn make_changes(&mut self, changes: &[Change<'_>])
         requires can { CanChangeAll (vec_len self.old.places) changes.now (content_of self.old.places.items) }
         requires room { All (HasRoom self.old.places.items) changes.now }
-        ensures content { content_of self.new.places.items ≡ applied changes.now (content_of self.old.places.items) }
+        ensures content { content_of self.new.places.items
+            ≡ applied changes.now (content_of self.old.places.items) }
         ensures numbers { vec_len self.new.places ≡ vec_len self.old.places }
     {
         for change in changes {
@@ -119,7 +122,8 @@ impl FlatFiles {
     fn make_change(&mut self, change: &Change<'_>)
         requires can { CanChange (vec_len self.old.places) change.now (content_of self.old.places.items) }
         requires room { HasRoom self.old.places.items change.now }
-        ensures content { content_of self.new.places.items ≡ changed change.now (content_of self.old.places.items) }
+        ensures content { content_of self.new.places.items
+            ≡ changed change.now (content_of self.old.places.items) }
         ensures numbers { vec_len self.new.places ≡ vec_len self.old.places }
         ensures grows { Grows self.old.places.items self.new.places.items }
     {
@@ -137,7 +141,8 @@ impl FlatFiles {
         requires named { 4 ≤ ino }
         requires within { ino < vec_len self.old.places }
         requires free { file_in self.old.places.items ino ≡ None }
-        ensures content { content_of self.new.places.items ≡ map.insert (content_of self.old.places.items) ino (file_of attrs []) }
+        ensures content { content_of self.new.places.items
+            ≡ map.insert (content_of self.old.places.items) ino (file_of attrs []) }
         ensures numbers { vec_len self.new.places ≡ vec_len self.old.places }
         ensures grows { Grows self.old.places.items self.new.places.items }
     {
@@ -151,7 +156,8 @@ impl FlatFiles {
     fn remove(&mut self, ino: usize)
         requires within { ino < vec_len self.old.places }
         requires used { IsSome (file_in self.old.places.items ino) }
-        ensures content { content_of self.new.places.items ≡ map.remove (content_of self.old.places.items) ino }
+        ensures content { content_of self.new.places.items
+            ≡ map.remove (content_of self.old.places.items) ino }
         ensures numbers { vec_len self.new.places ≡ vec_len self.old.places }
         ensures grows { Grows self.old.places.items self.new.places.items }
     {

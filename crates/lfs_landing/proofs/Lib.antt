@@ -1,3 +1,4 @@
+pub mod CollectingLemmas
 pub mod FileLemmas
 pub mod KeepingLemmas
 pub mod KeyLemmas
@@ -8,4 +9,12 @@ pub mod ReadLemmas
 pub mod ReplacingLemmas
 pub mod SameContentLemmas
 pub mod SettingLemmas
+pub mod OrderLemmas
+pub mod ReadLemmas
+pub mod RoomLemmas
 pub mod ViewLemmas
+pub mod StagingLemmas
+pub mod WaitingLemmas
+pub mod KeptLemmas
+pub mod PuttingLemmas
+pub mod GrowthLemmas

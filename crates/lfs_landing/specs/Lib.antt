@@ -1,7 +1,12 @@
+pub mod Collecting
 pub mod Files
 pub mod Filling
 pub mod Keys
 pub mod Landing
 pub mod Opening
+pub mod Room
 pub mod Store
 pub mod View
+pub mod Staging
+pub mod Waiting
+pub mod Putting

@@ -4,3 +4,4 @@ pub mod LiveLemmas
 pub mod PackingLemmas
 pub mod ScanLemmas
 pub mod FoundLemmas
+pub mod TakeLemmas

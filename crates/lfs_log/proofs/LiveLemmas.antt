@@ -1,14 +1,12 @@
 -- Live bytes as keys move.
 use Rattle.std.proofs.Common.{◌≡◌, ◌≢◌, ℕ, ◌+◌, ◌-◌, ◌*◌, ◌/◌, ◌<◌, ◌≤◌, inl, inr, get_or, length, refl, sym, ap, subst, ◌∙◌, arith}
 use Rattle.std.proofs.lemmas.Bool.{cases_eq, cond-false, cond-true, eq-eqb, ne_eqb}
-use Rattle.std.proofs.lemmas.List.{get_or-set_other, length-set}
 use Rattle.lfs_ifile.specs.declared.inode.InodeRow.{InodeRow}
 use Rattle.lfs_ifile.specs.declared.segment.SegState.TheVariants.{Clean, Dirty}
-use Rattle.lfs_ifile.specs.Inode.{fresh_row, placed_row}
-use Rattle.lfs_ifile.specs.Tables.{IsIfile, KeepsButLive, Tables, row_of, with_row, with_state}
+use Rattle.lfs_ifile.specs.Inode.{placed_row}
+use Rattle.lfs_ifile.specs.Tables.{IsIfile, KeepsButLive, Tables, row_of, with_state}
 use Rattle.lfs_segments.specs.Memory.{SegmentMemory, next_address}
-use Rattle.lfs_ways.specs.declared.blocks.TheConstants.{BLOCK_CODES}
-use Rattle.lfs_ways.specs.Log.{Assigns, Cleans, Renews, clean_unit}
+use Rattle.lfs_ways.specs.Log.{Assigns, clean_unit}
 use Rattle.lfs_ways.specs.Counting.{place_of, placed, units, weight_of}
 use Rattle.lfs_ways.proofs.CountingLemmas.{weight-elsewhere, weight-here, weight-none}
 use Rattle.lfs_log.specs.Parts.{IsParts, LogParts, SameButLive, clean_count, live_of, log_state, record_place, state_of}
@@ -48,9 +46,6 @@ live-lost old new from code bytes some size had here kept s =
 -- without an address nothing changes
 pub live-nowhere : (address segment code : ℕ) → address ≡ 0 → weight_of (place_of address) segment code ≡ 0
 live-nowhere address segment code none = ap (λ (a : ℕ). weight_of (place_of a) segment code) none ∙ weight-none segment code
-
-pub SameButLive-from : (old new : Tables) (segment : ℕ) → KeepsButLive segment old new → IsIfile new → SameButLive old new
-SameButLive-from old new segment kept formed = record { segments = kept.segments; states = kept.states; rows = kept.rows; formed = formed }
 
 pub SameButLive-trans : (a b c : Tables) → SameButLive a b → SameButLive b c → SameButLive a c
 SameButLive-trans a b c p q = record {
@@ -118,21 +113,6 @@ weight-record tables number s low =
               ∙ sym (weight-elsewhere (place_of address) segment code (λ e. ne (omega arith)))
         ]
 
--- A row was changed: nothing else of the log is another.
-pub Renews-row : (p : LogParts) (number : ℕ) (row : InodeRow) (at : ℕ → ℕ → ℕ) → ((code : ℕ) → code < BLOCK_CODES → at number code ≡ 0)
-    → Renews (log_state p at) (log_state (record p { tables = with_row p.tables number row }) at) number
-Renews-row p number row at nowhere = record {
-  numbers = length-set p.tables.rows number row;
-  segments = refl;
-  nowhere = nowhere;
-  places = λ n c low below. refl;
-  versions = λ n low other. ap (λ (r : InodeRow). r.version) (get_or-set_other p.tables.rows number n row fresh_row other);
-  end = record { active = refl; next = refl };
-  used = record { states = λ s below. refl; clean = refl };
-  live = λ s below. refl;
-  owners = λ place. refl;
-}
-
 -- A dirty segment was made clean.
 module _ (p : LogParts) (segment : ℕ) (h : IsParts p) (inside : segment < p.memory.segments) (dirty : state_of p.tables segment ≡ Dirty) where
   reclaimed_here : state_of (with_state p.tables segment Clean) segment ≡ Clean
@@ -157,19 +137,4 @@ module _ (p : LogParts) (segment : ℕ) (h : IsParts p) (inside : segment < p.me
         let one : clean_unit (state_of (with_state p.tables segment Clean) segment) ≡ 1 = ap clean_unit reclaimed_here in
         let counted = h.counted in
         omega arith;
-  }
-
-  pub Cleans-reclaimed : (at : ℕ → ℕ → ℕ) → live_of p.tables segment ≡ 0
-      → Cleans (log_state p at) (log_state (record p { tables = with_state p.tables segment Clean; clean = p.clean + 1 }) at) segment
-  Cleans-reclaimed at empty = record {
-    keys = record { numbers = refl; segments = refl; places = λ n c low below. refl; versions = λ n low. refl };
-    end = record { active = refl; next = refl };
-    inside = inside;
-    was_dirty = dirty;
-    empty = empty;
-    is_clean = reclaimed_here;
-    states = λ s below apart. state_of-set_other p.tables segment s Clean apart;
-    clean = refl;
-    live = λ s below. refl;
-    owners = λ place. refl;
   }

@@ -1,5 +1,5 @@
 -- What the log names at a place, as the log is written and a segment is opened.
-use Rattle.std.proofs.Common.{◌≡◌, ◌≢◌, ℕ, ◌+◌, ◌*◌, ◌/◌, ◌%◌, ◌<◌, ◌≤◌, inl, inr, List, Some, None, option_and_then, length, subst, refl, sym, ap, ◌∙◌, ⊎_elim, arith}
+use Rattle.std.proofs.Common.{◌≡◌, ◌≢◌, ℕ, ◌+◌, ◌*◌, ◌/◌, ◌%◌, ◌<◌, ◌≤◌, inl, inr, List, Option, Some, None, option_and_then, option_map, length, refl, ap, ◌∙◌, ⊎_elim, arith}
 use Rattle.std.proofs.lemmas.Bool.{cases_eq, cases_lt}
 use Rattle.lfs_segments.specs.Log.{Extends, IsOlder, entry_at}
 use Rattle.lfs_segments.specs.Memory.{IsLaidOut, SegmentMemory, block_at, next_address, opened, room_of}
@@ -11,12 +11,14 @@ use Rattle.lfs_ways.specs.Blocks.{code_of, logical_of}
 use Rattle.lfs_ways.specs.Owners.{owner_at, owner_in}
 use Rattle.lfs_ways.specs.declared.blocks.FileBlock.{FileBlock}
 use Rattle.lfs_segments.specs.declared.entry.SummaryEntry.{SummaryEntry}
+use Rattle.lfs_segments.specs.declared.entry.LogicalBlock.{LogicalBlock}
 use Rattle.lfs_segments.specs.declared.entry.LogicalBlock.TheVariants.{Inodes}
-use Rattle.lfs_log.specs.Names.{named_at, record_at, record_in}
+use Rattle.lfs_inodes.specs.declared.inode.Inode.{Inode}
+use Rattle.lfs_log.specs.Names.{inode_key, named_at, record_owner, record_at, record_in}
 use Rattle.lfs_ifile.specs.declared.segment.SegState.TheVariants.{Clean}
-use Rattle.lfs_ifile.specs.Tables.{IsIfile, Tables, row_of}
+use Rattle.lfs_ifile.specs.Tables.{Tables, row_of}
 use Rattle.lfs_segments.proofs.MemoryLemmas.{log_start-le}
-use Rattle.lfs_log.specs.Parts.{IsParts, LogParts, clean_count, live_of, log_state, opened_parts, state_of}
+use Rattle.lfs_log.specs.Parts.{IsParts, LogParts, live_of, log_state, opened_parts, state_of}
 use Rattle.lfs_log.proofs.PartsLemmas.{opened_active, opened_dirty, opened_other, opened_some}
 
 -- The owner of a place rests on the entry and the block of its address.
@@ -81,18 +83,6 @@ Writes-extended p q at h room extends tables clean next = record {
   owners = λ place written. named_at-extended p.memory q.memory place extends (written_older p.memory place h.laid_out written);
 }
 
--- and the parts are as well formed as they were
-pub IsParts-written : (p q : LogParts) → IsParts p → IsLaidOut q.memory → q.memory.segments ≡ p.memory.segments → q.memory.active ≡ p.memory.active → q.tables ≡ p.tables → q.clean ≡ p.clean → IsParts q
-IsParts-written p q h laid segments active tables clean = record {
-  laid_out = laid;
-  formed = subst IsIfile (sym tables) h.formed;
-  agree = ap (λ (t : Tables). length t.live) tables ∙ h.agree ∙ sym segments;
-  is_active = ap (λ (t : Tables). state_of t q.memory.active) tables ∙ ap (state_of p.tables) active ∙ h.is_active;
-  no_other = λ s below is.
-      h.no_other s (subst (λ n. s < n) segments below) (sym (ap (λ (t : Tables). state_of t s) tables) ∙ is) ∙ sym active;
-  counted = clean ∙ h.counted ∙ ap (λ (t : Tables). clean_count t p.memory.segments) (sym tables) ∙ ap (clean_count q.tables) (sym segments);
-}
-
 -- Where the log has an entry for an address, it names the units of the block there as the entry says.
 pub named_at-entry : (m : SegmentMemory) (address slot : ℕ) (e : SummaryEntry) (block : List ℕ) → slot < 4 → entry_at m address ≡ Some e → block_at m address ≡ block
     → named_at m (4 * address + slot) ≡ owner_in e.block e.number e.version slot (record_in block slot)
@@ -121,3 +111,9 @@ named_at-record m address slot number version e low named inodes found = owner_a
 pub named_at-none : (m : SegmentMemory) (place : ℕ) → entry_at m (place / 4) ≡ None → named_at m place ≡ None
 unfolding named_at owner_at
 named_at-none m place none = rw none refl
+
+-- whose record stands in a slot of an inode block
+pub owner_in-packed : (block : LogicalBlock) (number version slot : ℕ) (found : Option (ℕ × ℕ)) (held : Option Inode) (v : Inode) → block ≡ Inodes → found ≡ option_map inode_key held → held ≡ Some v
+    → owner_in block number version slot found ≡ Some (record_owner v)
+unfolding owner_in
+owner_in-packed block number version slot found held v inodes is here = rw (inodes, is, here) refl

@@ -7,7 +7,7 @@ use Rattle.lfs_ifile.specs.declared.segment.SegState.TheVariants.{Clean, Dirty, 
 use Rattle.lfs_ifile.specs.Tables.{IsIfile, Tables, fresh_tables, with_state}
 use Rattle.lfs_segments.specs.Memory.{IsLaidOut, fresh, opened}
 use Rattle.lfs_ways.specs.Counting.{total}
-use Rattle.lfs_ways.specs.Log.{AreSegments, IsEmptyLog, clean_unit}
+use Rattle.lfs_ways.specs.Log.{AreSegments, clean_unit}
 use Rattle.lfs_ways.proofs.CountingLemmas.{total-changed, total-part, total-zero}
 use Rattle.lfs_log.specs.Parts.{IsParts, LogParts, clean_count, fresh_parts, log_state, opened_parts, state_of}
 
@@ -116,18 +116,6 @@ module _ (segments inodes : ℕ) (some : 6 ≤ segments) where
       | inr ne ↦ absurd (clean_not_active (sym (fresh_state s below ne) ∙ active))
     ];
     counted = fresh_count;
-  }
-
-  pub IsEmptyLog-fresh : IsEmptyLog (log_state (fresh_parts segments inodes) (λ n c. 0))
-  IsEmptyLog-fresh = record {
-    some = omega arith;
-    active = refl;
-    next = omega arith;
-    is_active = fresh_active;
-    others = fresh_state;
-    clean = omega arith;
-    live = λ s below. get_or-replicate segments s 0 0 below;
-    nowhere = λ n c low below. refl;
   }
 
 -- A clean segment that is opened.

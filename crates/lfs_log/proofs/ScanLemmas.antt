@@ -4,7 +4,7 @@ use Rattle.std.specs.List.{cons_option, filter_map, flat_map}
 use Rattle.std.proofs.lemmas.Bool.{cases_eq}
 use Rattle.std.proofs.lemmas.List.{drop_all, drop_more, get_or-take, length-append, length-take, length-take-le, take_more}
 use Rattle.std.proofs.lemmas.List.Concat.{flat_map-append}
-use Rattle.std.proofs.lemmas.List.Elements.{All-get_or, filter_map-append}
+use Rattle.std.proofs.lemmas.List.Elements.{filter_map-append}
 use Rattle.lfs_inodes.specs.declared.inode.Inode.{Inode}
 use Rattle.lfs_inodes.specs.Reading.{fields_in, fields_of}
 use Rattle.lfs_inodes.specs.Slots.{slot_of, slots}
@@ -14,7 +14,7 @@ use Rattle.lfs_segments.specs.declared.entry.SummaryEntry.{SummaryEntry}
 use Rattle.lfs_segments.specs.declared.summary.Summary.{Summary}
 use Rattle.lfs_segments.specs.Entry.{unused}
 use Rattle.lfs_segments.specs.Log.{entry_at, expected_at, first_of, named_one, names_from}
-use Rattle.lfs_segments.specs.Memory.{IsLaidOut, SegmentMemory, block_at, log_start}
+use Rattle.lfs_segments.specs.Memory.{SegmentMemory, block_at, log_start}
 use Rattle.lfs_segments.specs.Reading.{summary_entries}
 use Rattle.lfs_segments.specs.Summary.{IsSummaryBlock}
 use Rattle.lfs_segments.proofs.LogLemmas.{entry_at-ended, entry_at-in, expected_at-more, names_from-append, names_from-more, names_from-none, next_entry}
@@ -24,9 +24,6 @@ use Rattle.lfs_segments.proofs.ReadingLemmas.{summary_entries-spelled}
 use Rattle.lfs_types.specs.declared.cleaner.BlockInfo.{BlockInfo}
 use Rattle.lfs_log.specs.Infos.{block_infos, entry_infos, info_of, infos_from, infos_of, slot_info}
 use Rattle.lfs_log.proofs.PackingLemmas.{get_or-slots}
-
-pub length-block_at : (m : SegmentMemory) (address : ℕ) → IsLaidOut m → address < m.segments * 64 → length (block_at m address) ≡ 512
-length-block_at m address laid inside = let whole = laid.whole in All-get_or (λ block. length block ≡ 512) m.blocks address [] (omega arith) laid.each
 
 -- A list that is filtered grows by no item.
 pub length-filter_map : (f : List ℕ → Option BlockInfo) (xs : List (List ℕ)) → length (filter_map f xs) ≤ length xs

@@ -1,5 +1,5 @@
 -- The infos of a segment: which blocks and inodes its log names, and where they lie.
-use Rattle.std.specs.Prelude.{◌≡◌, ℕ, ◌-◌, List, [], ◌∷◌, Option, option_map}
+use Rattle.std.specs.Prelude.{◌≡◌, ℕ, ◌-◌, ◌/◌, List, [], ◌∷◌, Option, Some, option_map}
 use Rattle.std.specs.List.{Contains, filter_map, flat_map}
 use Rattle.lfs_inodes.specs.Slots.{slots}
 use Rattle.lfs_inodes.specs.Reading.{fields_in}
@@ -12,7 +12,9 @@ use Rattle.lfs_segments.specs.Memory.{SegmentMemory, block_at, log_start}
 use Rattle.lfs_types.specs.declared.cleaner.BlockInfo.{BlockInfo}
 use Rattle.lfs_ways.specs.declared.blocks.FileBlock.{FileBlock}
 use Rattle.lfs_ways.specs.Blocks.{code_of, logical_of}
+use Rattle.lfs_ways.specs.Counting.{seg_of}
 use Rattle.lfs_ways.specs.Log.{Owner}
+use Rattle.lfs_log.specs.Names.{named_at}
 use Rattle.lfs_types.specs.declared.limits.TheConstants.{SEGMENT_BLOCKS}
 
 -- the info of a file's block at an address
@@ -46,3 +48,13 @@ pub record HasInfo (infos : List BlockInfo) (address : ℕ) (o : Owner) : Type 0
   pub block : FileBlock
   pub code : code_of block ≡ o.code
   pub there : Contains infos (info_of address o.number o.version (logical_of block))
+
+-- An info is that of the owner whom the log names at a place of a segment.
+pub record IsNamed (m : SegmentMemory) (segment : ℕ) (i : BlockInfo) : Type 0 where
+  pub place : ℕ
+  pub owner : Owner
+  pub block : FileBlock
+  pub here : seg_of place ≡ segment
+  pub named : named_at m place ≡ Some owner
+  pub code : code_of block ≡ owner.code
+  pub same : info_of (place / 4) owner.number owner.version (logical_of block) ≡ i

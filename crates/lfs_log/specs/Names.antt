@@ -16,6 +16,10 @@ record_key f = (f.attributes.number, f.attributes.version)
 abbrev pub inode_key : Inode → ℕ × ℕ
 inode_key v = (v.number, v.version)
 
+-- whose record it is
+abbrev pub record_owner : Inode → Owner
+record_owner v = record { number = v.number; version = v.version; code = 0 }
+
 -- the number and the version of the record in a slot of a block, if one is there
 unfoldable pub record_in : List ℕ → ℕ → Option (ℕ × ℕ)
 record_in block slot = option_map record_key (fields_in (slot_of block slot))

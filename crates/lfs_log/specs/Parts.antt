@@ -1,10 +1,12 @@
 -- What a log keeps: the segment memory, the ifile's tables and the count of clean segments.
-use Rattle.std.specs.Prelude.{◌≡◌, ℕ, ◌-◌, ◌+◌, ◌*◌, ◌<◌, length, slice_index, slice_index_or, if◌then◌else◌, ◌==◌}
+use Rattle.std.specs.Prelude.{◌≡◌, ◌≤◌, ◌/◌, ◌≢◌, ℕ, ◌-◌, ◌+◌, ◌*◌, ◌<◌, length, slice_index, slice_index_or, if◌then◌else◌, ◌==◌}
+use Rattle.lfs_types.specs.declared.limits.TheConstants.{SEGMENT_BLOCKS}
+use Rattle.lfs_ifile.specs.declared.segment.TheConstants.{SEGMENT_BYTES}
 use Rattle.lfs_ifile.specs.declared.segment.SegState.{SegState}
 use Rattle.lfs_ifile.specs.declared.segment.SegState.TheVariants.{Clean, Dirty, Active}
 use Rattle.lfs_ifile.specs.Tables.{IsIfile, Tables, fresh_tables, row_of, with_state}
 use Rattle.lfs_segments.specs.Memory.{IsLaidOut, SegmentMemory, fresh, next_address, opened}
-use Rattle.lfs_ways.specs.Counting.{total}
+use Rattle.lfs_ways.specs.Counting.{total, units}
 use Rattle.lfs_ways.specs.Log.{LogState, clean_unit}
 use Rattle.lfs_log.specs.Names.{named_at}
 
@@ -27,6 +29,14 @@ pub record SameButLive (old new : Tables) : Type 0 where
   pub states : new.states ≡ old.states
   pub rows : new.rows ≡ old.rows
   pub formed : IsIfile new
+
+-- The live bytes of a block with this code may move from one address to another, 0 being none: both lie in the volume,
+-- the segment of the old one has those bytes, and that of the new one has room for them.
+pub record MayMove (p : LogParts) (code from to : ℕ) : Type 0 where
+  pub from_inside : from < SEGMENT_BLOCKS * p.memory.segments
+  pub to_inside : to < SEGMENT_BLOCKS * p.memory.segments
+  pub had : from ≢ 0 → 128 * units code ≤ live_of p.tables (from / SEGMENT_BLOCKS)
+  pub fits : to ≢ 0 → live_of p.tables (to / SEGMENT_BLOCKS) + 128 * units code ≤ SEGMENT_BYTES
 
 -- How many of the first n segments are clean.
 unfoldable pub clean_count : Tables → ℕ → ℕ

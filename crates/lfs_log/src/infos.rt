@@ -1,11 +1,12 @@
 //! Infos: which blocks and inodes the log of a segment names, and where they lie.
 
 ghost use Rattle.std.specs.Prelude.{◌≡◌, ◌+◌, ◌<◌, ◌≤◌, ◌++◌, ◌∷◌, ◌/◌, ℕ, Some, [], length};
+ghost use Rattle.lfs_types.specs.declared.cleaner.BlockInfo.{BlockInfo};
 ghost use Rattle.lfs_types.specs.declared.cleaner.TheConstants.{INFO_LIMIT};
 ghost use Rattle.lfs_segments.specs.Memory.{IsLaidOut};
-ghost use Rattle.std.specs.List.{filter_map};
+ghost use Rattle.std.specs.List.{Contains, filter_map};
 ghost use Rattle.lfs_inodes.specs.Slots.{slot_of, slots};
-ghost use Rattle.lfs_log.specs.Infos.{HasInfo, block_infos, info_of, infos_of, slot_info};
+ghost use Rattle.lfs_log.specs.Infos.{HasInfo, IsNamed, block_infos, info_of, infos_of, slot_info};
 ghost use Rattle.lfs_log.specs.Names.{named_at};
 ghost use Rattle.lfs_ways.specs.Counting.{seg_of};
 ghost use Rattle.lfs_ways.specs.Log.{Owner};
@@ -29,6 +30,9 @@ impl Log {
         // What the log names at a place of the segment stands among them.
         ensures named { (place : ℕ) (owner : Owner) → seg_of place ≡ segment
             → named_at self.now.memory place ≡ Some owner → HasInfo result (place / 4) owner }
+        // And nothing else does.
+        ensures only { (info : BlockInfo) → Contains result info
+            → IsNamed self.now.memory segment info }
         ensures fits { length (infos_of self.now.memory segment) ≤ INFO_LIMIT }
         ensures kept { IsParts self.now }
     {

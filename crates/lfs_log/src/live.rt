@@ -11,7 +11,7 @@ ghost use Rattle.lfs_ways.specs.declared.blocks.TheConstants.{BLOCK_CODES};
 ghost use Rattle.lfs_ways.specs.Blocks.{IsFileBlock, code_of};
 ghost use Rattle.lfs_ways.specs.Counting.{place_of, placed, units, weight_of};
 ghost use Rattle.lfs_ways.specs.Log.{Assigns, Cleans, Renews};
-ghost use Rattle.lfs_log.specs.Parts.{IsParts, SameButLive, live_of, log_state, record_place, state_of};
+ghost use Rattle.lfs_log.specs.Parts.{IsParts, MayMove, SameButLive, live_of, log_state, record_place, state_of};
 
 use crate::log::Log;
 use lfs_ifile::{Ifile, SegState};
@@ -77,12 +77,7 @@ impl Log {
     /// Moves the live bytes of a block that had one address and has another now; 0 is none. The
     /// segment of the new one gains them, and that of the old one loses them.
     pub fn move_live(&mut self, block: FileBlock, from: u32, to: u32)
-        requires from_inside { from < SEGMENT_BLOCKS * self.old.memory.segments }
-        requires to_inside { to < SEGMENT_BLOCKS * self.old.memory.segments }
-        requires fits { to ≢ 0
-            → live_of self.old.tables (to / SEGMENT_BLOCKS) + 128 * units (code_of block) ≤ SEGMENT_BYTES }
-        requires had { from ≢ 0
-            → 128 * units (code_of block) ≤ live_of self.old.tables (from / SEGMENT_BLOCKS) }
+        requires { MayMove self.old (code_of block) from to }
         ensures live { (s : ℕ)
             → live_of self.new.tables s + weight_of (place_of from) s (code_of block)
             ≡ live_of self.old.tables s + weight_of (place_of to) s (code_of block) }
@@ -106,13 +101,8 @@ impl Log {
     pub fn place_record(&mut self, number: u32, address: u32, slot: u16)
         requires in_range { number < length self.old.tables.rows }
         requires used { (row_of self.old.tables number).used ≡ true }
-        requires inside { address < SEGMENT_BLOCKS * self.old.memory.segments }
         requires slot { slot < 4 }
-        requires fits { address ≢ 0
-            → live_of self.old.tables (address / SEGMENT_BLOCKS) + 128 ≤ SEGMENT_BYTES }
-        requires had { (row_of self.old.tables number).address ≢ 0
-            → 128 ≤ live_of self.old.tables
-            ((row_of self.old.tables number).address / SEGMENT_BLOCKS) }
+        requires moves { MayMove self.old 0 (row_of self.old.tables number).address address }
         ensures row { row_of self.new.tables number
             ≡ placed_row address slot (row_of self.old.tables number) }
         ensures rows { (other : ℕ) → other ≢ number

@@ -139,7 +139,8 @@ impl Log {
     /// The least unused number from 4 up; `None` where all of them are used.
     pub fn least_free(&self) -> Option<u32>
         ensures some { IfSome result (IsLeastFree self.now.tables.rows) }
-        ensures none { IfNone result (AreUsed self.now.tables.rows FIRST_INODE (length self.now.tables.rows)) }
+        ensures none { IfNone result
+            (AreUsed self.now.tables.rows FIRST_INODE (length self.now.tables.rows)) }
         ensures kept { IsParts self.now }
     {
         self.ifile.least_free()

@@ -1,6 +1,7 @@
 //! A log of a fresh volume: written, opened and read again.
 
-ghost use Rattle.std.specs.Prelude.{◌≤◌, ◌<◌};
+ghost use Rattle.std.specs.Prelude.{◌≤◌, ◌<◌, All};
+ghost use Rattle.lfs_segments.specs.Entry.{IsEntry};
 ghost use Rattle.lfs_inodes.specs.Facts.{IsInodeNumber};
 
 use crate::log::Log;
@@ -83,35 +84,43 @@ fn info(ino: u32, version: u32, lbn: u32, addr: u32) -> BlockInfo {
     }
 }
 
-/// An entry of file 4, version 2.
-fn entry(block: LogicalBlock) -> SummaryEntry {
-    SummaryEntry {
-        number: 4,
-        version: 2,
-        block,
-    }
+/// The entries of the last data block and the indirect block of file 4, version 2, and of a block of
+/// inodes.
+fn entries() -> [SummaryEntry; 3]
+    ensures { All IsEntry result }
+{
+    [
+        SummaryEntry {
+            number: 4,
+            version: 2,
+            block: LogicalBlock::Data(139),
+        },
+        SummaryEntry {
+            number: 4,
+            version: 2,
+            block: LogicalBlock::Single,
+        },
+        SummaryEntry {
+            number: 0,
+            version: 0,
+            block: LogicalBlock::Inodes,
+        },
+    ]
 }
 
 #[test]
 fn what_is_put_is_found(rt: HostRuntime) -> Result<(), Fail> {
     let mut log = Log::format(rt.alloc(), 6, 16)?;
-    let inodes = SummaryEntry {
-        number: 0,
-        version: 0,
-        block: LogicalBlock::Inodes,
-    };
-    let entries = [
-        entry(LogicalBlock::Data(139)),
-        entry(LogicalBlock::Single),
-        inodes,
-    ];
     assert_eq!(rt; log.room(), 63);
-    assert_eq!(rt; log.begin(&entries), 1);
-    for (address, block) in [(2, [7; 512]), (3, [8; 512]), (4, packed(&three()))] {
+    assert_eq!(rt; log.begin(&entries()), 1);
+    for (address, block) in [(2, [7; 512]), (3, [8; 512])] {
         assert!(rt; log.room() > 0);
         assert_eq!(rt; log.put(&block), address);
         assert_eq!(rt; *log.block(address), block);
     }
+    assert!(rt; log.room() > 0);
+    assert_eq!(rt; log.put_inodes(&three()), 4);
+    assert_eq!(rt; *log.block(4), packed(&three()));
     assert_eq!(rt; log.next_address(), 5);
     assert_eq!(rt;
         log.infos(0).items(),

@@ -1,23 +1,24 @@
 -- What a call that the rules allow has passed.
-use Rattle.std.proofs.Common.{◌≡◌, ℕ, ◌==◌, ◌||◌, not, Bool, true, false, List, [], ◌∷◌, ◌++◌, length, Option, None, Some, Result, Ok, Err, refl, sym, ap, ◌∙◌, arith, append-nil, ne_eqb}
-use Rattle.std.proofs.lemmas.Bool.{not-true}
+use Rattle.std.proofs.Common.{◌≡◌, ℕ, ◌+◌, ◌==◌, ◌||◌, not, Bool, true, false, List, [], ◌∷◌, ◌++◌, length, Option, None, Some, Result, Ok, Err, refl, sym, ap, ◌∙◌, arith, append-nil, ne_eqb}
+use Rattle.std.proofs.lemmas.Bool.{cond-true, not-true}
 use Rattle.std.specs.Prelude.{is_some, unwrap_or}
 use Rattle.std.specs.FinMap as map
 use Rattle.lfs_types.specs.Caller.{Caller}
 use Rattle.lfs_types.specs.Kinds.{is_directory_kind}
-use Rattle.lfs_types.specs.Tree.{root}
+use Rattle.lfs_types.specs.Tree.{Row, root, attrs_of}
 use Rattle.lfs_types.specs.declared.attrs.Attrs.{Attrs}
+use Rattle.lfs_types.specs.declared.attrs.Bit.{Bit}
 use Rattle.lfs_types.specs.declared.attrs.Bit.TheVariants as bits
 use Rattle.lfs_types.specs.declared.rule.Denial.{Denial}
 use Rattle.lfs_rules.specs.Grants.{grants_of}
 use Rattle.lfs_rules.specs.Locks.{is_immutable, is_append_only}
 use Rattle.lfs_rules.specs.Sticky.{is_barred}
-use Rattle.lfs_model.specs.World.{Rows, child, IsChild}
+use Rattle.lfs_model.specs.World.{Rows, child, file_at, IsChild, IsTree}
 use Rattle.lfs_model.specs.Rules.{first_failing, is_directory_row, row_grants, attrs_at, next, reached, front, last, Check, walk, making, removing, reaching, change_tests}
 use Rattle.lfs_model.specs.Walks.{walked}
 use Rattle.lfs_model.proofs.Children.{child-is}
 use Rattle.lfs_model.proofs.Deciding.{after_walk, failing_walk, walked-reached, met_first, passes-append}
-use Rattle.lfs_types.proofs.Somewhere.{not_some}
+use Rattle.lfs_types.proofs.Somewhere.{There, not_some, some_and}
 
 -- ---- ways
 
@@ -47,6 +48,69 @@ split_last (name ∷ second ∷ names) h = ap (λ l. name ∷ l) (split_last (se
 pub child_there : (o : Option ℕ) (n : ℕ) → is_some o ≡ true → n ≡ unwrap_or o 0 → o ≡ Some n
 child_there None n h e = absurd (cc)
 child_there (Some m) n h e = ap Some (sym e)
+
+-- a walk whose tests are met ends at a row that is there
+pub walk_there : (rows : Rows) (caller : Caller) (path k at : ℕ) (names : List (List ℕ)) → There (map.get rows at) → first_failing (walk rows caller path k at names) ≡ None
+    → There (map.get rows (reached rows at names))
+walk_there rows caller path k at [] there h = there
+walk_there rows caller path k at (name ∷ names) there h =
+    let c = met_first _ _ _ (met_first _ _ _ (met_first _ _ _ h).1).1 in
+    let hangs = child-is rows at name (next rows at name) (child_there _ _ c.0 refl) in
+    walk_there rows caller path (k + 1) (next rows at name) names (record { value = hangs.row; is = hangs.there }) c.1
+
+-- so one from the root
+pub path_there : (rows : Rows) → IsTree rows → (caller : Caller) (path : ℕ) (names : List (List ℕ)) → first_failing (walk rows caller path 0 root names) ≡ None
+    → There (map.get rows (reached rows root names))
+path_there rows tree caller path names h =
+    let top = some_and (map.get rows root) _ tree.rooted in
+    walk_there rows caller path 0 root names (record { value = top.value; is = top.is }) h
+
+-- a walk whose tests are met goes to the last name from a directory that the caller may search
+pub record LastStep (rows : Rows) (caller : Caller) (path k at : ℕ) (names : List (List ℕ)) : Type 0 where
+  pub walks : first_failing (walk rows caller path k at (front names)) ≡ None
+  pub directory : is_directory_row (map.get rows (reached rows at (front names))) ≡ true
+  pub searches : row_grants caller bits.Search (map.get rows (reached rows at (front names))) ≡ true
+  pub leads : is_some (child rows (reached rows at (front names)) (last names)) ≡ true
+
+pub last_step : (rows : Rows) (caller : Caller) (path k at : ℕ) (names : List (List ℕ)) → (length names == 0) ≡ false → first_failing (walk rows caller path k at names) ≡ None
+    → LastStep rows caller path k at names
+last_step rows caller path k at [] some h = absurd (cc)
+last_step rows caller path k at (name ∷ []) some h =
+    let a = met_first _ _ _ h in
+    let b = met_first _ _ _ a.1 in
+    let c = met_first _ _ _ b.1 in
+    record { walks = refl; directory = a.0; searches = b.0; leads = c.0 }
+last_step rows caller path k at (name ∷ second ∷ names) some h =
+    let a = met_first (is_directory_row (map.get rows at)) _ _ h in
+    let b = met_first (row_grants caller bits.Search (map.get rows at)) _ _ a.1 in
+    let c = met_first (is_some (child rows at name)) _ _ b.1 in
+    let rest = last_step rows caller path (k + 1) (next rows at name) (second ∷ names) (ne_eqb (length (second ∷ names)) 0 (λ e. absurd (omega arith))) c.1 in
+    record {
+      walks = cond-true _ _ _ a.0 ∙ cond-true _ _ _ b.0 ∙ cond-true _ _ _ c.0 ∙ rest.walks;
+      directory = rest.directory;
+      searches = rest.searches;
+      leads = rest.leads;
+    }
+
+-- ---- rows and their attributes
+
+-- a row that is there is a directory's where its attributes are
+pub directory_attrs : (o : Option Row) → There o → is_directory_row o ≡ is_directory_kind (attrs_of (file_at o)).kind
+directory_attrs o t = ap is_directory_row t.is ∙ sym (ap (λ p. is_directory_kind (attrs_of (file_at p)).kind) t.is)
+
+-- and it grants what they do
+pub grants_attrs : (caller : Caller) (bit : Bit) (o : Option Row) → There o → row_grants caller bit o ≡ grants_of caller (attrs_of (file_at o)) bit
+grants_attrs caller bit o t = ap (row_grants caller bit) t.is ∙ sym (ap (λ p. grants_of caller (attrs_of (file_at p)) bit) t.is)
+
+-- what has no directory's attributes is no directory's row
+pub regular_row : (o : Option Row) → is_directory_kind (attrs_of (file_at o)).kind ≡ false → is_directory_row o ≡ false
+regular_row None h = absurd (cc)
+regular_row (Some r) h = h
+
+-- a directory's row is there
+directory_row_there : (o : Option Row) → is_directory_row o ≡ true → There o
+directory_row_there None h = absurd (cc)
+directory_row_there (Some r) h = record { value = r; is = refl }
 
 -- ---- what the tests of a call say
 
@@ -90,8 +154,8 @@ pub record MayMake (rows : Rows) (caller : Caller) (path : ℕ) (names : List (L
   pub granted : row_grants caller bits.Write (map.get rows (reached rows root (front names))) ≡ true
 
 -- what the tests of a new name say, where none fails
-pub may_make : (rows : Rows) (caller : Caller) (path : ℕ) (names : List (List ℕ)) → first_failing (making rows caller path names) ≡ None → MayMake rows caller path names
-may_make rows caller path names h =
+pub may_make : (rows : Rows) → IsTree rows → (caller : Caller) (path : ℕ) (names : List (List ℕ)) → first_failing (making rows caller path names) ≡ None → MayMake rows caller path names
+may_make rows tree caller path names h =
     let some = met_first _ _ _ h in
     let walks = passes-append (walk rows caller path 0 root (front names)) _ some.1 in
     let a = met_first _ _ _ walks.1 in
@@ -99,7 +163,17 @@ may_make rows caller path names h =
     let c = met_first _ _ _ b.1 in
     let d = met_first _ _ _ c.1 in
     let e = met_first _ _ _ d.1 in
-    record { filled = not-true _ some.0; way = walked_there rows caller path 0 root (front names) walks.0; walks = walks.0; directory = a.0; searches = b.0; mutable = not-true _ d.0; free = not_some _ (not-true _ c.0); granted = e.0 }
+    let there = path_there rows tree caller path (front names) walks.0 in
+    record {
+      filled = not-true _ some.0;
+      walks = walks.0;
+      way = walked_there rows caller path 0 root (front names) walks.0;
+      directory = directory_attrs _ there ∙ a.0;
+      searches = grants_attrs caller bits.Search _ there ∙ b.0;
+      mutable = not-true _ d.0;
+      free = not_some _ (not-true _ c.0);
+      granted = grants_attrs caller bits.Write _ there ∙ e.0;
+    }
 
 -- a call may take away a name
 pub record MayRemove (rows : Rows) (caller : Caller) (names : List (List ℕ)) : Type 0 where
@@ -117,23 +191,22 @@ pub record MayRemove (rows : Rows) (caller : Caller) (names : List (List ℕ)) :
 pub may_remove : (rows : Rows) (caller : Caller) (names : List (List ℕ)) → first_failing (removing rows caller names) ≡ None → MayRemove rows caller names
 may_remove rows caller names h =
     let some = met_first _ _ _ h in
-    let walks = passes-append (walk rows caller 0 0 root (front names)) _ some.1 in
-    let a = met_first _ _ _ walks.1 in
-    let b = met_first _ _ _ a.1 in
-    let c = met_first _ _ _ b.1 in
-    let d = met_first _ _ _ c.1 in
+    let filled = not-true _ some.0 in
+    let walks = passes-append (walk rows caller 0 0 root names) _ some.1 in
+    let step = last_step rows caller 0 0 root names filled walks.0 in
+    let d = met_first _ _ _ walks.1 in
     let e = met_first _ _ _ d.1 in
     let f = met_first _ _ _ e.1 in
     let g = met_first _ _ _ f.1 in
     let m = met_first _ _ _ g.1 in
     let n = met_first _ _ _ m.1 in
     record {
-      walks = walks.0;
-      searches = b.0;
+      walks = step.walks;
+      searches = step.searches;
       dir_mutable = not-true _ d.0;
       dir_rewritable = not-true _ f.0;
-      hangs = child-is rows _ (last names) (reached rows root names) (child_there _ _ c.0 (reached_last rows root names (not-true _ some.0)));
-      granted = e.0;
+      hangs = child-is rows _ (last names) (reached rows root names) (child_there _ _ step.leads (reached_last rows root names filled));
+      granted = grants_attrs caller bits.Write _ (directory_row_there _ step.directory) ∙ e.0;
       unbarred = not-true _ g.0;
       mutable = not-true _ m.0;
       rewritable = not-true _ n.0;

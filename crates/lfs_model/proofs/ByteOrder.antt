@@ -65,7 +65,7 @@ module _ (test : List ℕ → Bool) where
       (λ t. ap (list_any test) (cond-false _ _ _ t))
       (cases_Bool (is_lt (slice_cmp nat_cmp first name)))
 
-  any-in_byte_order : (names : List (List ℕ)) → list_any test (in_byte_order names) ≡ list_any test names
+  pub any-in_byte_order : (names : List (List ℕ)) → list_any test (in_byte_order names) ≡ list_any test names
   unfolding in_byte_order
   any-in_byte_order [] = refl
   any-in_byte_order (name ∷ names) = any-put_in_order name (in_byte_order names) ∙ ap (λ b. test name || b) (any-in_byte_order names)
@@ -98,7 +98,7 @@ sorted-put_in_order name (first ∷ names) sorted none =
     subst (IsStrictlySortedBy (slice_cmp nat_cmp)) (sym (cond-false _ _ _ t)) ((less, each_later name first names less sorted.0), sorted))
     (cases_Bool (is_lt (slice_cmp nat_cmp first name)))
 
-sorted-in_byte_order : (names : List (List ℕ)) → IsDistinct same_name names → IsStrictlySortedBy (slice_cmp nat_cmp) (in_byte_order names)
+pub sorted-in_byte_order : (names : List (List ℕ)) → IsDistinct same_name names → IsStrictlySortedBy (slice_cmp nat_cmp) (in_byte_order names)
 unfolding in_byte_order IsStrictlySortedBy
 sorted-in_byte_order [] distinct = tt
 sorted-in_byte_order (name ∷ names) distinct =

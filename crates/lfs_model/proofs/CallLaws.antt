@@ -1,5 +1,5 @@
 -- The laws of new rows, of the level, of the tree, and of what is shown.
-use Rattle.std.proofs.Common.{◌≡◌, ◌≢◌, ℕ, ◌+◌, List, [], ◌∷◌, Option, None, Some, refl, sym, ap, subst, ◌∙◌, ⊎_elim, arith, eqb-true}
+use Rattle.std.proofs.Common.{◌≡◌, ◌≢◌, ℕ, List, [], ◌∷◌, Option, None, Some, refl, sym, ap, subst, ◌∙◌, ⊎_elim, arith, eqb-true}
 use Rattle.std.proofs.lemmas.Bool.{not-true, cases_eq, cases_lt}
 use Rattle.std.specs.Prelude.{min}
 use Rattle.std.specs.FinMap as map
@@ -20,22 +20,22 @@ use Rattle.lfs_types.specs.declared.request.Request.TheVariants.{Stat, Read, Wri
 use Rattle.lfs_rules.specs.Grants.{grants_of}
 use Rattle.lfs_rules.specs.Securelevel.{is_lower}
 use Rattle.lfs_model.specs.World.{Rows, file_at, IsTree}
-use Rattle.lfs_model.specs.Rules.{decide, first_failing, next, reached, front, last, walk, attrs_at}
-use Rattle.lfs_model.specs.Effects.{effect, least_unused, with_file, with_place, new_file, written, cut, given, read_max}
+use Rattle.lfs_model.specs.Rules.{decide, first_failing, reached, front, last, walk, attrs_at}
+use Rattle.lfs_model.specs.Effects.{effect, least_unused, with_file, with_place, new_file, written, cut, given, in_byte_order, names_in, read_max}
 use Rattle.lfs_model.specs.LawNew.{Makes, IsLeastUnused, MayMake, New}
 use Rattle.lfs_model.specs.LawLevel.{MayRelevel, Relevelled}
 use Rattle.lfs_model.specs.LawTrees.{LeavesTree}
 use Rattle.lfs_model.specs.LawShown.{IsSeen, MayShow, Shown}
-use Rattle.lfs_model.specs.Rights.{LeadsTo, MayPlace}
+use Rattle.lfs_model.specs.Rights.{EachCall, LeadsTo, MayPlace}
 use Rattle.lfs_model.specs.Steps.{IsAnswer, LacksInodes, AllUsed, after_answer}
-use Rattle.lfs_model.proofs.Allowed.{child_there, may_make}
-use Rattle.lfs_model.proofs.Children.{child-is}
+use Rattle.lfs_model.proofs.Allowed.{may_make, walk_there}
 use Rattle.lfs_model.proofs.Deciding.{met_first, passes-append}
 use Rattle.lfs_model.proofs.Fates.{leads_last, placed}
 use Rattle.lfs_model.proofs.LawFlags.{LevelFate, level_fate, by_init}
 use Rattle.lfs_model.proofs.LawFlags.LevelFate.{Same, Set}
 use Rattle.lfs_model.proofs.LawTree.{answer_tree}
 use Rattle.lfs_model.proofs.LawUnused.{new_unused, no_less, used_below}
+use Rattle.lfs_model.proofs.NameLists.{are_names}
 use Rattle.lfs_model.proofs.WalkLemmas.{directory_kind, regular_kind}
 use Rattle.lfs_model.proofs.Ways.{reaches_root, walk_reaches}
 use Rattle.lfs_types.proofs.Maps.{get-insert_same, get-insert_other, get-remove_same, get-remove_other}
@@ -91,7 +91,10 @@ module _ (numbers : ℕ) (w : World) (caller : Caller) (tree : IsTree w.rows) (n
       subst (λ (y : Row). MayMake numbers w caller request n y) made (record {
         placed = place;
         number = subst (IsLeastUnused numbers w.rows) (sym same) (least_number numbers w.rows room);
-        file = refl;
+        owner = refl;
+        group = refl;
+        flags = refl;
+        bytes = refl;
         asked = asked row refl;
       }))
       (λ other. none_there _ s none (sym (get-insert_other w.rows _ _ n other) ∙ is))
@@ -105,18 +108,18 @@ module _ (numbers : ℕ) (w : World) (caller : Caller) (tree : IsTree w.rows) (n
   made_by (Write path place (b ∷ bs)) allowed room is = none_there _ s (file_absent _ w n _ (written caller place (b ∷ bs)) refl none) is
   made_by (SetLength path len) allowed room is = none_there _ s (file_absent _ w n _ (cut caller len) refl none) is
   made_by (Create path mode) allowed room is =
-      made_row (Create path mode) path Regular mode room (placed w caller tree 0 path (may_make w.rows caller 0 path allowed))
+      made_row (Create path mode) path Regular mode room (placed w caller tree 0 path (may_make w.rows tree caller 0 path allowed))
       (λ row e. (
         ap (λ (y : Row). y.file.kind) e,
         ap (λ (y : Row). y.file.mode) (sym e),
-        subst (λ (y : Row). LeadsTo w.rows path y.parent y.name) (sym e) (leads_last w caller 0 path (may_make w.rows caller 0 path allowed)),
+        subst (λ (y : Row). LeadsTo w.rows path y.parent y.name) (sym e) (leads_last w caller 0 path (may_make w.rows tree caller 0 path allowed)),
       )) is
   made_by (Mkdir path mode) allowed room is =
-      made_row (Mkdir path mode) path Directory mode room (placed w caller tree 0 path (may_make w.rows caller 0 path allowed))
+      made_row (Mkdir path mode) path Directory mode room (placed w caller tree 0 path (may_make w.rows tree caller 0 path allowed))
       (λ row e. (
         ap (λ (y : Row). y.file.kind) e,
         ap (λ (y : Row). y.file.mode) (sym e),
-        subst (λ (y : Row). LeadsTo w.rows path y.parent y.name) (sym e) (leads_last w caller 0 path (may_make w.rows caller 0 path allowed)),
+        subst (λ (y : Row). LeadsTo w.rows path y.parent y.name) (sym e) (leads_last w caller 0 path (may_make w.rows tree caller 0 path allowed)),
       )) is
   made_by (Unlink path) allowed room is = none_there _ s (removed_absent w.rows n (reached w.rows root path) none) is
   made_by (Rmdir path) allowed room is = none_there _ s (removed_absent w.rows n (reached w.rows root path) none) is
@@ -132,7 +135,7 @@ module _ (numbers : ℕ) (w : World) (caller : Caller) (tree : IsTree w.rows) (n
   new_by request (Denied denial) is after = none_there _ s none after
   new_by request (Refused resource) is after = none_there _ s none after
 
-pub new_law : New
+pub new_law : EachCall New
 new_law numbers w caller request answer tree is n s none after = new_by numbers w caller tree n s none request answer is after
 
 -- ---- the level
@@ -145,26 +148,17 @@ relevelled_by w caller request after (Set is super may) differs = record {
   asked = is;
 }
 
-pub relevelled_law : Relevelled
+pub relevelled_law : EachCall Relevelled
 relevelled_law numbers w caller request (Served shown) tree is differs = relevelled_by w caller request _ (level_fate numbers w caller request is.0) differs
 relevelled_law numbers w caller request (Denied denial) tree is differs = absurd (differs refl)
 relevelled_law numbers w caller request (Refused resource) tree is differs = absurd (differs refl)
 
 -- ---- the tree
 
-pub leaves_tree : LeavesTree
+pub leaves_tree : EachCall LeavesTree
 leaves_tree numbers w caller request answer tree is = answer_tree numbers w caller request answer tree is
 
 -- ---- what is shown
-
--- a walk whose tests are met ends at a row that is there
-pub walk_there : (rows : Rows) (caller : Caller) (path k at : ℕ) (names : List (List ℕ)) → There (map.get rows at) → first_failing (walk rows caller path k at names) ≡ None
-    → There (map.get rows (reached rows at names))
-walk_there rows caller path k at [] there h = there
-walk_there rows caller path k at (name ∷ names) there h =
-    let c = met_first _ _ _ (met_first _ _ _ (met_first _ _ _ h).1).1 in
-    let hangs = child-is rows at name (next rows at name) (child_there _ _ c.0 refl) in
-    walk_there rows caller path (k + 1) (next rows at name) names (record { value = hangs.row; is = hangs.there }) c.1
 
 module _ (w : World) (caller : Caller) (tree : IsTree w.rows) (path : List (List ℕ)) (walks : first_failing (walk w.rows caller 0 0 root path) ≡ None) where
   -- the row at the end of a path
@@ -205,7 +199,7 @@ shown_by numbers w caller (Names path) (Served shown) tree is =
     seen w caller tree path walks.0 _ (λ r at. let e = row_attrs w.rows _ r at in (
       directory_kind r.file.kind (ap (λ (x : Attrs). is_directory_kind x.kind) (sym e) ∙ a.0),
       ap (λ x. grants_of caller x bits.Read) (sym e) ∙ b.0,
-      is.2,
+      (in_byte_order (names_in w.rows (reached w.rows root path)), is.2, are_names w.rows tree (reached w.rows root path)),
     ))
 shown_by numbers w caller (Write path place bytes) (Served shown) tree is = is.2
 shown_by numbers w caller (SetLength path len) (Served shown) tree is = is.2
@@ -221,5 +215,5 @@ shown_by numbers w caller (SetLevel level) (Served shown) tree is = is.2
 shown_by numbers w caller Sync (Served shown) tree is = is.2
 shown_by numbers w caller request answer tree is = tt
 
-pub shown_law : Shown
+pub shown_law : EachCall Shown
 shown_law numbers w caller request answer tree is = shown_by numbers w caller request answer tree is

@@ -1,28 +1,28 @@
 -- What the denials of a walk and of the tests behind it tell.
 use Rattle.std.proofs.Common.{◌≡◌, ℕ, ◌+◌, ◌==◌, ◌||◌, not, Bool, true, false, cond, List, [], ◌∷◌, ◌++◌, length, Option, None, Some, refl, sym, ap, subst, ◌∙◌, arith, append_assoc, append-nil, length-append, eqb-true}
 use Rattle.std.proofs.lemmas.Bool.{not-true}
-use Rattle.std.specs.Prelude.{is_some, is_none, nat_le, IsSome}
+use Rattle.std.specs.Prelude.{is_some, is_none, nat_le, slice_get, IsSome, IsSomeAnd}
 use Rattle.std.specs.List.{list_any}
 use Rattle.std.specs.FinMap as map
 use Rattle.lfs_types.specs.Caller.{Caller}
 use Rattle.lfs_types.specs.Kinds.{is_directory_kind}
-use Rattle.lfs_types.specs.Tree.{Row, World, root, attrs_of}
+use Rattle.lfs_types.specs.Tree.{World, root}
 use Rattle.lfs_types.specs.declared.attrs.Attrs.{Attrs}
 use Rattle.lfs_types.specs.declared.attrs.Bit.TheVariants as bits
 use Rattle.lfs_types.specs.declared.request.Request.{Request}
 use Rattle.lfs_types.specs.declared.request.Request.TheVariants.{Stat, Read, Write, List as Names, SetLength, Create, Mkdir, Unlink, Rmdir, Rename, Chmod, Chown, Chflags, SetLevel, Sync}
 use Rattle.lfs_types.specs.declared.rule.Denial.{Denial}
 use Rattle.lfs_types.specs.declared.rule.Rule.{Rule}
-use Rattle.lfs_types.specs.declared.rule.Rule.TheVariants.{IsDirectory, GrantsSearch, NameThere, NameFree, IsNoDirectory, IsEmpty, IsNotRoot, IsNotBeneathItself, IsMutable, IsNotAppendOnly, GrantsRead, GrantsWrite, PassesSticky, IsOwner, MaySetOwner, IsSuperuser, MaySetFlags, KeepsSystemLocks, MaySetLevel, FitsFile}
-use Rattle.lfs_model.specs.World.{Rows, child, children, file_at, IsTree}
-use Rattle.lfs_model.specs.Rules.{Check, asks, attrs_at, change_tests, chflags_tests, chmod_tests, chown_tests, file_max, is_end, length_tests, level_tests, list_tests, read_tests, start_of, stat_tests, write_tests, decide, first_failing, front, last, making, next, position, reached, reaching, removing, row_grants, is_directory_row, visited, walk}
-use Rattle.lfs_model.specs.LawDenied.{child_of, led, MayEnter, MayPass, Says, Tells, TellsLittle, path_of}
-use Rattle.lfs_rules.specs.Locks.{is_immutable, is_append_only}
-use Rattle.lfs_rules.specs.Sticky.{is_barred}
-use Rattle.lfs_model.proofs.Allowed.{child_there, may_make, reached_last, split_last}
+use Rattle.lfs_types.specs.declared.rule.Rule.TheVariants.{IsDirectory, GrantsSearch, NameThere, NameFree, IsNoDirectory, IsEmpty, IsNotRoot, IsNotBeneathItself, IsMutable, IsNotAppendOnly, GrantsRead, GrantsWrite, PassesSticky, IsOwner, MaySetOwner, MaySetFlags, KeepsSystemLocks, FitsFile}
+use Rattle.lfs_model.specs.World.{Rows, child, children, IsTree}
+use Rattle.lfs_model.specs.Rules.{Check, asks, attrs_at, change_tests, chflags_tests, chmod_tests, chown_tests, file_max, is_end, length_tests, level_tests, list_tests, read_tests, start_of, stat_tests, write_tests, decide, first_failing, front, last, making, apart_test, leaves_test, next, position, reached, reaching, removing, removing_tests, rmdir_tests, unlink_tests, row_grants, is_directory_row, visited, walk}
+use Rattle.lfs_model.specs.LawDenied.{child_of, led, MayEnter, MayPass, Says, Tells, Told, TellsLittle}
+use Rattle.lfs_rules.specs.Grants.{grants_of}
+use Rattle.lfs_rules.specs.Locks.{is_immutable}
+use Rattle.lfs_model.proofs.Allowed.{child_there, directory_attrs, grants_attrs, last_step, may_make, regular_row, split_last}
 use Rattle.lfs_model.proofs.Children.{child-is}
 use Rattle.lfs_model.proofs.Deciding.{failing-behind, failing-front, met_first, passes-append}
-use Rattle.lfs_types.proofs.Somewhere.{not_some, present, some_and}
+use Rattle.lfs_types.proofs.Somewhere.{not_some, present, some_and, there_of}
 
 -- ---- ways
 
@@ -168,36 +168,19 @@ module _ (rows : Rows) (caller : Caller) (tree : IsTree rows) (path : List (List
         (λ none. ok root 0 start NameFree start.there)
         (λ some. along (front path) (last path ∷ []) root 0 start (sym (split_last path (not-true _ some))) _
         (λ j e b is. let at : j ≡ length (front path) = omega (arith, e) in
-        fails D (is_directory_row (map.get rows (reached rows root (front path)))) _ _ (λ none. tell_at _ j _ at b IsDirectory (b.there, none))
-        (λ d. fails D (row_grants caller bits.Search (map.get rows (reached rows root (front path)))) _ _ (λ none. tell_at _ j _ at b GrantsSearch (d, none))
-        (λ s. fails D (is_none (child rows (reached rows root (front path)) (last path))) _ _
-        (λ taken. let m = not_none (child rows (reached rows root (front path)) (last path)) taken in
-        let c = next_at _ j b (last path) [] is (d, s) m.0 m.1 in
+        let dir = reached rows root (front path) in
+        let attrs = attrs_at rows dir in
+        let kind_is = directory_attrs (map.get rows dir) (there_of _ b.there) in
+        let search_is = grants_attrs caller bits.Search (map.get rows dir) (there_of _ b.there) in
+        fails D (is_directory_kind attrs.kind) _ _ (λ none. tell_at _ j _ at b IsDirectory (b.there, kind_is ∙ none))
+        (λ d. fails D (grants_of caller attrs bits.Search) _ _ (λ none. tell_at _ j _ at b GrantsSearch (kind_is ∙ d, search_is ∙ none))
+        (λ s. fails D (is_none (child rows dir (last path))) _ _
+        (λ taken. let m = not_none (child rows dir (last path)) taken in
+        let c = next_at _ j b (last path) [] is (kind_is ∙ d, search_is ∙ s) m.0 m.1 in
         tell_at m.0 (j + 1) _ (ap (λ q. q + 1) at) c NameFree c.there)
-        (λ free. fails D (not (is_immutable (attrs_at rows (reached rows root (front path))))) _ _ (λ none. tell_at _ j _ at b IsMutable b.there)
-        (λ m. fails D (row_grants caller bits.Write (map.get rows (reached rows root (front path)))) _ _ (λ none. tell_at _ j _ at b GrantsWrite b.there)
+        (λ free. fails D (not (is_immutable attrs)) _ _ (λ none. tell_at _ j _ at b IsMutable b.there)
+        (λ m. fails D (grants_of caller attrs bits.Write) _ _ (λ none. tell_at _ j _ at b GrantsWrite b.there)
         (λ g. none_fails D)))))))
-
-  -- the tests of taking a name away
-  module _ (D : Denial → Type 0) (tells : (rule : Rule) (k : ℕ) → Tells rows caller path rule k → D (record { rule = rule; path = 0; at = k })) where
-    removed : (denial : Denial) → first_failing (removing rows caller path) ≡ Some denial → D denial
-    removed = fails D (not (length path == 0)) _ _
-        (λ none. ok 0 D tells root 0 start IsNotRoot start.there)
-        (λ some. along 0 D tells (front path) (last path ∷ []) root 0 start (sym (split_last path (not-true _ some))) _
-        (λ j e b is. let at : j ≡ length (front path) = omega (arith, e) in
-        fails D (is_directory_row (map.get rows (reached rows root (front path)))) _ _ (λ none. tell_at 0 D tells _ j _ at b IsDirectory (b.there, none))
-        (λ d. fails D (row_grants caller bits.Search (map.get rows (reached rows root (front path)))) _ _ (λ none. tell_at 0 D tells _ j _ at b GrantsSearch (d, none))
-        (λ s. fails D (is_some (child rows (reached rows root (front path)) (last path))) _ _
-        (λ none. subst (λ q. D (record { rule = NameThere; path = 0; at = q + 1 })) at (tells NameThere (j + 1) (missing _ j b (last path) [] is (d, s) (not_some _ none))))
-        (λ there. let c = next_at _ j b (last path) [] is (d, s) (next rows (reached rows root (front path)) (last path)) (child_there _ _ there refl) in
-        let after = ap (λ q. q + 1) at in
-        fails D (not (is_immutable (attrs_at rows (reached rows root (front path))))) _ _ (λ none. tell_at 0 D tells _ j _ at b IsMutable b.there)
-        (λ m. fails D (row_grants caller bits.Write (map.get rows (reached rows root (front path)))) _ _ (λ none. tell_at 0 D tells _ j _ at b GrantsWrite b.there)
-        (λ g. fails D (not (is_append_only (attrs_at rows (reached rows root (front path))))) _ _ (λ none. tell_at 0 D tells _ j _ at b IsNotAppendOnly b.there)
-        (λ p. fails D (not (is_barred caller (attrs_at rows (reached rows root (front path))) (attrs_at rows (reached rows root path)))) _ _ (λ none. tell_at 0 D tells _ (j + 1) _ after c PassesSticky c.there)
-        (λ y. fails D (not (is_immutable (attrs_at rows (reached rows root path)))) _ _ (λ none. tell_at 0 D tells _ (j + 1) _ after c IsMutable c.there)
-        (λ q. fails D (not (is_append_only (attrs_at rows (reached rows root path)))) _ _ (λ none. tell_at 0 D tells _ (j + 1) _ after c IsNotAppendOnly c.there)
-        (λ z. none_fails D)))))))))))
 
   -- ---- where a walk that passes ends
 
@@ -217,23 +200,49 @@ module _ (rows : Rows) (caller : Caller) (tree : IsTree rows) (path : List (List
       let e = on.is in
       record { to = on.to; is = omega (arith, e); at = on.at; left = on.left }
 
+  -- the tests of taking a name away
+  module _ (D : Denial → Type 0) (tells : (rule : Rule) (k : ℕ) → Tells rows caller path rule k → D (record { rule = rule; path = 0; at = k })) where
+    removed : (denial : Denial) → first_failing (removing rows caller path) ≡ Some denial → D denial
+    removed = fails D (not (length path == 0)) _ _
+        (λ none. ok 0 D tells root 0 start IsNotRoot start.there)
+        (λ some. let filled = not-true _ some in
+        let k = length (front path) in
+        let dir = reached rows root (front path) in
+        let tests = removing_tests caller (attrs_at rows dir) (attrs_at rows (reached rows root path)) k in
+        fails-append D (walk rows caller 0 0 root path) tests
+        (λ denial h. along 0 D tells path [] root 0 start (sym (append-nil path)) [] (λ j e b is. none_fails D) denial (ap first_failing (append-nil (walk rows caller 0 0 root path)) ∙ h))
+        (λ walks. let step = last_step rows caller 0 0 root path filled walks in
+        let end = ended 0 (front path) (last path ∷ []) root 0 start (sym (split_last path filled)) step.walks in
+        let to = end.is in
+        let at : end.to ≡ k = omega (arith, to) in
+        let after : end.to + 1 ≡ k + 1 = omega (arith, to) in
+        let c = next_at _ end.to end.at (last path) [] end.left (step.directory, step.searches) (next rows dir (last path)) (child_there _ _ step.leads refl) in
+        each D tests (
+          λ f. tell_at 0 D tells _ end.to _ at end.at IsMutable end.at.there,
+          (
+            λ f. tell_at 0 D tells _ end.to _ at end.at GrantsWrite end.at.there,
+            (
+              λ f. tell_at 0 D tells _ end.to _ at end.at IsNotAppendOnly end.at.there,
+              (
+                λ f. tell_at 0 D tells _ (end.to + 1) _ after c PassesSticky c.there,
+                (
+                  λ f. tell_at 0 D tells _ (end.to + 1) _ after c IsMutable c.there,
+                  (λ f. tell_at 0 D tells _ (end.to + 1) _ after c IsNotAppendOnly c.there, tt),
+                ),
+              ),
+            ),
+          ),
+        )))
+
   -- what a call takes away stands at the end of its path
   taken_end : first_failing (removing rows caller path) ≡ None → At rows caller path (reached rows root path) (length path)
   taken_end h =
-      let some = met_first _ _ _ h in
-      let filled = not-true _ some.0 in
-      let walks = passes-append (walk rows caller 0 0 root (front path)) _ some.1 in
-      let a = met_first _ _ _ walks.1 in
-      let b = met_first _ _ _ a.1 in
-      let c = met_first _ _ _ b.1 in
-      let end = ended 0 (front path) (last path ∷ []) root 0 start (sym (split_last path filled)) walks.0 in
-      let there = next_at _ end.to end.at (last path) [] end.left (a.0, b.0) (next rows (reached rows root (front path)) (last path)) (child_there _ _ c.0 refl) in
-      let counted = end.is in
-      let long = ap (λ (l : List (List ℕ)). length l) (split_last path filled) in
-      let more = length-append (front path) (last path ∷ []) in
-      let steps : end.to + 1 ≡ length path = omega (arith, counted, long, more) in
-      subst (λ m. At rows caller path m (length path)) (sym (reached_last rows root path filled))
-      (subst (At rows caller path (next rows (reached rows root (front path)) (last path))) steps there)
+      let some = met_first (not (length path == 0)) _ _ h in
+      let walks = passes-append (walk rows caller 0 0 root path) _ some.1 in
+      let end = ended 0 path [] root 0 start (sym (append-nil path)) walks.0 in
+      let to = end.is in
+      let steps : end.to ≡ length path = omega (arith, to) in
+      subst (λ k. At rows caller path (reached rows root path) k) steps end.at
 
   -- a row that a walk goes through
   visit_here : (n moved k : ℕ) (a : At rows caller path n k) (b : Bool) → (n == moved) ≡ b → (others : Bool) (p : ℕ) → (b || others) ≡ true
@@ -255,24 +264,25 @@ module _ (rows : Rows) (caller : Caller) (tree : IsTree rows) (path : List (List
 -- ---- each call
 
 module _ (w : World) (caller : Caller) (tree : IsTree w.rows) where
+  -- what a denial tells of the only path of a call
+  abbrev Along : List (List ℕ) → Denial → Type 0
+  Along path d = IsSomeAnd (slice_get (path ∷ []) d.path) (λ p. Tells w.rows caller p d.rule d.at)
+
   -- a call of what a path leads to
   by_path : (path : List (List ℕ)) (tests : Attrs → ℕ → List Check)
       → ((n : ℕ) (a : At w.rows caller path n (length path)) (denial : Denial) → first_failing (tests (attrs_at w.rows n) (length path)) ≡ Some denial
-      → Tells w.rows caller path denial.rule denial.at)
-      → (denial : Denial) → first_failing (reaching w.rows caller path tests) ≡ Some denial → Tells w.rows caller path denial.rule denial.at
-  by_path path tests on = at_path w.rows caller tree path 0 (λ d. Tells w.rows caller path d.rule d.at) (λ rule k t. t) tests on
+      → Along path denial)
+      → (denial : Denial) → first_failing (reaching w.rows caller path tests) ≡ Some denial → Along path denial
+  by_path path tests on = at_path w.rows caller tree path 0 (Along path) (λ rule k t. t) tests on
 
   -- a test of a row that is there
   asked : (path : List (List ℕ)) (n k : ℕ) → At w.rows caller path n k → (rule : Rule) → Says w.rows caller rule (Some n) → Tells w.rows caller path rule k
   asked path n k a rule says = here w.rows caller tree path n k a rule says
 
-  abbrev Told : List (List ℕ) → Denial → Type 0
-  Told path d = Tells w.rows caller path d.rule d.at
-
   change_told : (path : List (List ℕ)) (appends : Bool) (fits : Attrs → Bool) (n : ℕ) (a : At w.rows caller path n (length path)) (denial : Denial)
-      → first_failing (change_tests caller appends (attrs_at w.rows n) (length path) ++ (asks (fits (attrs_at w.rows n)) FitsFile 0 (length path) ∷ [])) ≡ Some denial → Told path denial
+      → first_failing (change_tests caller appends (attrs_at w.rows n) (length path) ++ (asks (fits (attrs_at w.rows n)) FitsFile 0 (length path) ∷ [])) ≡ Some denial → Along path denial
   change_told path appends fits n a =
-      each (Told path) (change_tests caller appends (attrs_at w.rows n) (length path) ++ (asks (fits (attrs_at w.rows n)) FitsFile 0 (length path) ∷ [])) (
+      each (Along path) (change_tests caller appends (attrs_at w.rows n) (length path) ++ (asks (fits (attrs_at w.rows n)) FitsFile 0 (length path) ∷ [])) (
         λ f. asked path n _ a IsNoDirectory a.there,
         (
           λ f. asked path n _ a IsMutable a.there,
@@ -286,27 +296,20 @@ module _ (w : World) (caller : Caller) (tree : IsTree w.rows) where
         ),
       )
 
-  row_kind : (o : Option Row) → IsSome o → is_directory_kind (attrs_of (file_at o)).kind ≡ false → is_directory_row o ≡ false
-  row_kind None h e = absurd (cc)
-  row_kind (Some r) h e = e
-
   -- the last tests of a Rename
   abbrev moving : List (List ℕ) → List (List ℕ) → List Check
   moving from to =
       let moved = reached w.rows root from in
-      let way = visited w.rows root (front to) in
       let stays = reached w.rows root (front from) == reached w.rows root (front to) in
-      asks (not (list_any (λ n. n == moved) way)) IsNotBeneathItself 1 (position moved way)
-      ∷ asks (not (is_directory_row (map.get w.rows moved)) || stays || row_grants caller bits.Write (map.get w.rows moved)) GrantsWrite 0 (length from)
-      ∷ []
+      apart_test w.rows moved to ∷ leaves_test caller stays (attrs_at w.rows moved) (length from) ∷ []
 
   abbrev ToldOf : List (List ℕ) → List (List ℕ) → Denial → Type 0
-  ToldOf from to d = Tells w.rows caller (path_of (Rename from to) d.path) d.rule d.at
+  ToldOf from to d = IsSomeAnd (slice_get (from ∷ to ∷ []) d.path) (λ p. Tells w.rows caller p d.rule d.at)
 
   beneath : (from to : List (List ℕ)) → first_failing (making w.rows caller 1 to) ≡ None → list_any (λ n. n == reached w.rows root from) (visited w.rows root (front to)) ≡ true
       → Tells w.rows caller to IsNotBeneathItself (position (reached w.rows root from) (visited w.rows root (front to)))
   beneath from to into through =
-      let walks = (may_make w.rows caller 1 to into).walks in
+      let walks = (may_make w.rows tree caller 1 to into).walks in
       let filled = not-true _ (met_first _ _ _ into).0 in
       let v = visits w.rows caller tree to 1 (front to) (last to ∷ []) root 0 (start w.rows caller tree to) (sym (split_last to filled)) walks (reached w.rows root from) through in
       let at = v.1 in
@@ -322,59 +325,55 @@ module _ (w : World) (caller : Caller) (tree : IsTree w.rows) where
         (λ f. let a = taken_end w.rows caller tree from out in asked from (reached w.rows root from) (length from) a GrantsWrite a.there, tt),
       )))
 
-  told : (request : Request) (denial : Denial) → decide w caller request ≡ Some denial → Tells w.rows caller (path_of request denial.path) denial.rule denial.at
-  told (Stat path) = by_path path stat_tests (λ n a. none_fails (Told path))
-  told (Read path off len) = by_path path (read_tests caller) (λ n a. each (Told path) (read_tests caller (attrs_at w.rows n) (length path)) (
+  told : (request : Request) (denial : Denial) → decide w caller request ≡ Some denial → Told w caller request denial
+  told (Stat path) = by_path path stat_tests (λ n a. none_fails (Along path))
+  told (Read path off len) = by_path path (read_tests caller) (λ n a. each (Along path) (read_tests caller (attrs_at w.rows n) (length path)) (
     λ f. asked path n _ a IsNoDirectory a.there,
     (λ f. asked path n _ a GrantsRead a.there, tt),
   ))
-  told (Names path) = by_path path (list_tests caller) (λ n a. each (Told path) (list_tests caller (attrs_at w.rows n) (length path)) (
-    λ f. asked path n _ a IsDirectory (a.there, row_kind (map.get w.rows n) a.there f),
+  told (Names path) = by_path path (list_tests caller) (λ n a. each (Along path) (list_tests caller (attrs_at w.rows n) (length path)) (
+    λ f. asked path n _ a IsDirectory (a.there, regular_row (map.get w.rows n) f),
     (λ f. asked path n _ a GrantsRead a.there, tt),
   ))
   told (Write path place bytes) = by_path path (write_tests caller place (length bytes))
       (change_told path (is_end place) (λ attrs. nat_le (start_of place attrs.size + length bytes) file_max))
   told (SetLength path len) = by_path path (length_tests caller len) (change_told path false (λ attrs. nat_le len file_max))
-  told (Create path mode) = made w.rows caller tree path 0 (Told path) (λ rule k t. t)
-  told (Mkdir path mode) = made w.rows caller tree path 0 (Told path) (λ rule k t. t)
+  told (Create path mode) = made w.rows caller tree path 0 (Along path) (λ rule k t. t)
+  told (Mkdir path mode) = made w.rows caller tree path 0 (Along path) (λ rule k t. t)
   told (Unlink path) =
-      let rest : List Check = asks (not (is_directory_row (map.get w.rows (reached w.rows root path)))) IsNoDirectory 0 (length path) ∷ [] in
-      fails-append (Told path) (removing w.rows caller path) rest (removed w.rows caller tree path (Told path) (λ rule k t. t))
-      (λ out. let a = taken_end w.rows caller tree path out in each (Told path) rest (λ f. asked path _ _ a IsNoDirectory a.there, tt))
+      let rest = unlink_tests (attrs_at w.rows (reached w.rows root path)) (length path) in
+      fails-append (Along path) (removing w.rows caller path) rest (removed w.rows caller tree path (Along path) (λ rule k t. t))
+      (λ out. let a = taken_end w.rows caller tree path out in each (Along path) rest (λ f. asked path _ _ a IsNoDirectory a.there, tt))
   told (Rmdir path) =
       let dir = reached w.rows root path in
-      let rest : List Check =
-      asks (is_directory_row (map.get w.rows dir)) IsDirectory 0 (length path) ∷ asks (length (children w.rows dir) == 0) IsEmpty 0 (length path) ∷ [] in
-      fails-append (Told path) (removing w.rows caller path) rest (removed w.rows caller tree path (Told path) (λ rule k t. t))
+      let rest = rmdir_tests (length (children w.rows dir) == 0) (attrs_at w.rows dir) (length path) in
+      fails-append (Along path) (removing w.rows caller path) rest (removed w.rows caller tree path (Along path) (λ rule k t. t))
       (λ out. let a = taken_end w.rows caller tree path out in
-      each (Told path) rest (λ f. asked path _ _ a IsDirectory (a.there, f), (λ f. asked path _ _ a IsEmpty a.there, tt)))
+      each (Along path) rest (λ f. asked path _ _ a IsDirectory (a.there, regular_row _ f), (λ f. asked path _ _ a IsEmpty a.there, tt)))
   told (Rename from to) = renamed_told from to
-  told (Chmod path mode) = by_path path (chmod_tests caller) (λ n a. each (Told path) (chmod_tests caller (attrs_at w.rows n) (length path)) (
+  told (Chmod path mode) = by_path path (chmod_tests caller) (λ n a. each (Along path) (chmod_tests caller (attrs_at w.rows n) (length path)) (
     λ f. asked path n _ a IsMutable a.there,
     (
       λ f. asked path n _ a IsNotAppendOnly a.there,
       (λ f. asked path n _ a IsOwner a.there, tt),
     ),
   ))
-  told (Chown path uid gid) = by_path path (chown_tests caller uid gid) (λ n a. each (Told path) (chown_tests caller uid gid (attrs_at w.rows n) (length path)) (
+  told (Chown path uid gid) = by_path path (chown_tests caller uid gid) (λ n a. each (Along path) (chown_tests caller uid gid (attrs_at w.rows n) (length path)) (
     λ f. asked path n _ a IsMutable a.there,
     (
       λ f. asked path n _ a IsNotAppendOnly a.there,
       (λ f. asked path n _ a MaySetOwner a.there, tt),
     ),
   ))
-  told (Chflags path flags) = by_path path (chflags_tests caller w.level flags) (λ n a. each (Told path) (chflags_tests caller w.level flags (attrs_at w.rows n) (length path)) (
+  told (Chflags path flags) = by_path path (chflags_tests caller w.level flags) (λ n a. each (Along path) (chflags_tests caller w.level flags (attrs_at w.rows n) (length path)) (
     λ f. asked path n _ a IsOwner a.there,
     (
       λ f. asked path n _ a MaySetFlags a.there,
       (λ f. asked path n _ a KeepsSystemLocks a.there, tt),
     ),
   ))
-  told (SetLevel level) = let a = start w.rows caller tree [] in each (Told []) (level_tests caller w.level level) (
-    λ f. asked [] root 0 a IsSuperuser a.there,
-    (λ f. asked [] root 0 a MaySetLevel a.there, tt),
-  )
-  told Sync = none_fails (Told [])
+  told (SetLevel level) = each (Told w caller (SetLevel level)) (level_tests caller w.level level) (λ f. (refl, refl), (λ f. (refl, refl), tt))
+  told Sync = none_fails (Told w caller Sync)
 
 pub tells_little : TellsLittle
 tells_little w caller request denial tree h = told w caller tree request denial h

@@ -1,17 +1,15 @@
--- The users' entries alone are legal, and lead to the same world; and each entry of a legal list may happen where it stands.
+-- The users' entries alone are legal, and lead to the same world.
 use Rattle.std.proofs.Common.{◌≡◌, ℕ, List, [], ◌∷◌, ◌++◌, refl}
 use Rattle.lfs_types.specs.Caller.{Caller}
-use Rattle.lfs_types.specs.Tree.{World, opening_world}
+use Rattle.lfs_types.specs.Tree.{World}
 use Rattle.lfs_types.specs.declared.answer.Answer.TheVariants.{Served, Denied, Refused}
 use Rattle.lfs_types.specs.declared.request.Request.TheVariants.{Sync}
 use Rattle.lfs_model.specs.declared.journal.Entry.{Entry}
 use Rattle.lfs_model.specs.declared.journal.Event.{Event}
 use Rattle.lfs_model.specs.declared.journal.Event.TheVariants.{User, Cleaner}
-use Rattle.lfs_model.specs.LawsRuns.{EachEntry, UsersAlone}
+use Rattle.lfs_model.specs.LawsRuns.{UsersAlone}
 use Rattle.lfs_model.specs.Runs.{entry_of, users_alone, users_event}
 use Rattle.lfs_model.specs.Steps.{IsEvent, IsLegal, after_event, world_after}
-use Rattle.lfs_model.proofs.LawTree.{entries_tree}
-use Rattle.lfs_model.proofs.RunLemmas.{opening_tree}
 
 -- entries and their users' alone, made from worlds that lead to the same
 abbrev Alike : ℕ → ℕ → List Entry → World → List Entry → World → Type 0
@@ -33,15 +31,3 @@ users_alone_law numbers segments [] w legal = (tt, refl)
 users_alone_law numbers segments (e ∷ entries) w legal =
     left_out numbers segments e.session e.cred e.event entries w legal.0
     (users_alone_law numbers segments entries (after_event numbers w e.cred e.event) legal.1)
-
-legal_parts : (numbers segments : ℕ) (before : List Entry) (entry : Entry) (later : List Entry) (w : World) → IsLegal numbers segments (before ++ entry ∷ later) w
-    → IsLegal numbers segments before w × IsEvent numbers segments (world_after numbers before w) entry.cred entry.event
-legal_parts numbers segments [] entry later w legal = (tt, legal.0)
-legal_parts numbers segments (e ∷ before) entry later w legal =
-    let rest = legal_parts numbers segments before entry later (after_event numbers w e.cred e.event) legal.1 in
-    ((legal.0, rest.0), rest.1)
-
-pub each_entry : EachEntry
-each_entry numbers segments before entry later legal =
-    let parts = legal_parts numbers segments before entry later opening_world legal in
-    (entries_tree numbers segments before opening_world opening_tree parts.0, parts.1)

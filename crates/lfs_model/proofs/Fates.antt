@@ -1,5 +1,5 @@
 -- What a call can do to a row that is there, and by what right.
-use Rattle.std.proofs.Common.{◌≡◌, ◌⊎◌, ◌≤◌, ℕ, ◌+◌, ◌-◌, ◌==◌, ◌&&◌, ◌||◌, not, Bool, true, false, List, [], ◌∷◌, length, get_or, Option, None, Some, inl, inr, refl, sym, ap, subst, ◌∙◌, ⊎_elim, arith, eqb-true, ne_eqb}
+use Rattle.std.proofs.Common.{◌≡◌, ◌⊎◌, ◌≤◌, ℕ, ◌+◌, ◌-◌, ◌==◌, ◌&&◌, ◌||◌, not, Bool, true, false, List, [], ◌∷◌, length, get_or, max, Option, None, Some, inl, inr, refl, sym, ap, subst, ◌∙◌, ⊎_elim, arith, eqb-true, ne_eqb}
 use Rattle.std.proofs.lemmas.Bool.{not-true, cases_eq, cases_lt}
 use Rattle.std.specs.FinMap as map
 use Rattle.lfs_types.specs.Caller.{Caller}
@@ -28,17 +28,16 @@ use Rattle.lfs_model.specs.Rules.{decide, first_failing, reached, front, last, r
 use Rattle.lfs_model.specs.Effects.{effect, with_file, with_place, mode_after, written, cut, given}
 use Rattle.lfs_model.specs.LawGone as gone
 use Rattle.lfs_model.specs.LawMoved.{MayMove}
-use Rattle.lfs_model.specs.LawRewritten.{MayRewrite}
-use Rattle.lfs_model.specs.LawMode.{SetsMode, MayRetitle}
-use Rattle.lfs_model.specs.LawOwner.{MayGive}
+use Rattle.lfs_model.specs.LawRewritten.{Appends, MayRewrite}
+use Rattle.lfs_model.specs.LawMode.{SetsMode}
+use Rattle.lfs_model.specs.LawOwner.{SetsOwner}
 use Rattle.lfs_model.specs.LawFlagged.{MayReflag}
-use Rattle.lfs_model.specs.Rights.{LeadsTo, Reaches, MayWrite, Owns, MayTakeAway, MayPlace, is_fixed}
+use Rattle.lfs_model.specs.Rights.{LeadsTo, MayRetitle, Reaches, MayWrite, Owns, MayTakeAway, MayPlace, is_fixed}
 use Rattle.lfs_model.specs.Steps.{IsAnswer, LacksInodes, after_answer}
-use Rattle.lfs_model.proofs.Allowed.{MayChange, MayMake, MayRemove, fits_last, may_change, may_make, may_remove, split_last}
+use Rattle.lfs_model.proofs.Allowed.{MayChange, MayMake, MayRemove, fits_last, may_change, may_make, may_remove, regular_row, split_last}
 use Rattle.lfs_model.proofs.Children.{child-none}
 use Rattle.lfs_model.proofs.Deciding.{met_first, passes-append}
 use Rattle.lfs_model.proofs.LawBytes.{resized-keeps, splice-before, splice-inside, splice-behind, length-spliced}
-use Rattle.lfs_model.proofs.LawChanges.{unbarred_one}
 use Rattle.lfs_model.proofs.LawFates.{file_changed, file_unchanged, place_unchanged, splice_end, at_end}
 use Rattle.lfs_model.proofs.LawTree.{childless}
 use Rattle.lfs_model.proofs.LawUnused.{old_not_new}
@@ -49,8 +48,14 @@ use Rattle.lfs_types.proofs.Pieces.{length-resized}
 
 -- a mode was set, of a row whose mode the caller may change
 pub record MayRemode (w : World) (caller : Caller) (request : Request) (n mode : ℕ) : Type 0 where
-  pub allowed : MayRetitle w caller n
+  pub allowed : MayRetitle w.rows caller n
   pub asked : SetsMode w n mode request
+
+-- a caller may give a row this owner and this group, or those that it has
+pub record MayGiveOrKeep (w : World) (caller : Caller) (request : Request) (n : ℕ) (r : Row) (uid gid : ℕ) : Type 0 where
+  pub allowed : MayRetitle w.rows caller n
+  pub giving : (caller.uid ≡ 0) ⊎ ((uid ≡ r.file.uid) × ((gid ≡ r.file.gid) ⊎ (is_in_group caller gid ≡ true)))
+  pub asked : SetsOwner w n uid gid request
 
 -- what came of a row, and by what right
 pub data Fate (w : World) (caller : Caller) (request : Request) (v : World) (n : ℕ) (r : Row) : Type 0 where
@@ -63,7 +68,7 @@ pub data Fate (w : World) (caller : Caller) (request : Request) (v : World) (n :
   Remodes : (mode : ℕ) → map.get v.rows n ≡ Some (record r { file = record r.file { mode = mode } })
       → MayRemode w caller request n mode → Fate w caller request v n r
   Gives : (uid gid : ℕ) → map.get v.rows n ≡ Some (record r { file = given caller uid gid r.file })
-      → MayGive w caller request n r uid gid → Fate w caller request v n r
+      → MayGiveOrKeep w caller request n r uid gid → Fate w caller request v n r
   Reflags : (flags : ℕ) → map.get v.rows n ≡ Some (record r { file = record r.file { flags = flags } })
       → MayReflag w caller request n r flags → Fate w caller request v n r
 
@@ -110,9 +115,20 @@ moved_grants false stays granted h e f = absurd (cc)
 le-true : (a b : ℕ) → nat_le a b ≡ true → a ≤ b
 le-true a b h = grind (arith)
 
+most : (size end : ℕ) → end + (size - end) ≡ max size end
+most size end = omega arith
+
 regular_of : (k : Kind) → is_directory_kind k ≡ false → k ≡ Regular
 regular_of Regular h = refl
 regular_of Directory h = absurd (cc)
+
+-- an unbarred caller is one of three, where the directory is sticky
+unbarred_one : (sticky s o d : Bool) → (sticky && not ((s || o) || d)) ≡ false → sticky ≡ true → s ≡ false → o ≡ false → d ≡ false → ⊥
+unbarred_one true true o d h e a b c = absurd (cc)
+unbarred_one true false true d h e a b c = absurd (cc)
+unbarred_one true false false true h e a b c = absurd (cc)
+unbarred_one true false false false h e a b c = absurd (cc)
+unbarred_one false s o d h e a b c = absurd (cc)
 
 -- ---- rows in the changed map
 
@@ -190,7 +206,8 @@ module _ (w : World) (caller : Caller) (tree : IsTree w.rows) (n : ℕ) (r : Row
       record {
         regular = regular_of r.file.kind (known (λ a. is_directory_kind a.kind ≡ false) _ same may.regular);
         writes = may_write path (is_end place) same may;
-        size = λ small. omega (arith, within, long, small);
+        size = long ∙ most (length r.file.bytes) (start + length (b ∷ bs));
+        fits = λ small. omega (arith, within, long, small);
         brings = λ i value c. let inside = splice-inside r.file.bytes start b bs c.k c.inside in
             ap (λ j. get_or (splice r.file.bytes start (b ∷ bs)) j 0) (sym c.at) ∙ inside ∙ c.is;
         keeps = λ i none below. ⊎_elim
@@ -202,7 +219,7 @@ module _ (w : World) (caller : Caller) (tree : IsTree w.rows) (n : ℕ) (r : Row
             (cases_lt i start);
         appends = λ append.
             let at = at_end place (is_append_only (attrs_of r.file)) (known (λ a. (is_end place || not (is_append_only a)) ≡ true) _ same may.keeps) append in
-            ap (λ p. splice r.file.bytes (start_of p (length r.file.bytes)) (b ∷ bs)) at ∙ splice_end r.file.bytes b bs;
+            (subst (λ p. Appends (Write path p (b ∷ bs))) (sym at) tt, ap (λ p. splice r.file.bytes (start_of p (length r.file.bytes)) (b ∷ bs)) at ∙ splice_end r.file.bytes b bs);
         asked = sym same;
       }
 
@@ -215,7 +232,8 @@ module _ (w : World) (caller : Caller) (tree : IsTree w.rows) (n : ℕ) (r : Row
       record {
         regular = regular_of r.file.kind (known (λ a. is_directory_kind a.kind ≡ false) _ same may.regular);
         writes = may_write path false same may;
-        size = λ small. omega (arith, within, long);
+        size = long;
+        fits = λ small. omega (arith, within, long);
         brings = λ i value c. absurd c;
         keeps = λ i none below. resized-keeps r.file.bytes len i (omega (arith, long, below));
         appends = λ append.
@@ -295,7 +313,7 @@ module _ (numbers : ℕ) (w : World) (caller : Caller) (tree : IsTree w.rows) (n
   served_fate (Mkdir path mode) allowed room = Stays (get-insert_other w.rows _ _ n (old_not_new numbers w.rows n r room there) ∙ there)
   served_fate (Unlink path) allowed room =
       let two = passes-append (removing w.rows caller path) _ allowed in
-      let file = not-true _ (met_first _ _ _ two.1).0 in
+      let file = regular_row _ (not-true _ (met_first _ _ _ two.1).0) in
       removed_fate _ path (may_remove w.rows caller path two.0)
       (λ same. no_parent w.rows tree n (ap (λ m. is_directory_row (map.get w.rows m)) same ∙ file))
       (λ same. unlinks path r.file.kind (sym (row_directory _ same) ∙ file) (sym same))
@@ -305,14 +323,14 @@ module _ (numbers : ℕ) (w : World) (caller : Caller) (tree : IsTree w.rows) (n
       let empty = met_first _ _ _ dir.1 in
       removed_fate _ path (may_remove w.rows caller path two.0)
       (λ same. subst (λ m. (name : List ℕ) (q : ℕ) → IsChild w.rows m name q → ⊥) (sym same) (childless w.rows (reached w.rows root path) empty.0))
-      (λ same. rmdirs path r.file.kind (sym (row_directory _ same) ∙ dir.0) (sym same))
+      (λ same. rmdirs path r.file.kind (known w caller tree n r there (λ a. is_directory_kind a.kind ≡ true) _ same dir.0) (sym same))
   served_fate (Rename from to) allowed room =
       let one = passes-append (removing w.rows caller from) _ allowed in
       let two = passes-append (making w.rows caller 1 to) _ one.1 in
       let away = met_first _ _ _ two.1 in
       let writes = met_first _ _ _ away.1 in
       let out = may_remove w.rows caller from one.0 in
-      let into = may_make w.rows caller 1 to two.0 in
+      let into = may_make w.rows tree caller 1 to two.0 in
       ⊎_elim
       (λ same.
       let up = parent_is w caller tree n r there from same out in
@@ -323,9 +341,13 @@ module _ (numbers : ℕ) (w : World) (caller : Caller) (tree : IsTree w.rows) (n
         taken = taken w caller tree n r there from same out;
         placed = placed w caller tree 1 to into;
         directory = λ kind apart.
-            subst (λ m. row_grants caller bits.Write (map.get w.rows m) ≡ true) (sym same)
-            (moved_grants (is_directory_row (map.get w.rows (reached w.rows root from))) (reached w.rows root (front from) == reached w.rows root (front to)) (row_grants caller bits.Write (map.get w.rows (reached w.rows root from))) writes.0 (row_directory _ same ∙ directory_tested r.file.kind kind)
-            (ne_eqb (reached w.rows root (front from)) (reached w.rows root (front to)) (λ e. apart (sym e ∙ up))));
+            let moved = attrs_at w.rows (reached w.rows root from) in
+            let seen : moved ≡ attrs_of r.file = ap (attrs_at w.rows) (sym same) ∙ attrs_there w caller tree n r there in
+            ap (row_grants caller bits.Write) there
+            ∙ ap (λ a. grants_of caller a bits.Write) (sym seen)
+            ∙ moved_grants (is_directory_kind moved.kind) (reached w.rows root (front from) == reached w.rows root (front to)) (grants_of caller moved bits.Write) writes.0
+            (ap (λ (a : Attrs). is_directory_kind a.kind) seen ∙ directory_tested r.file.kind kind)
+            (ne_eqb (reached w.rows root (front from)) (reached w.rows root (front to)) (λ e. apart (sym e ∙ up)));
         asked = (sym same, leads_last w caller 1 to into);
       }))
       (λ other. Stays (place_unchanged (map.get w.rows (reached w.rows root from)) w n _ (reached w.rows root (front to)) (last to) other ∙ there))

@@ -1,5 +1,5 @@
 -- What a served call can do to a row that is there.
-use Rattle.std.proofs.Common.{◌≡◌, ◌≢◌, ℕ, ◌+◌, ◌-◌, ◌==◌, ◌&&◌, ◌||◌, not, Bool, true, false, List, [], ◌∷◌, ◌++◌, length, replicate, Option, None, Some, refl, sym, ap, subst, ◌∙◌, ⊎_elim, arith, append-nil, eqb-true, drop_of_length-le, take_all}
+use Rattle.std.proofs.Common.{◌≡◌, ◌≢◌, ℕ, ◌+◌, ◌-◌, ◌==◌, ◌&&◌, ◌||◌, not, Bool, true, false, cond, List, [], ◌∷◌, ◌++◌, length, replicate, Option, None, Some, inl, inr, refl, sym, ap, subst, ◌∙◌, ⊎_elim, arith, append-nil, eqb-true, drop_of_length-le, take_all}
 use Rattle.std.proofs.lemmas.Bool.{not-true, cases_eq}
 use Rattle.std.specs.FinMap as map
 use Rattle.lfs_types.specs.Caller.{Caller}
@@ -14,6 +14,7 @@ use Rattle.lfs_types.specs.declared.request.Request.TheVariants.{Stat, Read, Wri
 use Rattle.lfs_rules.specs.Grants.{grants_of}
 use Rattle.lfs_rules.specs.Locks.{is_immutable, is_append_only, may_set_flags, keeps_system_locks}
 use Rattle.lfs_rules.specs.Owners.{is_the_superuser, is_the_owner, is_owner_or_superuser, may_set_owner}
+use Rattle.lfs_rules.specs.SetId.{set_id_cleared}
 use Rattle.lfs_rules.specs.Sticky.{is_barred}
 use Rattle.lfs_types.specs.declared.rule.Rule.TheVariants.{FitsFile}
 use Rattle.std.specs.Prelude.{nat_le}
@@ -21,6 +22,7 @@ use Rattle.lfs_model.specs.World.{Rows, file_at}
 use Rattle.lfs_model.specs.Rules.{decide, reached, front, last, row_grants, attrs_at, asks, start_of, file_max, is_end, walk, removing}
 use Rattle.lfs_model.specs.Effects.{effect, with_file, with_place, written, cut, given}
 use Rattle.lfs_model.specs.LawsFlags.{SetsFlags}
+use Rattle.lfs_model.specs.LawOneThing.{KeepsMode}
 use Rattle.lfs_model.specs.Steps.{LacksInodes}
 use Rattle.lfs_model.proofs.Allowed.{MayChange, MayRemove, may_change, may_remove}
 use Rattle.lfs_model.proofs.Deciding.{met_first, passes-append}
@@ -32,6 +34,7 @@ pub record Rewritten (caller : Caller) (old new : File) : Type 0 where
   pub kind : new.kind ≡ old.kind
   pub owner : new.uid ≡ old.uid
   pub group : new.gid ≡ old.gid
+  pub mode : KeepsMode old.mode new.mode
   pub flags : new.flags ≡ old.flags
   pub granted : grants_of caller (attrs_of old) bits.Write ≡ true
   pub mutable : is_immutable (attrs_of old) ≡ false
@@ -127,6 +130,11 @@ owner_sets caller attrs uid gid h = either (is_the_superuser caller) (is_the_own
 owner_keeps : (caller : Caller) (attrs : Attrs) (uid gid : ℕ) → may_set_owner caller attrs uid gid ≡ true → is_the_superuser caller ≡ false → uid ≡ attrs.uid
 owner_keeps caller attrs uid gid h other = eqb-true uid attrs.uid (kept (is_the_superuser caller) (is_the_owner caller attrs) (uid == attrs.uid) _ h other)
 
+-- a change of bytes keeps the mode, or takes the set-id bits away
+pub kept_mode : (super : Bool) (mode : ℕ) → KeepsMode mode (cond super mode (set_id_cleared mode))
+kept_mode true mode = inl refl
+kept_mode false mode = inr refl
+
 -- ---- each call
 
 module _ (numbers : ℕ) (w : World) (caller : Caller) (n : ℕ) (r : Row) (there : map.get w.rows n ≡ Some r) where
@@ -135,12 +143,13 @@ module _ (numbers : ℕ) (w : World) (caller : Caller) (n : ℕ) (r : Row) (ther
   attrs_here m same = ap (λ o. attrs_of (file_at o)) (ap (map.get w.rows) (sym same) ∙ there)
 
   rewritten_here : (path : List (List ℕ)) (appends : Bool) (new : File) → n ≡ reached w.rows root path → MayChange w.rows caller path appends
-      → new.kind ≡ r.file.kind → new.uid ≡ r.file.uid → new.gid ≡ r.file.gid → new.flags ≡ r.file.flags
+      → new.kind ≡ r.file.kind → new.uid ≡ r.file.uid → new.gid ≡ r.file.gid → KeepsMode r.file.mode new.mode → new.flags ≡ r.file.flags
       → (is_append_only (attrs_of r.file) ≡ true → (more : List ℕ) × (new.bytes ≡ r.file.bytes ++ more)) → Rewritten caller r.file new
-  rewritten_here path appends new same may kind owner group flags longer = record {
+  rewritten_here path appends new same may kind owner group mode flags longer = record {
     kind = kind;
     owner = owner;
     group = group;
+    mode = mode;
     flags = flags;
     granted = ap (λ x. grants_of caller x bits.Write) (sym (attrs_here _ same)) ∙ may.granted;
     mutable = ap is_immutable (sym (attrs_here _ same)) ∙ may.mutable;
@@ -175,7 +184,7 @@ module _ (numbers : ℕ) (w : World) (caller : Caller) (n : ℕ) (r : Row) (ther
       let may = may_change w.rows caller path (is_end place) (λ attrs k. asks (nat_le (start_of place attrs.size + length (b ∷ bs)) file_max) FitsFile 0 k ∷ []) allowed in
       ⊎_elim
       (λ same. Rewrites (written caller place (b ∷ bs) r.file) (file_changed w n _ r (written caller place (b ∷ bs)) there same)
-      (rewritten_here path (is_end place) (written caller place (b ∷ bs) r.file) same may refl refl refl refl
+      (rewritten_here path (is_end place) (written caller place (b ∷ bs) r.file) same may refl refl refl (kept_mode (caller.uid == 0) r.file.mode) refl
       (λ append.
       let is : is_append_only (attrs_at w.rows (reached w.rows root path)) ≡ true = ap is_append_only (attrs_here _ same) ∙ append in
       let at = at_end place _ may.keeps is in
@@ -186,7 +195,7 @@ module _ (numbers : ℕ) (w : World) (caller : Caller) (n : ℕ) (r : Row) (ther
       let may = may_change w.rows caller path false (λ attrs k. asks (nat_le len file_max) FitsFile 0 k ∷ []) allowed in
       ⊎_elim
       (λ same. Rewrites (cut caller len r.file) (file_changed w n _ r (cut caller len) there same)
-      (rewritten_here path false (cut caller len r.file) same may refl refl refl refl
+      (rewritten_here path false (cut caller len r.file) same may refl refl refl (kept_mode (caller.uid == 0) r.file.mode) refl
       (λ append.
       let is : is_append_only (attrs_at w.rows (reached w.rows root path)) ≡ true = ap is_append_only (attrs_here _ same) ∙ append in
       let no = ap not is ∙ refl in

@@ -1,5 +1,5 @@
 -- What flags keep through a call, and through a list of calls.
-use Rattle.std.proofs.Common.{◌≡◌, ℕ, ◌≤◌, ◌&&◌, ◌||◌, not, Bool, true, false, List, [], ◌∷◌, ◌++◌, length, None, Some, refl, sym, ap, subst, ◌∙◌, arith, append-nil, append_assoc, length-append, eqb-true}
+use Rattle.std.proofs.Common.{◌≡◌, ℕ, ◌≤◌, ◌&&◌, ◌||◌, not, Bool, true, false, List, [], ◌∷◌, ◌++◌, length, None, Some, inl, inr, refl, sym, ap, subst, ◌∙◌, ⊎_elim, arith, append-nil, append_assoc, length-append}
 use Rattle.std.specs.Prelude.{IsSomeAnd}
 use Rattle.std.specs.FinMap as map
 use Rattle.lfs_types.specs.Caller.{Caller}
@@ -13,12 +13,14 @@ use Rattle.lfs_rules.specs.Bits.{has_bit}
 use Rattle.lfs_rules.specs.Locks.{is_immutable, is_append_only}
 use Rattle.lfs_rules.specs.Owners.{is_the_superuser}
 use Rattle.lfs_rules.specs.Securelevel.{is_above_zero, is_lower, may_set_level}
+use Rattle.lfs_rules.specs.SetId.{set_id_cleared}
 use Rattle.lfs_model.specs.declared.journal.Entry.{Entry}
 use Rattle.lfs_model.specs.declared.journal.Event.{Event}
 use Rattle.lfs_model.specs.declared.journal.Event.TheVariants.{User, Cleaner}
 use Rattle.lfs_model.specs.Rules.{decide}
 use Rattle.lfs_model.specs.Effects.{effect}
-use Rattle.lfs_model.specs.LawsFlags.{SetsFlags, LowersLevel, InitLowers, DiffersInFlags, Grows, ImmutableStays, AppendOnlyGrows, SystemImmutableStays, SystemAppendOnlyGrows}
+use Rattle.lfs_model.specs.LawOneThing.{DiffersInFlags, KeepsMode}
+use Rattle.lfs_model.specs.LawsFlags.{SetsFlags, DropsLevel, Grows, ImmutableStays, AppendOnlyGrows, SystemImmutableStays, SystemAppendOnlyGrows}
 use Rattle.lfs_model.specs.LawsRuns.{IsServed, NoneServed}
 use Rattle.lfs_model.specs.Steps.{IsEvent, IsLegal, after_event, world_after}
 use Rattle.lfs_model.proofs.Deciding.{met_first}
@@ -52,54 +54,34 @@ level_fate numbers w caller (Chflags path flags) allowed = Same (with_file-level
 level_fate numbers w caller (SetLevel level) allowed = let a = met_first _ _ _ allowed in Set refl a.0 (met_first _ _ _ a.1).0
 level_fate numbers w caller Sync allowed = Same refl
 
-no_lower : (level : Level) → is_lower level level ≡ false
-no_lower PermanentlyInsecure = refl
-no_lower Insecure = refl
-no_lower Secure = refl
-no_lower HighlySecure = refl
-
 pub by_init : (lower init : Bool) → not (lower && not init) ≡ true → lower ≡ true → init ≡ true
 by_init true true h e = refl
 by_init true false h e = absurd (cc)
 by_init false init h e = absurd (cc)
 
-lowered_by : (w : World) (caller : Caller) (request : Request) (after : Level) → LevelFate w caller request after → is_lower after w.level ≡ true → (caller.uid ≡ 0) × (caller.init ≡ true)
-lowered_by w caller request after (Same e) h = let never = ap (λ l. is_lower l w.level) e ∙ no_lower w.level in absurd (cc)
-lowered_by w caller request after (Set is super may) h = (eqb-true caller.uid 0 super, by_init (is_lower after w.level) caller.init may h)
+-- a level that isn't above 0 is lower than one that is
+falls : (old new : Level) → is_above_zero old ≡ true → is_above_zero new ≡ false → is_lower new old ≡ true
+falls PermanentlyInsecure new h e = absurd (cc)
+falls Insecure new h e = absurd (cc)
+falls Secure PermanentlyInsecure h e = refl
+falls Secure Insecure h e = refl
+falls Secure Secure h e = absurd (cc)
+falls Secure HighlySecure h e = absurd (cc)
+falls HighlySecure PermanentlyInsecure h e = refl
+falls HighlySecure Insecure h e = refl
+falls HighlySecure Secure h e = absurd (cc)
+falls HighlySecure HighlySecure h e = absurd (cc)
 
-unlowered : (w : World) → is_lower w.level w.level ≡ true → ⊥
-unlowered w h = let never = no_lower w.level in absurd (cc)
+not_dropped : (above : Bool) → (above ≡ false → ⊥) → above ≡ true
+not_dropped true none = refl
+not_dropped false none = absurd (none refl)
 
--- the level falls only by a call of user 0 as init
-pub init_lowers : InitLowers
-init_lowers numbers w caller request (Served shown) is h = lowered_by w caller request _ (level_fate numbers w caller request is.0) h
-init_lowers numbers w caller request (Denied denial) is h = absurd (unlowered w h)
-init_lowers numbers w caller request (Refused resource) is h = absurd (unlowered w h)
-
--- a level that isn't lower than one above 0 is above 0
-still_above : (old new : Level) → is_above_zero old ≡ true → is_lower new old ≡ false → is_above_zero new ≡ true
-still_above PermanentlyInsecure new h e = absurd (cc)
-still_above Insecure new h e = absurd (cc)
-still_above Secure PermanentlyInsecure h e = absurd (cc)
-still_above Secure Insecure h e = absurd (cc)
-still_above Secure Secure h e = refl
-still_above Secure HighlySecure h e = refl
-still_above HighlySecure PermanentlyInsecure h e = absurd (cc)
-still_above HighlySecure Insecure h e = absurd (cc)
-still_above HighlySecure Secure h e = refl
-still_above HighlySecure HighlySecure h e = refl
-
-not_lower : (lower init : Bool) → not (lower && not init) ≡ true → (init ≡ true → lower ≡ true → ⊥) → lower ≡ false
-not_lower true true h none = absurd (none refl refl)
-not_lower true false h none = absurd (cc)
-not_lower false init h none = refl
-
-above_after : (w : World) (caller : Caller) (request : Request) (after : Level) → LevelFate w caller request after → is_above_zero w.level ≡ true → (LowersLevel w caller request → ⊥) → is_above_zero after ≡ true
+above_after : (w : World) (caller : Caller) (request : Request) (after : Level) → LevelFate w caller request after → is_above_zero w.level ≡ true → (DropsLevel w caller request → ⊥) → is_above_zero after ≡ true
 above_after w caller request after (Same e) above none = ap is_above_zero e ∙ above
-above_after w caller request after (Set is super may) above none =
-    still_above w.level after above (not_lower (is_lower after w.level) caller.init may (λ i l. none (subst (LowersLevel w caller) (sym is) (i, l))))
+above_after w caller request after (Set is super may) above none = not_dropped (is_above_zero after)
+    (λ low. none (subst (DropsLevel w caller) (sym is) (by_init (is_lower after w.level) caller.init may (falls w.level after above low), above, low)))
 
-above_event : (numbers : ℕ) (w : World) (caller : Caller) (request : Request) → decide w caller request ≡ None → is_above_zero w.level ≡ true → (LowersLevel w caller request → ⊥) → is_above_zero (effect numbers w caller request).level ≡ true
+above_event : (numbers : ℕ) (w : World) (caller : Caller) (request : Request) → decide w caller request ≡ None → is_above_zero w.level ≡ true → (DropsLevel w caller request → ⊥) → is_above_zero (effect numbers w caller request).level ≡ true
 above_event numbers w caller request allowed = above_after w caller request _ (level_fate numbers w caller request allowed)
 
 -- ---- a row through a list of calls
@@ -205,7 +187,7 @@ differs_on r s t one two = two ∙ ap (λ (x : Row). record x { file = record x.
 abbrev HasImmutable : Row → Type 0
 HasImmutable r = has_bit r.file.flags 0x2_0000 ≡ true
 
-system_immutable_step : (numbers n : ℕ) (w : World) (caller : Caller) (request : Request) (r : Row) → Above w → HasImmutable r → (LowersLevel w caller request → ⊥)
+system_immutable_step : (numbers n : ℕ) (w : World) (caller : Caller) (request : Request) (r : Row) → Above w → HasImmutable r → (DropsLevel w caller request → ⊥)
     → Fate numbers w caller request n r → IsSomeAnd (map.get (effect numbers w caller request).rows n) (λ s. DiffersInFlags r s × HasImmutable s)
 system_immutable_step numbers n w caller request r above set none (Stays e) = is_some_and (λ s. DiffersInFlags r s × HasImmutable s) e (refl, set)
 system_immutable_step numbers n w caller request r above set none (Rewrites f e x) = lock_off _ _ set x.mutable
@@ -214,15 +196,23 @@ system_immutable_step numbers n w caller request r above set none (Reflags flags
     (refl, keeps_first (is_above_zero w.level) (has_bit r.file.flags 0x2_0000) (has_bit flags 0x2_0000) (has_bit r.file.flags 0x4_0000) (has_bit flags 0x4_0000) x.locks above set)
 system_immutable_step numbers n w caller request r above set none (Displaces x) = lock_off _ _ set x.mutable
 
--- above level 0 a row keeps the system's immutable flag, and all but its flags, until init lowers the level
+-- above level 0 a row keeps the system's immutable flag, and all but its flags, until init lets the level fall to 0
 pub system_immutable_stays : SystemImmutableStays
 system_immutable_stays numbers segments entries w n r legal none above there set =
-    through numbers segments n LowersLevel Above HasImmutable DiffersInFlags differs_none differs_on (above_event numbers) (system_immutable_step numbers n) entries w r legal none above there set
+    through numbers segments n DropsLevel Above HasImmutable DiffersInFlags differs_none differs_on (above_event numbers) (system_immutable_step numbers n) entries w r legal none above there set
 
 -- ---- an append-only row
 
 grows_none : (r : Row) → Grows r r
-grows_none r = record { hangs = record { parents = refl; names = refl }; kind = refl; owner = refl; group = refl; more = []; bytes = sym (append-nil r.file.bytes); size = omega arith }
+grows_none r = record { hangs = record { parents = refl; names = refl }; kind = refl; owner = refl; group = refl; mode = inl refl; more = []; bytes = sym (append-nil r.file.bytes); size = omega arith }
+
+cleared_twice : (mode : ℕ) → set_id_cleared (set_id_cleared mode) ≡ set_id_cleared mode
+cleared_twice mode = omega arith
+
+mode_on : (old mid new : ℕ) → KeepsMode old mid → KeepsMode mid new → KeepsMode old new
+mode_on old mid new a b = ⊎_elim
+    (λ e. ⊎_elim (λ f. inl (f ∙ e)) (λ f. inr (f ∙ ap set_id_cleared e)) b)
+    (λ e. ⊎_elim (λ f. inr (f ∙ e)) (λ f. inr (f ∙ ap set_id_cleared e ∙ cleared_twice old)) b) a
 
 grows_on : (r s t : Row) → Grows r s → Grows s t → Grows r t
 grows_on r s t a b = record {
@@ -230,6 +220,7 @@ grows_on r s t a b = record {
   kind = b.kind ∙ a.kind;
   owner = b.owner ∙ a.owner;
   group = b.group ∙ a.group;
+  mode = mode_on r.file.mode s.file.mode t.file.mode a.mode b.mode;
   more = a.more ++ b.more;
   bytes = b.bytes ∙ ap (λ l. l ++ b.more) a.bytes ∙ append_assoc r.file.bytes a.more b.more;
   size = let one = a.size in let two = b.size in omega (arith, one, two);
@@ -241,7 +232,7 @@ longer old new more e = let count = ap (λ (l : List ℕ). length l) e ∙ lengt
 grows_by : (caller : Caller) (r : Row) (file : File) → Rewritten caller r.file file → is_append_only (attrs_of r.file) ≡ true → Grows r (record r { file = file })
 grows_by caller r file x set =
     let more = x.longer set in
-    record { hangs = record { parents = refl; names = refl }; kind = x.kind; owner = x.owner; group = x.group; more = more.0; bytes = more.1; size = longer r.file.bytes file.bytes more.0 more.1 }
+    record { hangs = record { parents = refl; names = refl }; kind = x.kind; owner = x.owner; group = x.group; mode = x.mode; more = more.0; bytes = more.1; size = longer r.file.bytes file.bytes more.0 more.1 }
 
 abbrev AppendOnly : Row → Type 0
 AppendOnly r = is_append_only (attrs_of r.file) ≡ true
@@ -270,19 +261,19 @@ append_only_grows numbers segments entries w n r legal none there set =
 abbrev HasAppend : Row → Type 0
 HasAppend r = has_bit r.file.flags 0x4_0000 ≡ true
 
-system_grown_step : (numbers n : ℕ) (w : World) (caller : Caller) (request : Request) (r : Row) → Above w → HasAppend r → (LowersLevel w caller request → ⊥)
+system_grown_step : (numbers n : ℕ) (w : World) (caller : Caller) (request : Request) (r : Row) → Above w → HasAppend r → (DropsLevel w caller request → ⊥)
     → Fate numbers w caller request n r → IsSomeAnd (map.get (effect numbers w caller request).rows n) (λ s. Grows r s × HasAppend s)
 system_grown_step numbers n w caller request r above set none (Stays e) = is_some_and (λ s. Grows r s × HasAppend s) e (grows_none r, set)
 system_grown_step numbers n w caller request r above set none (Rewrites f e x) = is_some_and (λ s. Grows r s × HasAppend s) e
     (grows_by caller r f x (or_second _ _ set), ap (λ flags. has_bit flags 0x4_0000) x.flags ∙ set)
 system_grown_step numbers n w caller request r above set none (Retitles f e x) = lock_off _ _ set x.rewritable
 system_grown_step numbers n w caller request r above set none (Reflags flags e x) = is_some_and (λ s. Grows r s × HasAppend s) e (
-  record { hangs = record { parents = refl; names = refl }; kind = refl; owner = refl; group = refl; more = []; bytes = sym (append-nil r.file.bytes); size = omega arith },
+  record { hangs = record { parents = refl; names = refl }; kind = refl; owner = refl; group = refl; mode = inl refl; more = []; bytes = sym (append-nil r.file.bytes); size = omega arith },
   keeps_second (is_above_zero w.level) (has_bit r.file.flags 0x2_0000) (has_bit flags 0x2_0000) (has_bit r.file.flags 0x4_0000) (has_bit flags 0x4_0000) x.locks above set,
 )
 system_grown_step numbers n w caller request r above set none (Displaces x) = lock_off _ _ set x.rewritable
 
--- above level 0 a row keeps the system's append-only flag and only grows, until init lowers the level
+-- above level 0 a row keeps the system's append-only flag and only grows, until init lets the level fall to 0
 pub system_append_only_grows : SystemAppendOnlyGrows
 system_append_only_grows numbers segments entries w n r legal none above there set =
-    through numbers segments n LowersLevel Above HasAppend Grows grows_none grows_on (above_event numbers) (system_grown_step numbers n) entries w r legal none above there set
+    through numbers segments n DropsLevel Above HasAppend Grows grows_none grows_on (above_event numbers) (system_grown_step numbers n) entries w r legal none above there set

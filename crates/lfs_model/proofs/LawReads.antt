@@ -1,5 +1,5 @@
 -- Worlds that differ in unread bytes alone: every test and every answer is the same in both.
-use Rattle.std.proofs.Common.{◌≡◌, ℕ, ◌≤◌, ◌+◌, ◌==◌, ◌||◌, not, Bool, true, List, [], ◌∷◌, ◌++◌, length, Option, None, Some, refl, sym, ap, ◌∙◌, arith}
+use Rattle.std.proofs.Common.{◌≡◌, ℕ, ◌≤◌, ◌+◌, ◌==◌, not, Bool, true, List, [], ◌∷◌, ◌++◌, length, Option, None, Some, refl, sym, ap, ◌∙◌, arith}
 use Rattle.std.specs.Prelude.{find, filter, min, nat_le, unwrap_or, is_some, is_none, IsSome}
 use Rattle.std.specs.Prelude as lists
 use Rattle.std.specs.List.{list_any}
@@ -18,14 +18,12 @@ use Rattle.lfs_types.specs.declared.attrs.Bit.{Bit}
 use Rattle.lfs_types.specs.declared.attrs.Bit.TheVariants as bits
 use Rattle.lfs_types.specs.declared.request.Request.{Request}
 use Rattle.lfs_types.specs.declared.request.Request.TheVariants.{Stat, Read, Write, List as Names, SetLength, Create, Mkdir, Unlink, Rmdir, Rename, Chmod, Chown, Chflags, SetLevel, Sync}
-use Rattle.lfs_types.specs.declared.rule.Rule.TheVariants.{IsDirectory, GrantsSearch, NameThere, NameFree, IsNoDirectory, IsEmpty, IsNotRoot, IsNotBeneathItself, IsMutable, IsNotAppendOnly, GrantsWrite, PassesSticky}
+use Rattle.lfs_types.specs.declared.rule.Rule.TheVariants.{IsDirectory, GrantsSearch, NameThere, NameFree, IsNotRoot, IsNotBeneathItself}
 use Rattle.lfs_rules.specs.Grants.{grants_of}
-use Rattle.lfs_rules.specs.Locks.{is_immutable, is_append_only}
-use Rattle.lfs_rules.specs.Sticky.{is_barred}
 use Rattle.lfs_model.specs.World.{Rows, hangs_in, hangs_as, child, children, name_of, file_at}
-use Rattle.lfs_model.specs.Rules.{first_failing, asks, is_directory_row, row_grants, attrs_at, next, reached, front, last, Check, walk, visited, position, making, removing, reaching, stat_tests, read_tests, list_tests, write_tests, length_tests, chmod_tests, chown_tests, chflags_tests, level_tests, rule_table, decide}
+use Rattle.lfs_model.specs.Rules.{first_failing, asks, is_directory_row, row_grants, attrs_at, next, reached, front, last, Check, walk, visited, making, making_tests, removing, removing_tests, leaves_test, position, unlink_tests, rmdir_tests, leaves_test, position, reaching, stat_tests, read_tests, list_tests, write_tests, length_tests, chmod_tests, chown_tests, chflags_tests, level_tests, rule_table, decide}
 use Rattle.lfs_model.specs.Effects.{read_max, in_byte_order, answer_of}
-use Rattle.lfs_model.specs.LawsAccess.{NumberLooksAlike, DifferUnread}
+use Rattle.lfs_model.specs.LawUnread.{NumberLooksAlike, DifferUnread}
 use Rattle.lfs_model.specs.Steps.{AllUsed, LacksInodes, IsCrowded, MayLack, IsAnswer}
 use Rattle.lfs_model.proofs.Deciding.{met_first, passes-append}
 use Rattle.lfs_model.proofs.SameKeys.{same_keys}
@@ -136,33 +134,15 @@ module _ (caller : Caller) (w v : World) (differ : DifferUnread caller w v) wher
   making_same : (path : ℕ) (names : List (List ℕ)) → making w.rows caller path names ≡ making v.rows caller path names
   making_same path names = λ i.
       let dir = reached_same i root (front names) in
-      let k = length (front names) in
       asks (not (length names == 0)) NameFree path 0
-      ∷ walk_at path 0 root (front names) i ++
-      (asks (directories i dir) IsDirectory path k
-      ∷ asks (grants bits.Search i dir) GrantsSearch path k
-      ∷ asks (is_none (child_same i dir (last names))) NameFree path (k + 1)
-      ∷ asks (not (is_immutable (attributes i dir))) IsMutable path k
-      ∷ asks (grants bits.Write i dir) GrantsWrite path k
-      ∷ [])
+      ∷ walk_at path 0 root (front names) i ++ making_tests caller (is_none (child_same i dir (last names))) path (attributes i dir) (length (front names))
 
   removing_same : (names : List (List ℕ)) → removing w.rows caller names ≡ removing v.rows caller names
   removing_same names = λ i.
-      let dir = reached_same i root (front names) in
-      let file = reached_same i root names in
-      let k = length (front names) in
+      let dir = attributes i (reached_same i root (front names)) in
+      let file = attributes i (reached_same i root names) in
       asks (not (length names == 0)) IsNotRoot 0 0
-      ∷ walk_at 0 0 root (front names) i ++
-      (asks (directories i dir) IsDirectory 0 k
-      ∷ asks (grants bits.Search i dir) GrantsSearch 0 k
-      ∷ asks (is_some (child_same i dir (last names))) NameThere 0 (k + 1)
-      ∷ asks (not (is_immutable (attributes i dir))) IsMutable 0 k
-      ∷ asks (grants bits.Write i dir) GrantsWrite 0 k
-      ∷ asks (not (is_append_only (attributes i dir))) IsNotAppendOnly 0 k
-      ∷ asks (not (is_barred caller (attributes i dir) (attributes i file))) PassesSticky 0 (k + 1)
-      ∷ asks (not (is_immutable (attributes i file))) IsMutable 0 (k + 1)
-      ∷ asks (not (is_append_only (attributes i file))) IsNotAppendOnly 0 (k + 1)
-      ∷ [])
+      ∷ walk_at 0 0 root names i ++ removing_tests caller dir file (length (front names))
 
   -- what a path leads to has the same attributes
   reaching_same : (path : List (List ℕ)) (tests : Attrs → ℕ → List Check) → reaching w.rows caller path tests ≡ reaching v.rows caller path tests
@@ -177,21 +157,17 @@ module _ (caller : Caller) (w v : World) (differ : DifferUnread caller w v) wher
   table_same (Create path mode) = making_same 0 path
   table_same (Mkdir path mode) = making_same 0 path
   table_same (Unlink path) = λ i.
-      removing_same path i ++
-      (asks (not (directories i (reached_same i root path))) IsNoDirectory 0 (length path)
-      ∷ [])
+      removing_same path i ++ unlink_tests (attributes i (reached_same i root path)) (length path)
   table_same (Rmdir path) = λ i.
-      removing_same path i ++
-      (asks (directories i (reached_same i root path)) IsDirectory 0 (length path)
-      ∷ asks (length (children_same i (reached_same i root path)) == 0) IsEmpty 0 (length path)
-      ∷ [])
+      let dir = reached_same i root path in
+      removing_same path i ++ rmdir_tests (length (children_same i dir) == 0) (attributes i dir) (length path)
   table_same (Rename from to) = λ i.
       let moved = reached_same i root from in
       let way = visited_at root (front to) i in
       let stays = reached_same i root (front from) == reached_same i root (front to) in
       removing_same from i ++ (making_same 1 to i ++
       (asks (not (list_any (λ n. n == moved) way)) IsNotBeneathItself 1 (position moved way)
-      ∷ asks (not (directories i moved) || stays || grants bits.Write i moved) GrantsWrite 0 (length from)
+      ∷ leaves_test caller stays (attributes i moved) (length from)
       ∷ []))
   table_same (Chmod path mode) = reaching_same path (chmod_tests caller)
   table_same (Chown path uid gid) = reaching_same path (chown_tests caller uid gid)
@@ -202,7 +178,7 @@ module _ (caller : Caller) (w v : World) (differ : DifferUnread caller w v) wher
   table_same Sync = refl
 
   -- the rules say the same in both worlds
-  pub decide_same : (request : Request) → decide w caller request ≡ decide v caller request
+  decide_same : (request : Request) → decide w caller request ≡ decide v caller request
   decide_same request = ap first_failing (table_same request)
 
   -- ---- the answers
@@ -211,7 +187,7 @@ module _ (caller : Caller) (w v : World) (differ : DifferUnread caller w v) wher
   read_granted path off len h = (met_first _ _ _ (met_first _ _ _ (passes-append (walk w.rows caller 0 0 root path) _ h).1).1).0
 
   -- a call that they allow shows the same
-  pub answer_same : (request : Request) → decide w caller request ≡ None → answer_of w request ≡ answer_of v request
+  answer_same : (request : Request) → decide w caller request ≡ None → answer_of w request ≡ answer_of v request
   answer_same (Stat path) h = λ i. served.Stat (reached_same i root path) (attributes i (reached_same i root path))
   answer_same (Read path off len) h =
       let n = reached w.rows root path in

@@ -3,7 +3,7 @@ use Rattle.std.proofs.Common.{◌≡◌, ◌≢◌, ℕ, ◌+◌, ◌==◌, Bool
 use Rattle.std.proofs.lemmas.Bool.{not-true}
 use Rattle.std.specs.FinMap as map
 use Rattle.lfs_types.specs.Caller.{Caller}
-use Rattle.lfs_types.specs.Tree.{File, Row, World, root, opening_world}
+use Rattle.lfs_types.specs.Tree.{File, Row, World, root}
 use Rattle.lfs_types.specs.declared.answer.Answer.{Answer}
 use Rattle.lfs_types.specs.declared.answer.Answer.TheVariants.{Served, Denied, Refused}
 use Rattle.lfs_types.specs.declared.attrs.Kind.{Kind}
@@ -14,22 +14,19 @@ use Rattle.lfs_model.specs.declared.journal.Entry.{Entry}
 use Rattle.lfs_model.specs.declared.journal.Event.{Event}
 use Rattle.lfs_model.specs.declared.journal.Event.TheVariants.{User, Cleaner}
 use Rattle.lfs_types.specs.declared.rule.Rule.TheVariants.{FitsFile}
-use Rattle.lfs_types.specs.Kinds.{is_directory_kind}
 use Rattle.std.specs.Prelude.{nat_le}
-use Rattle.lfs_model.specs.World.{Rows, file_at, child, children, ancestor, IsChild, IsTree}
+use Rattle.lfs_model.specs.World.{Rows, child, children, ancestor, IsChild, IsTree}
 use Rattle.lfs_model.specs.Rules.{decide, is_directory_row, reached, front, last, asks, start_of, file_max, is_end, removing, making}
 use Rattle.lfs_model.specs.Effects.{effect, least_unused, with_file, with_place, new_file, written, cut, given}
-use Rattle.lfs_model.specs.LawsRuns.{StaysTree}
 use Rattle.lfs_model.specs.Steps.{IsAnswer, IsEvent, IsLegal, LacksInodes, AllUsed, after_answer, after_event, world_after}
 use Rattle.lfs_model.proofs.Changed.{IsTree-changed}
 use Rattle.lfs_model.proofs.Grown.{IsTree-grown}
-use Rattle.lfs_model.proofs.Allowed.{MayChange, MayMake, may_change, may_make, may_remove}
+use Rattle.lfs_model.proofs.Allowed.{MayChange, MayMake, may_change, may_make, may_remove, regular_row}
 use Rattle.lfs_model.proofs.Deciding.{met_first, passes-append}
 use Rattle.lfs_model.proofs.LawUnused.{new_unused, new_below}
 use Rattle.lfs_model.proofs.Members.{children-has}
 use Rattle.lfs_model.proofs.Moved.{IsTree-moved}
 use Rattle.lfs_model.proofs.MovedWay.{no_ancestor}
-use Rattle.lfs_model.proofs.RunLemmas.{opening_tree}
 use Rattle.lfs_model.proofs.Shrunk.{IsTree-shrunk}
 use Rattle.lfs_model.proofs.WalkLemmas.{directory_kind}
 use Rattle.lfs_model.proofs.Trees.{no_directory, no_parent}
@@ -55,11 +52,6 @@ childless rows n h name m c =
     omega (arith, none, inside)
 
 -- ---- each call
-
--- what has no directory's attributes is no directory's row
-regular_row : (o : Option Row) → is_directory_kind (file_at o).kind ≡ false → is_directory_row o ≡ false
-regular_row None h = absurd (cc)
-regular_row (Some r) h = h
 
 -- a change of a file that keeps its kind and puts no bytes into a directory
 file_tree : (w : World) → IsTree w.rows → (m : ℕ) (change : File → File) (o : Option Row) → map.get w.rows m ≡ o
@@ -99,7 +91,7 @@ module _ (numbers : ℕ) (w : World) (caller : Caller) (tree : IsTree w.rows) wh
       let two = passes-append (making w.rows caller 1 to) _ one.1 in
       let away = met_first _ _ _ two.1 in
       let out = may_remove w.rows caller from one.0 in
-      let into = may_make w.rows caller 1 to two.0 in
+      let into = may_make w.rows tree caller 1 to two.0 in
       let dir = directory_there _ into.directory in
       place_tree w tree (reached w.rows root from) out.hangs.below (reached w.rows root (front to)) (last to) dir.row dir.there dir.directory into.free
       (no_ancestor w.rows tree caller 1 (reached w.rows root from) _ (front to) into.way out.hangs.below (not-true _ away.0))
@@ -115,12 +107,12 @@ module _ (numbers : ℕ) (w : World) (caller : Caller) (tree : IsTree w.rows) wh
       changed_tree path (is_end place) (written caller place (b ∷ bs)) (may_change w.rows caller path (is_end place) (λ attrs k. asks (nat_le (start_of place attrs.size + length (b ∷ bs)) file_max) FitsFile 0 k ∷ []) allowed) (λ f. refl)
   effect_tree (SetLength path len) allowed room =
       changed_tree path false (cut caller len) (may_change w.rows caller path false (λ attrs k. asks (nat_le len file_max) FitsFile 0 k ∷ []) allowed) (λ f. refl)
-  effect_tree (Create path mode) allowed room = new_tree numbers w tree caller path Regular _ mode (may_make w.rows caller 0 path allowed) room
-  effect_tree (Mkdir path mode) allowed room = new_tree numbers w tree caller path Directory _ mode (may_make w.rows caller 0 path allowed) room
+  effect_tree (Create path mode) allowed room = new_tree numbers w tree caller path Regular _ mode (may_make w.rows tree caller 0 path allowed) room
+  effect_tree (Mkdir path mode) allowed room = new_tree numbers w tree caller path Directory _ mode (may_make w.rows tree caller 0 path allowed) room
   effect_tree (Unlink path) allowed room =
       let two = passes-append (removing w.rows caller path) _ allowed in
       let may = may_remove w.rows caller path two.0 in
-      IsTree-shrunk w.rows tree (reached w.rows root path) may.hangs.below (no_parent w.rows tree (reached w.rows root path) (not-true _ (met_first _ _ _ two.1).0))
+      IsTree-shrunk w.rows tree (reached w.rows root path) may.hangs.below (no_parent w.rows tree (reached w.rows root path) (regular_row _ (not-true _ (met_first _ _ _ two.1).0)))
   effect_tree (Rmdir path) allowed room =
       let two = passes-append (removing w.rows caller path) _ allowed in
       let may = may_remove w.rows caller path two.0 in
@@ -149,7 +141,3 @@ event_tree numbers segments w caller (Cleaner kind outcome) tree is = tree
 pub entries_tree : (numbers segments : ℕ) (entries : List Entry) (w : World) → IsTree w.rows → IsLegal numbers segments entries w → IsTree (world_after numbers entries w).rows
 entries_tree numbers segments [] w tree legal = tree
 entries_tree numbers segments (e ∷ es) w tree legal = entries_tree numbers segments es (after_event numbers w e.cred e.event) (event_tree numbers segments w e.cred e.event tree legal.0) legal.1
-
--- each legal journal leaves a tree
-pub stays_tree : StaysTree
-stays_tree numbers segments entries legal = entries_tree numbers segments entries opening_world opening_tree legal

@@ -1,3 +1,4 @@
+mod EqualityLemmas
 pub mod Allowed
 pub mod BetweenLemmas
 pub mod BroughtLemmas
@@ -7,11 +8,11 @@ pub mod Changed
 pub mod Children
 pub mod Deciding
 pub mod DeniedLemmas
+pub mod EachLemmas
 pub mod EntryLemmas
 pub mod Fates
 pub mod Grown
 pub mod LawBytes
-pub mod LawChanges
 pub mod LawFates
 pub mod LawFlags
 pub mod LawReads
@@ -22,11 +23,14 @@ pub mod Members
 pub mod Moved
 pub mod MovedRows
 pub mod MovedWay
+pub mod NameLists
 pub mod OneThingLemmas
 pub mod RowLaws
 pub mod RunLemmas
 pub mod SameKeys
 pub mod Shrunk
 pub mod Trees
+pub mod ViewLaw
+pub mod ViewLemmas
 pub mod WalkLemmas
 pub mod Ways

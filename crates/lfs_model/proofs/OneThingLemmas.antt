@@ -1,5 +1,5 @@
 -- One thing changes by a call, and what it speaks of is there.
-use Rattle.std.proofs.Common.{◌≡◌, ◌≢◌, ◌⊎◌, ℕ, List, [], ◌∷◌, None, Some, inl, inr, refl, sym, subst, ◌∙◌, ⊎_elim}
+use Rattle.std.proofs.Common.{◌≡◌, ◌≢◌, ◌⊎◌, ℕ, ◌==◌, List, [], ◌∷◌, None, Some, inl, inr, refl, sym, subst, ◌∙◌, ⊎_elim}
 use Rattle.std.proofs.lemmas.Bool.{cases_eq}
 use Rattle.std.specs.Prelude.{IsSome}
 use Rattle.std.specs.FinMap as map
@@ -13,15 +13,14 @@ use Rattle.lfs_types.specs.declared.request.Request.TheVariants.{Stat, Read, Wri
 use Rattle.lfs_model.specs.World.{IsTree}
 use Rattle.lfs_model.specs.Rules.{decide, first_failing, reached, front, last, walk, removing, making}
 use Rattle.lfs_model.specs.Effects.{effect, least_unused, written, cut, given}
-use Rattle.lfs_model.specs.LawOneThing.{IsAsBefore, DiffersInPlace, DiffersInBytes, DiffersInMode, DiffersInOwner, IsLooking, IsOneThing, OneThing}
+use Rattle.lfs_model.specs.LawOneThing.{IsAsBefore, DiffersInFlags, DiffersInPlace, DiffersInBytes, DiffersInMode, DiffersInOwner, IsLooking, IsOneThing, OneThing}
 use Rattle.lfs_model.specs.LawThere.{AreThere, FindsRows}
-use Rattle.lfs_model.specs.LawsFlags.{DiffersInFlags}
-use Rattle.lfs_model.proofs.Allowed.{may_make, may_remove}
-use Rattle.lfs_model.proofs.CallLaws.{walk_there}
+use Rattle.lfs_model.specs.Rights.{EachCall}
+use Rattle.lfs_model.proofs.Allowed.{may_make, may_remove, walk_there}
 use Rattle.lfs_model.proofs.Deciding.{passes-append}
 use Rattle.lfs_model.proofs.Fates.{Fate, fate}
 use Rattle.lfs_model.proofs.Fates.Fate.{Stays, Goes, Moves, Changes, Remodes, Gives, Reflags}
-use Rattle.lfs_model.proofs.LawFates.{file_unchanged, place_unchanged}
+use Rattle.lfs_model.proofs.LawFates.{file_unchanged, kept_mode, place_unchanged}
 use Rattle.lfs_model.proofs.LevelLemmas.{level_after}
 use Rattle.lfs_model.proofs.RowLaws.{row_of, gone_from}
 use Rattle.lfs_types.proofs.Maps.{get-insert_other, get-remove_other}
@@ -82,9 +81,9 @@ part_of : (w : World) (caller : Caller) (request : Request) (v : World) (n : ℕ
 part_of w caller request v n r s is (Stays e) = subst (Part r) (sym (row_of _ _ s e is)) (inl refl)
 part_of w caller request v n r s is (Goes e x) = gone_from _ _ e is
 part_of w caller request v n r s is (Moves parent name e x) = subst (Part r) (sym (row_of _ _ s e is)) (inl refl)
-part_of w caller request v n r s is (Changes bytes e x) = subst (Part r) (sym (row_of _ _ s e is)) (inr (inl refl))
+part_of w caller request v n r s is (Changes bytes e x) = subst (Part r) (sym (row_of _ _ s e is)) (inr (inl (refl, kept_mode (caller.uid == 0) r.file.mode)))
 part_of w caller request v n r s is (Remodes mode e x) = subst (Part r) (sym (row_of _ _ s e is)) (inr (inr (inl refl)))
-part_of w caller request v n r s is (Gives uid gid e x) = subst (Part r) (sym (row_of _ _ s e is)) (inr (inr (inr (inl refl))))
+part_of w caller request v n r s is (Gives uid gid e x) = subst (Part r) (sym (row_of _ _ s e is)) (inr (inr (inr (inl (refl, kept_mode (caller.uid == 0) r.file.mode)))))
 part_of w caller request v n r s is (Reflags flags e x) = subst (Part r) (sym (row_of _ _ s e is)) (inr (inr (inr (inr refl))))
 
 -- a call that changed nothing
@@ -97,7 +96,7 @@ nothing_changed w request answer = record {
   unserved = λ is. refl;
 }
 
-pub one_thing : OneThing
+pub one_thing : EachCall OneThing
 one_thing numbers w caller request (Served shown) tree is = record {
   row = λ m n a b. is_target numbers w caller request m a ∙ sym (is_target numbers w caller request n b);
   level = rows_stay numbers w caller request;
@@ -122,14 +121,14 @@ module _ (w : World) (caller : Caller) (tree : IsTree w.rows) where
   finds (Names path) h = there_along 0 path (passes-append (walk w.rows caller 0 0 root path) _ h).0
   finds (Write path place bytes) h = there_along 0 path (passes-append (walk w.rows caller 0 0 root path) _ h).0
   finds (SetLength path len) h = there_along 0 path (passes-append (walk w.rows caller 0 0 root path) _ h).0
-  finds (Create path mode) h = there_along 0 (front path) (may_make w.rows caller 0 path h).walks
-  finds (Mkdir path mode) h = there_along 0 (front path) (may_make w.rows caller 0 path h).walks
+  finds (Create path mode) h = there_along 0 (front path) (may_make w.rows tree caller 0 path h).walks
+  finds (Mkdir path mode) h = there_along 0 (front path) (may_make w.rows tree caller 0 path h).walks
   finds (Unlink path) h = present (may_remove w.rows caller path (passes-append (removing w.rows caller path) _ h).0).hangs.there
   finds (Rmdir path) h = present (may_remove w.rows caller path (passes-append (removing w.rows caller path) _ h).0).hangs.there
   finds (Rename from to) h =
       let one = passes-append (removing w.rows caller from) _ h in
       let two = passes-append (making w.rows caller 1 to) _ one.1 in
-      (present (may_remove w.rows caller from one.0).hangs.there, there_along 1 (front to) (may_make w.rows caller 1 to two.0).walks)
+      (present (may_remove w.rows caller from one.0).hangs.there, there_along 1 (front to) (may_make w.rows tree caller 1 to two.0).walks)
   finds (Chmod path mode) h = there_along 0 path (passes-append (walk w.rows caller 0 0 root path) _ h).0
   finds (Chown path uid gid) h = there_along 0 path (passes-append (walk w.rows caller 0 0 root path) _ h).0
   finds (Chflags path flags) h = there_along 0 path (passes-append (walk w.rows caller 0 0 root path) _ h).0

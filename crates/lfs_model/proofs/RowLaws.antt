@@ -1,20 +1,21 @@
 -- The laws of what changed of a row, from what came of it.
-use Rattle.std.proofs.Common.{◌≡◌, ◌≢◌, ◌⊎◌, ℕ, cond, List, Option, None, Some, inl, inr, refl, sym, ap, subst, ◌∙◌, arith, ne_eqb}
+use Rattle.std.proofs.Common.{◌≡◌, ◌≢◌, ◌⊎◌, ℕ, cond, false, List, Option, None, Some, inl, inr, refl, sym, ap, subst, ◌∙◌, ⊎_elim, arith, ne_eqb}
 use Rattle.std.proofs.lemmas.Bool.{eq-eqb}
 use Rattle.std.specs.FinMap as map
 use Rattle.lfs_types.specs.Caller.{Caller}
 use Rattle.lfs_types.specs.Tree.{Row, World}
 use Rattle.lfs_types.specs.declared.request.Request.{Request}
+use Rattle.lfs_rules.specs.Bits.{has_bit}
 use Rattle.lfs_rules.specs.SetId.{set_id_cleared}
 use Rattle.lfs_model.specs.Effects.{mode_after}
-use Rattle.lfs_model.specs.LawsAccess.{HangsStill}
 use Rattle.lfs_model.specs.LawGone as gone
-use Rattle.lfs_model.specs.LawMoved.{MayMove, Moved}
+use Rattle.lfs_model.specs.LawMoved.{HangsStill, MayMove, Moved}
 use Rattle.lfs_model.specs.LawRewritten.{MayRewrite, Rewritten}
 use Rattle.lfs_model.specs.LawMode.{IsChmod, LosesSetId, Remoded}
-use Rattle.lfs_model.specs.LawOwner.{SameOwner, MayGive, Given}
+use Rattle.lfs_model.specs.LawOwner.{SameOwner, SetsOwner, MayGive, Given}
 use Rattle.lfs_model.specs.LawFlagged.{MayReflag, Reflagged}
 use Rattle.lfs_model.specs.LawSetId.{SameBytesAndOwner, LosesSetIds}
+use Rattle.lfs_model.specs.Rights.{EachCall}
 use Rattle.lfs_model.proofs.Fates.{Fate, fate}
 use Rattle.lfs_model.proofs.Fates.Fate.{Stays, Goes, Moves, Changes, Remodes, Gives, Reflags}
 
@@ -47,8 +48,8 @@ mode_ordinary caller mode other = ap (λ b. cond b mode (set_id_cleared mode)) (
 mode_changed : (caller : Caller) (mode : ℕ) → mode_after caller mode ≢ mode → caller.uid ≢ 0
 mode_changed caller mode differs super = differs (ap (λ b. cond b mode (set_id_cleared mode)) (eq-eqb caller.uid 0 super))
 
-cleared_twice : (mode : ℕ) → set_id_cleared (set_id_cleared mode) ≡ set_id_cleared mode
-cleared_twice mode = omega arith
+no_set_id : (mode : ℕ) → (has_bit (set_id_cleared mode) 0o4000 ≡ false) × (has_bit (set_id_cleared mode) 0o2000 ≡ false)
+no_set_id mode = (ne_eqb _ _ (omega arith), ne_eqb _ _ (omega arith))
 
 module _ (w : World) (caller : Caller) (request : Request) (v : World) (n : ℕ) (r : Row) where
   gone_by : Fate w caller request v n r → map.get v.rows n ≡ None → gone.MayRemove w caller request n r
@@ -86,20 +87,20 @@ module _ (w : World) (caller : Caller) (request : Request) (v : World) (n : ℕ)
     abbrev mode_in : Row → ℕ
     mode_in y = y.file.mode
 
-    remoded_by : Fate w caller request v n r → s.file.mode ≢ r.file.mode → IsChmod w caller request n r s ⊎ LosesSetId w caller n r s
+    remoded_by : Fate w caller request v n r → s.file.mode ≢ r.file.mode → IsChmod w caller request n r s ⊎ LosesSetId w caller request n r s
     remoded_by (Stays e) differs = absurd (differs (ap mode_in (row_of _ _ s e is)))
     remoded_by (Goes e x) differs = gone_from _ _ e is
     remoded_by (Moves parent name e x) differs = absurd (differs (ap mode_in (row_of _ _ s e is)))
     remoded_by (Changes bytes e x) differs =
         let same = row_of _ _ s e is in
         let other = mode_changed caller r.file.mode (λ q. differs (ap mode_in same ∙ q)) in
-        inr (record { cleared = ap mode_in same ∙ mode_ordinary caller r.file.mode other; ordinary = other; allowed = inr (x.regular, x.writes) })
+        inr (record { cleared = ap mode_in same ∙ mode_ordinary caller r.file.mode other; ordinary = other; allowed = inr (x.regular, x.writes, x.asked, λ only. (x.appends only).0) })
     remoded_by (Remodes mode e x) differs =
         inl (subst (λ (y : Row). IsChmod w caller request n r y) (sym (row_of _ _ s e is)) (record { allowed = x.allowed; asked = x.asked; rest = refl }))
     remoded_by (Gives uid gid e x) differs =
         let same = row_of _ _ s e is in
         let other = mode_changed caller r.file.mode (λ q. differs (ap mode_in same ∙ q)) in
-        inr (record { cleared = ap mode_in same ∙ mode_ordinary caller r.file.mode other; ordinary = other; allowed = inl x.allowed })
+        inr (record { cleared = ap mode_in same ∙ mode_ordinary caller r.file.mode other; ordinary = other; allowed = inl (x.allowed, subst (λ (y : Row). SetsOwner w n y.file.uid y.file.gid request) (sym same) x.asked) })
     remoded_by (Reflags flags e x) differs = absurd (differs (ap mode_in (row_of _ _ s e is)))
 
     given_by : Fate w caller request v n r → (SameOwner r.file s.file → ⊥) → MayGive w caller request n r s.file.uid s.file.gid
@@ -108,7 +109,14 @@ module _ (w : World) (caller : Caller) (request : Request) (v : World) (n : ℕ)
     given_by (Moves parent name e x) differs = absurd (differs (owner_by r _ s (row_of _ _ s e is) refl refl))
     given_by (Changes bytes e x) differs = absurd (differs (owner_by r _ s (row_of _ _ s e is) refl refl))
     given_by (Remodes mode e x) differs = absurd (differs (owner_by r _ s (row_of _ _ s e is) refl refl))
-    given_by (Gives uid gid e x) differs = subst (λ (y : Row). MayGive w caller request n r y.file.uid y.file.gid) (sym (row_of _ _ s e is)) x
+    given_by (Gives uid gid e x) differs =
+        let same = row_of _ _ s e is in
+        subst (λ (y : Row). MayGive w caller request n r y.file.uid y.file.gid) (sym same) (record {
+          allowed = x.allowed;
+          giving = ⊎_elim (λ super. inl super)
+              (λ keeps. ⊎_elim (λ g. absurd (differs (owner_by r _ s same keeps.0 g))) (λ m. inr (keeps.0, m)) keeps.1) x.giving;
+          asked = x.asked;
+        })
     given_by (Reflags flags e x) differs = absurd (differs (owner_by r _ s (row_of _ _ s e is) refl refl))
 
     abbrev flags_in : Row → ℕ
@@ -124,12 +132,10 @@ module _ (w : World) (caller : Caller) (request : Request) (v : World) (n : ℕ)
     reflagged_by (Reflags flags e x) differs = subst (λ (y : Row). MayReflag w caller request n r y.file.flags) (sym (row_of _ _ s e is)) x
 
     -- a mode that another than the superuser's change left has no set-id bits
-    clear_mode : caller.uid ≢ 0 → s.file.mode ≡ mode_after caller r.file.mode → set_id_cleared s.file.mode ≡ s.file.mode
-    clear_mode other e =
-        let is_cleared : s.file.mode ≡ set_id_cleared r.file.mode = e ∙ mode_ordinary caller r.file.mode other in
-        ap set_id_cleared is_cleared ∙ cleared_twice r.file.mode ∙ sym is_cleared
+    clear_mode : caller.uid ≢ 0 → s.file.mode ≡ mode_after caller r.file.mode → (has_bit s.file.mode 0o4000 ≡ false) × (has_bit s.file.mode 0o2000 ≡ false)
+    clear_mode other e = subst (λ m. (has_bit m 0o4000 ≡ false) × (has_bit m 0o2000 ≡ false)) (sym (e ∙ mode_ordinary caller r.file.mode other)) (no_set_id r.file.mode)
 
-    cleared_by : Fate w caller request v n r → caller.uid ≢ 0 → (SameBytesAndOwner r.file s.file → ⊥) → set_id_cleared s.file.mode ≡ s.file.mode
+    cleared_by : Fate w caller request v n r → caller.uid ≢ 0 → (SameBytesAndOwner r.file s.file → ⊥) → (has_bit s.file.mode 0o4000 ≡ false) × (has_bit s.file.mode 0o2000 ≡ false)
     cleared_by (Stays e) other differs = absurd (differs (bytes_by r _ s (row_of _ _ s e is) refl refl refl))
     cleared_by (Goes e x) other differs = gone_from _ _ e is
     cleared_by (Moves parent name e x) other differs = absurd (differs (bytes_by r _ s (row_of _ _ s e is) refl refl refl))
@@ -140,23 +146,23 @@ module _ (w : World) (caller : Caller) (request : Request) (v : World) (n : ℕ)
 
 -- ---- the laws
 
-pub gone_law : gone.Gone
+pub gone_law : EachCall gone.Gone
 gone_law numbers w caller request answer tree is n r there none = gone_by w caller request _ n r (fate numbers w caller tree n r there request answer is) none
 
-pub moved_law : Moved
+pub moved_law : EachCall Moved
 moved_law numbers w caller request answer tree is n r s there after differs = moved_by w caller request _ n r s after (fate numbers w caller tree n r there request answer is) differs
 
-pub rewritten_law : Rewritten
+pub rewritten_law : EachCall Rewritten
 rewritten_law numbers w caller request answer tree is n r s there after differs = rewritten_by w caller request _ n r s after (fate numbers w caller tree n r there request answer is) differs
 
-pub remoded_law : Remoded
+pub remoded_law : EachCall Remoded
 remoded_law numbers w caller request answer tree is n r s there after differs = remoded_by w caller request _ n r s after (fate numbers w caller tree n r there request answer is) differs
 
-pub given_law : Given
+pub given_law : EachCall Given
 given_law numbers w caller request answer tree is n r s there after differs = given_by w caller request _ n r s after (fate numbers w caller tree n r there request answer is) differs
 
-pub reflagged_law : Reflagged
+pub reflagged_law : EachCall Reflagged
 reflagged_law numbers w caller request answer tree is n r s there after differs = reflagged_by w caller request _ n r s after (fate numbers w caller tree n r there request answer is) differs
 
-pub loses_set_ids : LosesSetIds
+pub loses_set_ids : EachCall LosesSetIds
 loses_set_ids numbers w caller request answer tree is n r s there after other differs = cleared_by w caller request _ n r s after (fate numbers w caller tree n r there request answer is) other differs

@@ -1,13 +1,11 @@
 -- The world at the opening, and lists of entries with one more.
-use Rattle.std.proofs.Common.{◌≡◌, ℕ, Bool, List, [], ◌∷◌, ◌++◌, length, ◌↔◌, Some, refl, sym, ap, subst, ◌∙◌, arith, append_assoc}
+use Rattle.std.proofs.Common.{◌≡◌, ℕ, List, [], ◌∷◌, ◌++◌, length, Some, refl, sym, ap, subst, ◌∙◌, arith, append_assoc}
 use Rattle.std.specs.Prelude.{IsSomeAnd, Contains}
 use Rattle.std.proofs.lemmas.List.{append-nil}
 use Rattle.std.specs.FinMap as map
 use Rattle.lfs_types.specs.Shown.{IsList}
 use Rattle.lfs_types.specs.Tree.{File, Row, World, root, fresh_root, opening_content, opening_world}
 use Rattle.lfs_types.specs.declared.answer.Answer.{Answer}
-use Rattle.lfs_types.specs.declared.answer.Answer.TheVariants.{Refused}
-use Rattle.lfs_types.specs.declared.answer.Resource.TheVariants.{NoMemory, JournalFull}
 use Rattle.lfs_types.specs.declared.attrs.Kind.TheVariants.{Directory}
 use Rattle.lfs_types.specs.declared.request.Request.{Request}
 use Rattle.lfs_types.specs.declared.request.Request.TheVariants.{Stat, Read, Write, List as Names, SetLength, Create, Mkdir, Unlink, Rmdir, Rename, Chmod, Chown, Chflags, SetLevel, Sync}
@@ -15,8 +13,8 @@ use Rattle.lfs_model.specs.declared.journal.Call.{Call}
 use Rattle.lfs_model.specs.declared.journal.Entry.{Entry}
 use Rattle.lfs_model.specs.World.{Rows, ancestor, IsTree, IsChild}
 use Rattle.lfs_model.specs.Effects.{answer_of}
-use Rattle.lfs_model.specs.Memory.{IsCopying, MayLackMemory}
-use Rattle.lfs_model.specs.Runs.{AreAnswers, kept, kept_entry}
+use Rattle.lfs_model.specs.Memory.{IsCopying}
+use Rattle.lfs_model.specs.Runs.{kept, kept_entry}
 use Rattle.lfs_model.specs.Steps.{IsEvent, IsLegal, after_event, world_after}
 use Rattle.lfs_types.proofs.Maps.{get-insert_same, each_inserted, none_at_first}
 use Rattle.lfs_types.proofs.Somewhere.{is_some_and}
@@ -99,19 +97,3 @@ kept-append (c ∷ calls) [] call answer h = absurd (omega (arith, h))
 kept-append (c ∷ calls) (a ∷ answers) call answer h =
     ap (λ l. kept_entry c.session c.cred c.request a ++ l) (kept-append calls answers call answer (omega (arith, h)))
     ∙ sym (append_assoc (kept_entry c.session c.cred c.request a) (kept calls answers) (kept_entry call.session call.cred call.request answer))
-
--- a call more
-pub AreAnswers-append : (limit : ℕ) (can_lack : Bool) (journal : List Entry) (calls : List Call) (answers : List Answer) (call : Call) (answer : Answer)
-    → AreAnswers limit can_lack journal calls answers
-    → ((answer ≡ Refused JournalFull) ↔ (length (journal ++ kept calls answers) ≡ limit))
-    → (answer ≡ Refused NoMemory → MayLackMemory can_lack call.request)
-    → AreAnswers limit can_lack journal (calls ++ call ∷ []) (answers ++ answer ∷ [])
-AreAnswers-append limit can_lack journal [] [] call answer are full lack = (subst (λ j. (answer ≡ Refused JournalFull) ↔ (length j ≡ limit)) (append-nil journal) full, lack, tt)
-AreAnswers-append limit can_lack journal [] (a ∷ answers) call answer are full lack = absurd are
-AreAnswers-append limit can_lack journal (c ∷ calls) [] call answer are full lack = absurd are
-AreAnswers-append limit can_lack journal (c ∷ calls) (a ∷ answers) call answer are full lack = (
-  are.0,
-  are.1,
-  AreAnswers-append limit can_lack (journal ++ kept_entry c.session c.cred c.request a) calls answers call answer are.2
-      (subst (λ j. (answer ≡ Refused JournalFull) ↔ (length j ≡ limit)) (sym (append_assoc journal (kept_entry c.session c.cred c.request a) (kept calls answers))) full) lack,
-)

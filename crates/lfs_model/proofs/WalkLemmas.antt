@@ -1,5 +1,5 @@
 -- The steps of a walk.
-use Rattle.std.proofs.Common.{◌≡◌, ℕ, ◌+◌, ◌<◌, Bool, true, false, cond, List, [], ◌∷◌, length, get_or, drop, Option, None, Some, Result, Ok, Err, refl, sym, ap, ◌∙◌, add-one}
+use Rattle.std.proofs.Common.{◌≡◌, ℕ, ◌+◌, ◌<◌, Bool, true, false, cond, List, [], ◌∷◌, ◌++◌, length, get_or, drop, Option, None, Some, Result, Ok, Err, refl, sym, ap, ◌∙◌, add-one, arith}
 use Rattle.std.specs.Prelude.{ok_or}
 use Rattle.std.proofs.Math.Seq.{drop-cons}
 use Rattle.std.specs.FinMap as map
@@ -57,3 +57,26 @@ walked_on rows caller path k at name names r h = ap (λ x. and_then x (λ n. wal
 pub walked_end : (rows : Rows) (caller : Caller) (path k at : ℕ) → walked rows caller path k at [] ≡ Ok at
 unfolding walked
 walked_end rows caller path k at = refl
+
+-- ---- the last step
+
+and_then-ok : (r : Result ℕ Denial) → and_then r (λ n. Ok n) ≡ r
+and_then-ok (Ok n) = refl
+and_then-ok (Err denial) = refl
+
+and_then-twice : (r : Result ℕ Denial) (f g : ℕ → Result ℕ Denial) → and_then r (λ n. and_then (f n) g) ≡ and_then (and_then r f) g
+and_then-twice (Ok n) f g = refl
+and_then-twice (Err denial) f g = refl
+
+-- a walk takes its last step from where the names before the last lead
+pub walked_last : (rows : Rows) (caller : Caller) (path k at : ℕ) (names : List (List ℕ)) (name : List ℕ)
+    → walked rows caller path k at (names ++ name ∷ []) ≡ and_then (walked rows caller path k at names) (λ n. stepped rows caller path (k + length names) n name)
+unfolding walked
+walked_last rows caller path k at [] name =
+    let here : k ≡ k + length {A = List ℕ} [] = omega arith in
+    and_then-ok (stepped rows caller path k at name) ∙ ap (λ j. stepped rows caller path j at name) here
+walked_last rows caller path k at (x ∷ xs) name =
+    let on : (k + 1) + length xs ≡ k + length (x ∷ xs) = omega arith in
+    ap (λ (f : ℕ → Result ℕ Denial). and_then (stepped rows caller path k at x) f) (λ i n. walked_last rows caller path (k + 1) n xs name i)
+    ∙ and_then-twice (stepped rows caller path k at x) (λ n. walked rows caller path (k + 1) n xs) (λ m. stepped rows caller path ((k + 1) + length xs) m name)
+    ∙ ap (λ j. and_then (and_then (stepped rows caller path k at x) (λ n. walked rows caller path (k + 1) n xs)) (λ m. stepped rows caller path j m name)) on

@@ -1,17 +1,18 @@
--- A denial tells only of a row on the call's path that the caller may ask for: every row before it is a directory that he
--- may search.
-use Rattle.std.specs.Prelude.{◌≡◌, ℕ, ◌==◌, true, false, List, [], ◌∷◌, ◌++◌, length, Option, None, Some, IsSome, if◌then◌else◌}
+-- A denial tells only of a row on the call's path that the caller may ask for: every row before it is a directory that
+-- he may search.
+use Rattle.std.specs.Prelude.{◌≡◌, ℕ, true, false, List, [], ◌∷◌, ◌++◌, length, slice_get, Option, None, Some, IsSome, IsSomeAnd}
 use Rattle.std.specs.FinMap as map
 use Rattle.lfs_types.specs.Caller.{Caller}
 use Rattle.lfs_types.specs.Tree.{World, root}
 use Rattle.lfs_types.specs.declared.attrs.Bit.TheVariants as bits
 use Rattle.lfs_types.specs.declared.request.Request.{Request}
-use Rattle.lfs_types.specs.declared.request.Request.TheVariants.{Stat, Read, Write, List as Names, SetLength, Create, Mkdir, Unlink, Rmdir, Rename, Chmod, Chown, Chflags, SetLevel, Sync}
+use Rattle.lfs_types.specs.declared.request.Request.TheVariants.{SetLevel}
 use Rattle.lfs_types.specs.declared.rule.Denial.{Denial}
 use Rattle.lfs_types.specs.declared.rule.Rule.{Rule}
 use Rattle.lfs_types.specs.declared.rule.Rule.TheVariants.{IsDirectory, GrantsSearch, NameThere}
 use Rattle.lfs_model.specs.World.{Rows, child, IsTree}
 use Rattle.lfs_model.specs.Rules.{decide, is_directory_row, row_grants}
+use Rattle.lfs_model.specs.Rights.{paths}
 
 -- the row that a name leads to from a row, if both are there
 abbrev pub child_of : Rows → Option ℕ → List ℕ → Option ℕ
@@ -34,8 +35,8 @@ abbrev pub MayPass : Rows → Caller → Option ℕ → List (List ℕ) → Type
 MayPass rows caller o [] = Unit {0}
 MayPass rows caller o (name ∷ names) = MayEnter rows caller o × MayPass rows caller (child_of rows o name) names
 
--- what a denial by a rule says of the row at its component: that it is no directory, that it is a directory that doesn't
--- grant search, that it isn't there; or, by any other rule, no more than that it is there
+-- what a denial by a rule says of the row at its component: that it is no directory, that it is a directory that
+-- doesn't grant search, that it isn't there; or, by any other rule, no more than that it is there
 abbrev pub Says : Rows → Caller → Rule → Option ℕ → Type 0
 Says rows caller NameThere None = Unit {0}
 Says rows caller rule None = ⊥
@@ -44,24 +45,6 @@ Says rows caller GrantsSearch (Some n) =
     (is_directory_row (map.get rows n) ≡ true) × (row_grants caller bits.Search (map.get rows n) ≡ false)
 Says rows caller NameThere (Some n) = ⊥
 Says rows caller rule (Some n) = IsSome (map.get rows n)
-
--- the path of a call that a denial speaks of: of a Rename the first or the second; of a SetLevel none
-abbrev pub path_of : Request → ℕ → List (List ℕ)
-path_of (Stat path) index = path
-path_of (Read path off len) index = path
-path_of (Names path) index = path
-path_of (Write path place bytes) index = path
-path_of (SetLength path len) index = path
-path_of (Create path mode) index = path
-path_of (Mkdir path mode) index = path
-path_of (Unlink path) index = path
-path_of (Rmdir path) index = path
-path_of (Rename from to) index = if index == 0 then from else to
-path_of (Chmod path mode) index = path
-path_of (Chown path uid gid) index = path
-path_of (Chflags path flags) index = path
-path_of (SetLevel level) index = []
-path_of Sync index = []
 
 -- A denial by a rule at a component of a path: the caller may pass the names before it, and the denial says no more of
 -- the row there than its rule does.
@@ -73,10 +56,16 @@ pub record Tells (rows : Rows) (caller : Caller) (path : List (List ℕ)) (rule 
   pub passes : MayPass rows caller (Some root) front
   pub says : Says rows caller rule (led rows (Some root) front)
 
+-- what a denial of a call tells: of the path whose index it names; of a SetLevel, which has no path, nothing
+abbrev pub Told : World → Caller → Request → Denial → Type 0
+Told w caller (SetLevel level) denial = (denial.path ≡ 0) × (denial.at ≡ 0)
+Told w caller request denial =
+    IsSomeAnd (slice_get (paths request) denial.path) (λ path. Tells w.rows caller path denial.rule denial.at)
+
 -- each denial tells only so much
 abbrev pub TellsLittle : Type 0
 TellsLittle =
     (w : World) (caller : Caller) (request : Request) (denial : Denial)
     → IsTree w.rows
     → decide w caller request ≡ Some denial
-    → Tells w.rows caller (path_of request denial.path) denial.rule denial.at
+    → Told w caller request denial

@@ -8,7 +8,7 @@ use Rattle.lfs_types.specs.declared.request.Request.TheVariants.{Chflags}
 use Rattle.lfs_rules.specs.Locks.{changes_system_flags, clears_system_lock, has_system_lock}
 use Rattle.lfs_rules.specs.Securelevel.{is_above_zero}
 use Rattle.lfs_model.specs.Rules.{reached}
-use Rattle.lfs_model.specs.Rights.{EachCall, Owns}
+use Rattle.lfs_model.specs.Rights.{Law, Owns}
 
 -- the call is to set these flags of the row of this number
 abbrev pub SetsFlagsTo : World → ℕ → ℕ → Request → Type 0
@@ -24,7 +24,7 @@ pub record MayReflag (w : World) (caller : Caller) (request : Request) (n : ℕ)
   pub asked : SetsFlagsTo w n flags request
 
 -- a row that has other flags got them by whoever may
-abbrev pub Reflagged : Type 0
-Reflagged = EachCall (λ numbers w caller request answer after.
+abbrev pub Reflagged : Law
+Reflagged numbers w caller request answer after =
     (n : ℕ) (r s : Row) → map.get w.rows n ≡ Some r → map.get after.rows n ≡ Some s
-    → s.file.flags ≢ r.file.flags → MayReflag w caller request n r s.file.flags)
+    → s.file.flags ≢ r.file.flags → MayReflag w caller request n r s.file.flags

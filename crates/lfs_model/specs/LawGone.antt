@@ -9,7 +9,7 @@ use Rattle.lfs_types.specs.declared.request.Request.{Request}
 use Rattle.lfs_types.specs.declared.request.Request.TheVariants.{Unlink, Rmdir}
 use Rattle.lfs_model.specs.World.{IsChild}
 use Rattle.lfs_model.specs.Rules.{reached}
-use Rattle.lfs_model.specs.Rights.{EachCall, MayTakeAway}
+use Rattle.lfs_model.specs.Rights.{Law, MayTakeAway}
 
 -- the call is to remove the row of this number, of this kind
 abbrev pub Removes : World → ℕ → Kind → Request → Type 0
@@ -24,6 +24,6 @@ pub record MayRemove (w : World) (caller : Caller) (request : Request) (n : ℕ)
   pub asked : Removes w n r.file.kind request
 
 -- a row that is gone was removed by whoever may
-abbrev pub Gone : Type 0
-Gone = EachCall (λ numbers w caller request answer after.
-    (n : ℕ) (r : Row) → map.get w.rows n ≡ Some r → map.get after.rows n ≡ None → MayRemove w caller request n r)
+abbrev pub Gone : Law
+Gone numbers w caller request answer after =
+    (n : ℕ) (r : Row) → map.get w.rows n ≡ Some r → map.get after.rows n ≡ None → MayRemove w caller request n r

@@ -5,7 +5,7 @@ use Rattle.lfs_types.specs.declared.level.Level.{Level}
 use Rattle.lfs_types.specs.declared.request.Request.{Request}
 use Rattle.lfs_types.specs.declared.request.Request.TheVariants.{SetLevel}
 use Rattle.lfs_rules.specs.Securelevel.{is_lower}
-use Rattle.lfs_model.specs.Rights.{EachCall}
+use Rattle.lfs_model.specs.Rights.{Law}
 
 -- a caller may change the level so by this call
 pub record MayRelevel (caller : Caller) (request : Request) (old new : Level) : Type 0 where
@@ -14,6 +14,5 @@ pub record MayRelevel (caller : Caller) (request : Request) (old new : Level) : 
   pub asked : request ≡ SetLevel new
 
 -- another level was set by whoever may
-abbrev pub Relevelled : Type 0
-Relevelled = EachCall (λ numbers w caller request answer after.
-    after.level ≢ w.level → MayRelevel caller request w.level after.level)
+abbrev pub Relevelled : Law
+Relevelled numbers w caller request answer after = after.level ≢ w.level → MayRelevel caller request w.level after.level

@@ -1,13 +1,14 @@
--- A call changes one thing at most: one row, or the level. Of a row that stays it changes only its bytes, or parent and
--- name, or mode, or owner and group, or flags. A call that only looks, a Sync, and a call that isn't served change nothing.
+-- A call changes one thing at most: one row, or the level. Of a row that stays it changes only its bytes, or parent
+-- and name, or mode, or owner and group, or flags. A call that only looks, a Sync, and a call that isn't served change
+-- nothing.
 use Rattle.std.specs.Prelude.{◌≡◌, ◌≢◌, ◌⊎◌, ℕ, Some}
 use Rattle.std.specs.FinMap as map
 use Rattle.lfs_types.specs.Tree.{Row, World}
 use Rattle.lfs_types.specs.declared.answer.Answer.{Answer}
 use Rattle.lfs_types.specs.declared.request.Request.{Request}
 use Rattle.lfs_types.specs.declared.request.Request.TheVariants.{Stat, Read, List as Names, Sync}
-use Rattle.lfs_model.specs.LawsFlags.{DiffersInFlags}
-use Rattle.lfs_model.specs.Rights.{EachCall}
+use Rattle.lfs_rules.specs.SetId.{set_id_cleared}
+use Rattle.lfs_model.specs.Rights.{Law}
 use Rattle.lfs_model.specs.Runs.{IsUnserved}
 
 -- a number has the row that it had, or none still
@@ -18,18 +19,29 @@ IsAsBefore w after n = map.get after.rows n ≡ map.get w.rows n
 abbrev pub DiffersInPlace : Row → Row → Type 0
 DiffersInPlace old new = new ≡ record old { parent = new.parent; name = new.name }
 
--- in all but its bytes, and its mode, which may lose set-id bits
+-- a mode is what it was, or has lost its set-id bits
+abbrev pub KeepsMode : ℕ → ℕ → Type 0
+KeepsMode old new = (new ≡ old) ⊎ (new ≡ set_id_cleared old)
+
+-- in all but its bytes, and the set-id bits that may go with them
 abbrev pub DiffersInBytes : Row → Row → Type 0
-DiffersInBytes old new = new ≡ record old { file = record old.file { mode = new.file.mode; bytes = new.file.bytes } }
+DiffersInBytes old new =
+    (new ≡ record old { file = record old.file { mode = new.file.mode; bytes = new.file.bytes } })
+    × KeepsMode old.file.mode new.file.mode
 
 -- in all but its mode
 abbrev pub DiffersInMode : Row → Row → Type 0
 DiffersInMode old new = new ≡ record old { file = record old.file { mode = new.file.mode } }
 
--- in all but its owner and its group, and its mode, which may lose set-id bits
+-- in all but its owner and its group, and the set-id bits that may go with them
 abbrev pub DiffersInOwner : Row → Row → Type 0
 DiffersInOwner old new =
-    new ≡ record old { file = record old.file { uid = new.file.uid; gid = new.file.gid; mode = new.file.mode } }
+    (new ≡ record old { file = record old.file { uid = new.file.uid; gid = new.file.gid; mode = new.file.mode } })
+    × KeepsMode old.file.mode new.file.mode
+
+-- in all but its flags
+abbrev pub DiffersInFlags : Row → Row → Type 0
+DiffersInFlags old new = new ≡ record old { file = record old.file { flags = new.file.flags } }
 
 -- a call that only looks, or writes what waits
 abbrev pub IsLooking : Request → Type 0
@@ -49,5 +61,5 @@ pub record IsOneThing (w : World) (request : Request) (answer : Answer) (after :
   pub unserved : IsUnserved answer → after ≡ w
 
 -- each call changes one thing
-abbrev pub OneThing : Type 0
-OneThing = EachCall (λ numbers w caller request answer after. IsOneThing w request answer after)
+abbrev pub OneThing : Law
+OneThing numbers w caller request answer after = IsOneThing w request answer after

@@ -7,8 +7,7 @@ use Rattle.lfs_types.specs.declared.request.Request.{Request}
 use Rattle.lfs_types.specs.declared.request.Request.TheVariants.{Chown}
 use Rattle.lfs_rules.specs.Owners.{is_in_group}
 use Rattle.lfs_model.specs.Rules.{reached}
-use Rattle.lfs_model.specs.LawMode.{MayRetitle}
-use Rattle.lfs_model.specs.Rights.{EachCall}
+use Rattle.lfs_model.specs.Rights.{Law, MayRetitle}
 
 -- the call is to set this owner and this group of the row of this number
 abbrev pub SetsOwner : World → ℕ → ℕ → ℕ → Request → Type 0
@@ -20,14 +19,15 @@ pub record SameOwner (old new : File) : Type 0 where
   pub uid : new.uid ≡ old.uid
   pub gid : new.gid ≡ old.gid
 
--- a caller may give a row this owner and this group
+-- A caller may give a row this owner and this group: he is the superuser, or keeps the owner and gives one of his
+-- groups.
 pub record MayGive (w : World) (caller : Caller) (request : Request) (n : ℕ) (r : Row) (uid gid : ℕ) : Type 0 where
-  pub allowed : MayRetitle w caller n
-  pub giving : (caller.uid ≡ 0) ⊎ ((uid ≡ r.file.uid) × ((gid ≡ r.file.gid) ⊎ (is_in_group caller gid ≡ true)))
+  pub allowed : MayRetitle w.rows caller n
+  pub giving : (caller.uid ≡ 0) ⊎ ((uid ≡ r.file.uid) × (is_in_group caller gid ≡ true))
   pub asked : SetsOwner w n uid gid request
 
 -- a row that has another owner or another group was given by whoever may
-abbrev pub Given : Type 0
-Given = EachCall (λ numbers w caller request answer after.
+abbrev pub Given : Law
+Given numbers w caller request answer after =
     (n : ℕ) (r s : Row) → map.get w.rows n ≡ Some r → map.get after.rows n ≡ Some s
-    → (SameOwner r.file s.file → ⊥) → MayGive w caller request n r s.file.uid s.file.gid)
+    → (SameOwner r.file s.file → ⊥) → MayGive w caller request n r s.file.uid s.file.gid

@@ -23,7 +23,9 @@ pub record Covers (start : ℕ) (bytes : List ℕ) (i value : ℕ) : Type 0 wher
 -- A call that is served in this world sets byte i of the file of this number to a value: a Write that covers the
 -- byte, a SetLength to at most i, or the Create that makes the file. A path leads to the file's number in this world.
 abbrev pub SetsByte : ℕ → World → ℕ → ℕ → ℕ → Request → Type 0
-SetsByte numbers w n i value (Write path place bytes) = (reached w.rows root path ≡ n) × Covers (start_of place (length (file_at (map.get w.rows n)).bytes)) bytes i value
+SetsByte numbers w n i value (Write path place bytes) =
+    (reached w.rows root path ≡ n)
+    × Covers (start_of place (length (file_at (map.get w.rows n)).bytes)) bytes i value
 SetsByte numbers w n i value (SetLength path len) = (reached w.rows root path ≡ n) × (len ≤ i) × (value ≡ 0)
 SetsByte numbers w n i value (Create path mode) = (least_unused w.rows numbers FIRST_INODE ≡ n) × (value ≡ 0)
 SetsByte numbers w n i value request = ⊥
@@ -32,14 +34,16 @@ SetsByte numbers w n i value request = ⊥
 abbrev pub SetsSome : ℕ → ℕ → ℕ → World → Caller → Request → Type 0
 SetsSome numbers n i w caller request = (value : ℕ) × SetsByte numbers w n i value request
 
--- of the entries since the opening world, the last served call that sets byte i of the file of this number sets it to a value
+-- of the entries since the opening world, the last served call that sets byte i of the file of this number sets it to
+-- a value
 pub record IsLastSet (numbers : ℕ) (entries : List Entry) (n i value : ℕ) : Type 0 where
   pub before : List Entry
   pub entry : Entry
   pub later : List Entry
   pub split : before ++ entry ∷ later ≡ entries
   pub sets : IsServed (SetsByte numbers (world_of numbers before) n i value) entry.event
-  pub last : NoneServed (SetsSome numbers n i) numbers later (after_event numbers (world_of numbers before) entry.cred entry.event)
+  pub last : NoneServed (SetsSome numbers n i) numbers later
+      (after_event numbers (world_of numbers before) entry.cred entry.event)
 
 -- each byte of a file is what the last call that set it made of it
 abbrev pub LastWritten : Type 0

@@ -1,19 +1,14 @@
 -- What holds of the world that any legal list of calls leads to.
-use Rattle.std.specs.Prelude.{◌≡◌, ℕ, List, [], ◌∷◌, ◌++◌}
+use Rattle.std.specs.Prelude.{◌≡◌, ℕ, List, [], ◌∷◌}
 use Rattle.lfs_types.specs.Caller.{Caller}
-use Rattle.lfs_types.specs.Tree.{World, opening_world}
+use Rattle.lfs_types.specs.Tree.{World}
 use Rattle.lfs_types.specs.declared.answer.Answer.TheVariants.{Served, Denied, Refused}
 use Rattle.lfs_types.specs.declared.request.Request.{Request}
 use Rattle.lfs_model.specs.declared.journal.Entry.{Entry}
 use Rattle.lfs_model.specs.declared.journal.Event.{Event}
 use Rattle.lfs_model.specs.declared.journal.Event.TheVariants.{User, Cleaner}
-use Rattle.lfs_model.specs.World.{IsTree}
 use Rattle.lfs_model.specs.Runs.{users_alone}
-use Rattle.lfs_model.specs.Steps.{IsEvent, IsLegal, after_event, world_after, world_of}
-
--- the world is a tree: no two rows share parent and name, and each row's parents lead to the root
-abbrev pub StaysTree : Type 0
-StaysTree = (numbers segments : ℕ) (entries : List Entry) → IsLegal numbers segments entries opening_world → IsTree (world_of numbers entries).rows
+use Rattle.lfs_model.specs.Steps.{IsLegal, after_event, world_after}
 
 -- an event is a user's call of a kind, and was served
 abbrev pub IsServed : (Request → Type 0) → Event → Type 0
@@ -26,7 +21,8 @@ IsServed IsOne (Cleaner kind outcome) = ⊥
 abbrev pub NoneServed : (World → Caller → Request → Type 0) → ℕ → List Entry → World → Type 0
 NoneServed IsOne numbers [] w = Unit {0}
 NoneServed IsOne numbers (entry ∷ entries) w =
-    (IsServed (IsOne w entry.cred) entry.event → ⊥) × NoneServed IsOne numbers entries (after_event numbers w entry.cred entry.event)
+    (IsServed (IsOne w entry.cred) entry.event → ⊥)
+    × NoneServed IsOne numbers entries (after_event numbers w entry.cred entry.event)
 
 -- the entries without the cleaner's, the Syncs and those refused for a resource are legal between the same worlds
 abbrev pub UsersAlone : Type 0
@@ -35,11 +31,3 @@ UsersAlone =
     → IsLegal numbers segments entries w
     → IsLegal numbers segments (users_alone entries) w
     × (world_after numbers (users_alone entries) w ≡ world_after numbers entries w)
-
--- In a legal list of entries from the opening world each entry may happen in the world that those before it leave, which
--- is a tree: so what is said of each call in each tree holds of each entry.
-abbrev pub EachEntry : Type 0
-EachEntry =
-    (numbers segments : ℕ) (before : List Entry) (entry : Entry) (later : List Entry)
-    → IsLegal numbers segments (before ++ entry ∷ later) opening_world
-    → IsTree (world_of numbers before).rows × IsEvent numbers segments (world_of numbers before) entry.cred entry.event

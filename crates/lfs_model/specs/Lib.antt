@@ -3,6 +3,7 @@ pub mod Effects
 pub mod LawBetween
 pub mod LawBrought
 pub mod LawDenied
+pub mod LawEach
 pub mod LawFlagged
 pub mod LawGone
 pub mod LawLevel
@@ -16,7 +17,8 @@ pub mod LawSetId
 pub mod LawShown
 pub mod LawThere
 pub mod LawTrees
-pub mod LawsAccess
+pub mod LawUnread
+pub mod LawView
 pub mod LawsBytes
 pub mod LawsFlags
 pub mod LawsRuns

@@ -7,6 +7,7 @@ use Rattle.lfs_types.specs.declared.answer.Answer.{Answer}
 use Rattle.lfs_types.specs.declared.attrs.Attrs.{Attrs}
 use Rattle.lfs_types.specs.declared.attrs.Bit.TheVariants as bits
 use Rattle.lfs_types.specs.declared.request.Request.{Request}
+use Rattle.lfs_types.specs.declared.request.Request.TheVariants.{Stat, Read, Write, List as Names, SetLength, Create, Mkdir, Unlink, Rmdir, Rename, Chmod, Chown, Chflags, SetLevel, Sync}
 use Rattle.lfs_rules.specs.Bits.{has_bit}
 use Rattle.lfs_rules.specs.Locks.{is_immutable, is_append_only}
 use Rattle.lfs_rules.specs.Owners.{is_owner_or_superuser}
@@ -35,6 +36,11 @@ pub record Owns (rows : Rows) (caller : Caller) (n : ℕ) : Type 0 where
 abbrev pub is_fixed : Attrs → Bool
 is_fixed attrs = is_immutable attrs || is_append_only attrs
 
+-- A caller may change a row's mode, owner or group: he owns it, and it isn't fixed.
+pub record MayRetitle (rows : Rows) (caller : Caller) (n : ℕ) : Type 0 where
+  pub owns : Owns rows caller n
+  pub loose : is_fixed (attrs_at rows n) ≡ false
+
 -- A caller may take a row away from its parent: he reaches the row and may write the parent, neither is fixed, and
 -- if the parent is sticky, he is the superuser or the owner of one of the two.
 pub record MayTakeAway (rows : Rows) (caller : Caller) (n parent : ℕ) : Type 0 where
@@ -59,10 +65,33 @@ pub record LeadsTo (rows : Rows) (path : List (List ℕ)) (parent : ℕ) (name :
   pub split : front ++ name ∷ [] ≡ path
   pub leads : reached rows root front ≡ parent
 
--- what holds of each call in each tree: of the world before it, who called what, the answer, and the world after it
-abbrev pub EachCall : (ℕ → World → Caller → Request → Answer → World → Type 0) → Type 0
-EachCall Law =
+-- the paths of a call, in order: of a Rename two, of a SetLevel and a Sync none
+abbrev pub paths : Request → List (List (List ℕ))
+paths (Stat path) = path ∷ []
+paths (Read path off len) = path ∷ []
+paths (Names path) = path ∷ []
+paths (Write path place bytes) = path ∷ []
+paths (SetLength path len) = path ∷ []
+paths (Create path mode) = path ∷ []
+paths (Mkdir path mode) = path ∷ []
+paths (Unlink path) = path ∷ []
+paths (Rmdir path) = path ∷ []
+paths (Rename from to) = from ∷ to ∷ []
+paths (Chmod path mode) = path ∷ []
+paths (Chown path uid gid) = path ∷ []
+paths (Chflags path flags) = path ∷ []
+paths (SetLevel level) = []
+paths Sync = []
+
+-- what is said of a call: of how many inode numbers there are, the world before it, who called what, the answer, and
+-- the world after it
+abbrev pub Law : Type 1
+Law = ℕ → World → Caller → Request → Answer → World → Type 0
+
+-- it holds of each call in each tree
+abbrev pub EachCall : Law → Type 0
+EachCall law =
     (numbers : ℕ) (w : World) (caller : Caller) (request : Request) (answer : Answer)
     → IsTree w.rows
     → IsAnswer numbers w caller request answer
-    → Law numbers w caller request answer (after_answer numbers w caller request answer)
+    → law numbers w caller request answer (after_answer numbers w caller request answer)

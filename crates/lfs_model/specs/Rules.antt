@@ -109,38 +109,65 @@ abbrev pub position : ℕ → List ℕ → ℕ
 position n [] = 0
 position n (m ∷ ms) = if m == n then 0 else 1 + position n ms
 
+-- the tests of the directory that gets a new name, at component k of the path of this index; the name may be free in it
+abbrev pub making_tests : Caller → Bool → ℕ → Attrs → ℕ → List Check
+making_tests caller free path dir k =
+    asks (is_directory_kind dir.kind) IsDirectory path k
+    ∷ asks (grants_of caller dir bits.Search) GrantsSearch path k
+    ∷ asks free NameFree path (k + 1)
+    ∷ asks (not (is_immutable dir)) IsMutable path k
+    ∷ asks (grants_of caller dir bits.Write) GrantsWrite path k
+    ∷ []
+
 -- the tests of a call that gives a new name to a row, in the path of this index
 abbrev pub making : Rows → Caller → ℕ → List (List ℕ) → List Check
 making rows caller path names =
-    let dir = reached rows root (front names) in
-    let k = length (front names) in
+    let parents = front names in
+    let dir = reached rows root parents in
+    let free = is_none (child rows dir (last names)) in
     asks (not (length names == 0)) NameFree path 0
-    ∷ walk rows caller path 0 root (front names) ++
-    (asks (is_directory_row (map.get rows dir)) IsDirectory path k
-    ∷ asks (row_grants caller bits.Search (map.get rows dir)) GrantsSearch path k
-    ∷ asks (is_none (child rows dir (last names))) NameFree path (k + 1)
-    ∷ asks (not (is_immutable (attrs_at rows dir))) IsMutable path k
-    ∷ asks (row_grants caller bits.Write (map.get rows dir)) GrantsWrite path k
-    ∷ [])
+    ∷ walk rows caller path 0 root parents ++ making_tests caller free path (attrs_at rows dir) (length parents)
+
+-- the tests of a directory, at component k, and of what hangs in it, whose name is to be taken away
+abbrev pub removing_tests : Caller → Attrs → Attrs → ℕ → List Check
+removing_tests caller dir file k =
+    asks (not (is_immutable dir)) IsMutable 0 k
+    ∷ asks (grants_of caller dir bits.Write) GrantsWrite 0 k
+    ∷ asks (not (is_append_only dir)) IsNotAppendOnly 0 k
+    ∷ asks (not (is_barred caller dir file)) PassesSticky 0 (k + 1)
+    ∷ asks (not (is_immutable file)) IsMutable 0 (k + 1)
+    ∷ asks (not (is_append_only file)) IsNotAppendOnly 0 (k + 1)
+    ∷ []
 
 -- the tests of a call that takes away a name, up to those that a file and a directory differ in
 abbrev pub removing : Rows → Caller → List (List ℕ) → List Check
 removing rows caller names =
-    let dir = reached rows root (front names) in
-    let file = reached rows root names in
-    let k = length (front names) in
+    let dir = attrs_at rows (reached rows root (front names)) in
+    let file = attrs_at rows (reached rows root names) in
     asks (not (length names == 0)) IsNotRoot 0 0
-    ∷ walk rows caller 0 0 root (front names) ++
-    (asks (is_directory_row (map.get rows dir)) IsDirectory 0 k
-    ∷ asks (row_grants caller bits.Search (map.get rows dir)) GrantsSearch 0 k
-    ∷ asks (is_some (child rows dir (last names))) NameThere 0 (k + 1)
-    ∷ asks (not (is_immutable (attrs_at rows dir))) IsMutable 0 k
-    ∷ asks (row_grants caller bits.Write (map.get rows dir)) GrantsWrite 0 k
-    ∷ asks (not (is_append_only (attrs_at rows dir))) IsNotAppendOnly 0 k
-    ∷ asks (not (is_barred caller (attrs_at rows dir) (attrs_at rows file))) PassesSticky 0 (k + 1)
-    ∷ asks (not (is_immutable (attrs_at rows file))) IsMutable 0 (k + 1)
-    ∷ asks (not (is_append_only (attrs_at rows file))) IsNotAppendOnly 0 (k + 1)
-    ∷ [])
+    ∷ walk rows caller 0 0 root names ++ removing_tests caller dir file (length (front names))
+
+-- the test of what an Unlink removes
+abbrev pub unlink_tests : Attrs → ℕ → List Check
+unlink_tests file k = asks (not (is_directory_kind file.kind)) IsNoDirectory 0 k ∷ []
+
+-- the tests of what a Rmdir removes, which may be empty
+abbrev pub rmdir_tests : Bool → Attrs → ℕ → List Check
+rmdir_tests empty dir k =
+    asks (is_directory_kind dir.kind) IsDirectory 0 k
+    ∷ asks empty IsEmpty 0 k
+    ∷ []
+
+-- the test of a row and of the rows on the way to its new place
+abbrev pub apart_test : Rows → ℕ → List (List ℕ) → Check
+apart_test rows moved names =
+    let way = visited rows root (front names) in
+    asks (not (list_any (λ n. n == moved) way)) IsNotBeneathItself 1 (position moved way)
+
+-- the test of what is moved, which may stay in its directory
+abbrev pub leaves_test : Caller → Bool → Attrs → ℕ → Check
+leaves_test caller stays file k =
+    asks (not (is_directory_kind file.kind) || stays || grants_of caller file bits.Write) GrantsWrite 0 k
 
 -- the tests of what a path leads to: the walk, and tests of its attributes at the last component
 abbrev pub reaching : Rows → Caller → List (List ℕ) → (Attrs → ℕ → List Check) → List Check
@@ -228,22 +255,16 @@ rule_table w caller (SetLength path len) = reaching w.rows caller path (length_t
 rule_table w caller (Create path mode) = making w.rows caller 0 path
 rule_table w caller (Mkdir path mode) = making w.rows caller 0 path
 rule_table w caller (Unlink path) =
-    removing w.rows caller path ++
-    (asks (not (is_directory_row (map.get w.rows (reached w.rows root path)))) IsNoDirectory 0 (length path)
-    ∷ [])
+    removing w.rows caller path ++ unlink_tests (attrs_at w.rows (reached w.rows root path)) (length path)
 rule_table w caller (Rmdir path) =
     let dir = reached w.rows root path in
-    removing w.rows caller path ++
-    (asks (is_directory_row (map.get w.rows dir)) IsDirectory 0 (length path)
-    ∷ asks (length (children w.rows dir) == 0) IsEmpty 0 (length path)
-    ∷ [])
+    removing w.rows caller path ++ rmdir_tests (length (children w.rows dir) == 0) (attrs_at w.rows dir) (length path)
 rule_table w caller (Rename from to) =
     let moved = reached w.rows root from in
-    let way = visited w.rows root (front to) in
     let stays = reached w.rows root (front from) == reached w.rows root (front to) in
     removing w.rows caller from ++ (making w.rows caller 1 to ++
-    (asks (not (list_any (λ n. n == moved) way)) IsNotBeneathItself 1 (position moved way)
-    ∷ asks (not (is_directory_row (map.get w.rows moved)) || stays || row_grants caller bits.Write (map.get w.rows moved)) GrantsWrite 0 (length from)
+    (apart_test w.rows moved to
+    ∷ leaves_test caller stays (attrs_at w.rows moved) (length from)
     ∷ []))
 rule_table w caller (Chmod path mode) = reaching w.rows caller path (chmod_tests caller)
 rule_table w caller (Chown path uid gid) = reaching w.rows caller path (chown_tests caller uid gid)

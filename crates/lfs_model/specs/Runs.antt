@@ -1,5 +1,5 @@
 -- What calls and runs of calls leave of the journal.
-use Rattle.std.specs.Prelude.{◌≡◌, ◌↔◌, ℕ, ◌+◌, ◌≤◌, Bool, List, [], ◌∷◌, ◌++◌, length, Option, None, Some, option_map}
+use Rattle.std.specs.Prelude.{◌≡◌, ℕ, ◌+◌, ◌≤◌, List, [], ◌∷◌, ◌++◌, Option, None, Some}
 use Rattle.lfs_types.specs.Caller.{Caller}
 use Rattle.lfs_types.specs.declared.answer.Answer.{Answer}
 use Rattle.lfs_types.specs.declared.answer.Answer.TheVariants.{Served, Denied, Refused}
@@ -8,36 +8,16 @@ use Rattle.lfs_types.specs.declared.request.Request.{Request}
 use Rattle.lfs_types.specs.declared.request.Request.TheVariants.{Sync}
 use Rattle.lfs_model.specs.declared.journal.Call.{Call}
 use Rattle.lfs_model.specs.declared.journal.Entry.{Entry}
-use Rattle.lfs_model.specs.declared.journal.CleanerAnswer.{CleanerAnswer}
-use Rattle.lfs_model.specs.declared.journal.CleanerAnswer.TheVariants as cleaner
-use Rattle.lfs_model.specs.declared.journal.CleanerKind.{CleanerKind}
 use Rattle.lfs_model.specs.declared.journal.CleanerKind.TheVariants.{Segclean}
-use Rattle.lfs_model.specs.declared.journal.CleanerOutcome.{CleanerOutcome}
 use Rattle.lfs_model.specs.declared.journal.CleanerOutcome.TheVariants as outcomes
 use Rattle.lfs_model.specs.declared.journal.Event.{Event}
 use Rattle.lfs_model.specs.declared.journal.Event.TheVariants.{User, Cleaner}
-use Rattle.lfs_model.specs.Memory.{MayLackMemory}
 
 -- the event of a user's call that was answered so: none where memory or the journal's room ran out
 abbrev pub user_event : Request → Answer → Option Event
 user_event request (Refused NoMemory) = None
 user_event request (Refused JournalFull) = None
 user_event request answer = Some (User request answer)
-
--- what the journal tells of a cleaner's answer: nothing where memory or the journal's room ran out
-abbrev pub outcome_of : CleanerAnswer → Option CleanerOutcome
-outcome_of (cleaner.Refused resource) = None
-outcome_of (cleaner.Denied denial) = Some outcomes.Denied
-outcome_of (cleaner.Fault fault) = Some (outcomes.Fault fault)
-outcome_of (cleaner.Ifile bytes) = Some (outcomes.Done (length bytes))
-outcome_of (cleaner.Infos infos) = Some (outcomes.Done (length infos))
-outcome_of (cleaner.Bmapv infos) = Some (outcomes.Done (length infos))
-outcome_of (cleaner.Marked count) = Some (outcomes.Done count)
-outcome_of cleaner.Cleaned = Some (outcomes.Done 0)
-
--- the event of a cleaner's call that was answered so
-abbrev pub cleaner_event : CleanerKind → CleanerAnswer → Option Event
-cleaner_event kind answer = option_map (Cleaner kind) (outcome_of answer)
 
 -- the entry of an event of a session, if there is one
 abbrev pub entry_of : ℕ → Caller → Option Event → List Entry
@@ -59,17 +39,6 @@ abbrev pub IsUnserved : Answer → Type 0
 IsUnserved (Served shown) = ⊥
 IsUnserved (Denied denial) = Unit {0}
 IsUnserved (Refused resource) = Unit {0}
-
--- Answers to calls made one after another on a journal: JournalFull exactly where it has its limit by then, and
--- NoMemory only at a call that may lack memory.
-abbrev pub AreAnswers : ℕ → Bool → List Entry → List Call → List Answer → Type 0
-AreAnswers limit can_lack journal [] [] = Unit {0}
-AreAnswers limit can_lack journal [] (answer ∷ answers) = ⊥
-AreAnswers limit can_lack journal (call ∷ calls) [] = ⊥
-AreAnswers limit can_lack journal (call ∷ calls) (answer ∷ answers) =
-    ((answer ≡ Refused JournalFull) ↔ (length journal ≡ limit))
-    × (answer ≡ Refused NoMemory → MayLackMemory can_lack call.request)
-    × AreAnswers limit can_lack (journal ++ kept_entry call.session call.cred call.request answer) calls answers
 
 -- ---- users alone
 

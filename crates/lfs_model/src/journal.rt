@@ -1,5 +1,7 @@
 //! What was asked and answered.
 
+ghost use Rattle.std.specs.Prelude.{◌≡◌, ◌↔◌, IsTrue};
+
 use lfs_types::answer::{Answer, Resource};
 use lfs_types::cleaner::{CleanFault, InfoList};
 use lfs_types::cred::Cred;
@@ -73,6 +75,21 @@ pub struct Entry {
     pub cred: Cred,
     /// The call and its answer.
     pub event: Event,
+}
+
+impl Entry {
+    /// Whether it is the entry of this user's call with this answer.
+    pub fn is_call(&self, session: u8, cred: &Cred, request: &Request, answer: &Answer) -> bool
+        ensures { IsTrue result ↔ (self.now ≡ record { session = session; cred = cred.now; event = Event.User request.now answer.now }) }
+    {
+        if self.session != session || self.cred != *cred {
+            return false;
+        }
+        match &self.event {
+            Event::User(asked, answered) => asked == request && answered == answer,
+            Event::Cleaner(_, _) => false,
+        }
+    }
 }
 
 /// A user's call that a run makes.

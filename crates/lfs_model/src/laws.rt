@@ -4,6 +4,7 @@
 ghost use Rattle.lfs_model.specs.LawBetween.{BytesBetween, PlaceBetween};
 ghost use Rattle.lfs_model.specs.LawBrought.{DecidesAlike};
 ghost use Rattle.lfs_model.specs.LawDenied.{TellsLittle};
+ghost use Rattle.lfs_model.specs.LawEach.{EachEntry};
 ghost use Rattle.lfs_model.specs.LawFlagged.{Reflagged};
 ghost use Rattle.lfs_model.specs.LawGone.{Gone};
 ghost use Rattle.lfs_model.specs.LawLevel.{Relevelled};
@@ -17,70 +18,75 @@ ghost use Rattle.lfs_model.specs.LawSetId.{LosesSetIds};
 ghost use Rattle.lfs_model.specs.LawShown.{Shown};
 ghost use Rattle.lfs_model.specs.LawThere.{FindsRows};
 ghost use Rattle.lfs_model.specs.LawTrees.{LeavesTree};
-ghost use Rattle.lfs_model.specs.LawsAccess.{NobodyReads, AnswersAlike, UnservedLeaves, NobodyChanges, OwnersMove};
+ghost use Rattle.lfs_model.specs.LawUnread.{NobodyReads};
+ghost use Rattle.lfs_model.specs.LawView.{View};
 ghost use Rattle.lfs_model.specs.LawsBytes.{LastWritten};
-ghost use Rattle.lfs_model.specs.LawsFlags.{InitLowers, ImmutableStays, AppendOnlyGrows, SystemImmutableStays, SystemAppendOnlyGrows};
-ghost use Rattle.lfs_model.specs.LawsRuns.{EachEntry, StaysTree, UsersAlone};
+ghost use Rattle.lfs_model.specs.LawsFlags.{ImmutableStays, AppendOnlyGrows, SystemImmutableStays, SystemAppendOnlyGrows};
+ghost use Rattle.lfs_model.specs.LawsRuns.{UsersAlone};
+ghost use Rattle.lfs_model.specs.Rights.{EachCall};
 
 /// A file or a directory is gone only by the Unlink of a file or the Rmdir of an empty directory, at the call's path, of
 /// a caller who may take it away: who reaches it and may write its parent, neither of them fixed by a flag, and who is
 /// user 0 or the owner of one of the two where the parent is sticky.
 pub fn gone()
-    ensures { Gone }
+    ensures { EachCall Gone }
 {}
 
 /// A new row is made by a Create or a Mkdir, at the call's path, of a caller who may place it there. Its number is the
-/// least that no row has, its owner the caller, its group the parent's; it has the call's mode, no flags and no bytes.
+/// least from 4 up that no row has, its owner the caller, its group the parent's; it has the call's mode, no flags and no
+/// bytes.
 pub fn new()
-    ensures { New }
+    ensures { EachCall New }
 {}
 
 /// A row gets another parent or another name only by a Rename from its path, of a caller who may take it away and may
 /// place it where the call says. A directory that gets another parent grants the caller write.
 pub fn moved()
-    ensures { Moved }
+    ensures { EachCall Moved }
 {}
 
-/// The bytes of a file change only by a Write or a SetLength at its path, of a caller who may write it. Each byte is the
-/// one that the call brings there, else the old one, else 0; what is append-only keeps its bytes, followed by just those
-/// that the call brings.
+/// The bytes of a file change only by a Write or a SetLength at its path, of a caller who may write it. They are then as
+/// many as the call says, and no more than a file may have, if it didn't have more before; each is the one that the call
+/// brings there, else the old one, else 0. An append-only file changes only by a Write to its end, and keeps its bytes,
+/// followed by just those that the call brings.
 pub fn rewritten()
-    ensures { Rewritten }
+    ensures { EachCall Rewritten }
 {}
 
 /// A mode changes only by a Chmod at the row's path, of its owner or user 0 who reaches it, where no flag fixes it; or it
-/// loses its set-id bits by a caller other than user 0, who owns the row so or may write the file.
+/// loses just its set-id bits by a call of another than user 0 at the row's path: a Chown of whoever owns the row so, or
+/// a Write or a SetLength of whoever may write the file; of an append-only file only a Write to its end.
 pub fn remoded()
-    ensures { Remoded }
+    ensures { EachCall Remoded }
 {}
 
 /// An owner or a group changes only by a Chown at the row's path, where no flag fixes it, of user 0 or of the owner, who
 /// keeps the owner and gives one of his groups.
 pub fn given()
-    ensures { Given }
+    ensures { EachCall Given }
 {}
 
 /// Flags change only by a Chflags at the row's path, of its owner or user 0 who reaches it. The system's flags, and all
 /// flags of what is locked by them, change only by user 0; above level 0 no lock of the system is turned off.
 pub fn reflagged()
-    ensures { Reflagged }
+    ensures { EachCall Reflagged }
 {}
 
 /// Where the bytes, the owner or the group of a row changed and the caller isn't user 0, the row has no set-id bits.
 pub fn set_ids()
-    ensures { LosesSetIds }
+    ensures { EachCall LosesSetIds }
 {}
 
 /// The securelevel changes only by a SetLevel of user 0 to the call's level, and falls only by init.
 pub fn relevelled()
-    ensures { Relevelled }
+    ensures { EachCall Relevelled }
 {}
 
 /// A call changes one thing at most: one row, or the securelevel. Of a row that stays it changes only its bytes, or its
 /// parent and name, or its mode, or its owner and group, or its flags; set-id bits may go with bytes, owner or group. A
 /// Stat, a Read, a List, a Sync, and a call that isn't served change nothing.
 pub fn one_thing()
-    ensures { OneThing }
+    ensures { EachCall OneThing }
 {}
 
 /// Where the rules allow a call, the row at its path is there, and so is the directory in which it puts a name.
@@ -102,26 +108,37 @@ pub fn decides_alike()
     ensures { DecidesAlike }
 {}
 
+/// Two trees in which a caller has the same view of a call decide it alike, and where they allow it, answer it alike. The
+/// view is the level; along each path of the call what a Stat shows of each row, or that none is there, up to and
+/// including the first that is no directory which grants him search; and for a Read or a List of a row that he reaches
+/// and that grants him read, its bytes or its children's names. One thing more an Rmdir tells: whether the directory that
+/// it would remove is empty. This says nothing of refusals for want of a resource, nor of the number of a new row.
+pub fn same_view()
+    ensures { View }
+{}
+
 /// Each call leaves a tree where it found one.
 pub fn leaves_tree()
-    ensures { LeavesTree }
+    ensures { EachCall LeavesTree }
 {}
 
 /// A Stat, a Read or a List shows the row at the call's path, which the caller reaches: a Stat its attributes, a Read
-/// bytes of a file that grants the caller read, a List the names in a directory that grants him read, in byte order. No
-/// other call shows anything.
+/// bytes of a file that grants the caller read, a List exactly the names in a directory that grants him read, each once,
+/// in byte order. No other call shows anything.
 pub fn shown()
-    ensures { Shown }
+    ensures { EachCall Shown }
 {}
 
-/// In each legal list of entries from a fresh volume's tree, each call is made in a tree and may be answered as it was: so
-/// each law of one call holds of each entry and the trees before and after it.
+/// Through each legal list of entries from a fresh volume's tree each entry may happen where it stands; before and after
+/// it there is a tree in which no file is longer than a file may be; a user's call meets each of the laws of what one
+/// call changes and shows, and a cleaner's call changes nothing.
 pub fn each_entry()
     ensures { EachEntry }
 {}
 
-/// A row that has other bytes, or hangs elsewhere or under another name, at a later point of a run was changed so in
-/// between by an entry whose caller might do so then; or the row was removed in between by one who might.
+/// Where a row has other bytes, or hangs elsewhere or under another name, at a later point of a run, a call in between was
+/// served that changed its bytes, or its place, and whose caller might do so then; or one that removed the row, of a
+/// caller who might remove it.
 pub fn changed_between()
     ensures bytes { BytesBetween }
     ensures place { PlaceBetween }
@@ -133,34 +150,10 @@ pub fn users_alone()
     ensures { UsersAlone }
 {}
 
-/// Whoever isn't granted to read a file learns nothing of its bytes but how many they are: with other bytes in it,
-/// each call of this caller is decided alike and may be answered alike.
+/// Whoever isn't granted to read a file learns nothing of its bytes but how many they are: with other bytes in it, each
+/// answer that a call of his may have it may have still, a refusal for want of a resource too.
 pub fn nobody_reads()
-    ensures decided { NobodyReads }
-    ensures answered { AnswersAlike }
-{}
-
-/// A call that is denied, or refused for want of a resource, changes nothing.
-pub fn denied_leaves()
-    ensures { UnservedLeaves }
-{}
-
-/// Whoever is granted to write neither a file nor the directory that it hangs in can't change its bytes, take it from
-/// this directory or give it another name. Its owner may still set its mode, its group and its flags; others nothing.
-pub fn nobody_changes()
-    ensures { NobodyChanges }
-{}
-
-/// What hangs in a sticky directory is removed, renamed or moved away only by user 0, by its owner or by the
-/// directory's owner.
-pub fn sticky()
-    ensures { OwnersMove }
-{}
-
-/// Whatever was called, the files are a tree: each name in a directory leads to one file, each file hangs in one
-/// directory, and from the root every file can be reached.
-pub fn tree()
-    ensures { StaysTree }
+    ensures { NobodyReads }
 {}
 
 /// Each byte of a file is what the last call that set it made of it: a Write that covers the byte puts its own there;
@@ -169,25 +162,20 @@ pub fn last_written()
     ensures { LastWritten }
 {}
 
-/// The securelevel falls only by a call of user 0 as init.
-pub fn level_falls_by_init()
-    ensures { InitLowers }
-{}
-
 /// An immutable file or directory stays in its directory with its name, its bytes and its attributes, whatever is
 /// called, until its flags are set.
 pub fn immutable_stays()
     ensures { ImmutableStays }
 {}
 
-/// An append-only file stays in its directory with its name, its owner and its group, its bytes stay in front of those
-/// that it gets, and its size never falls, whatever is called, until its flags are set.
+/// An append-only file stays in its directory with its name, its owner, its group and, but for the set-id bits, its mode;
+/// its bytes stay in front of those that it gets, and its size never falls, whatever is called, until its flags are set.
 pub fn append_only_grows()
     ensures { AppendOnlyGrows }
 {}
 
 /// Above level 0 nothing turns SF_IMMUTABLE or SF_APPEND off: what has the one keeps it and all but its other flags,
-/// and what has the other keeps it and only grows, whatever is called, until init lowers the level.
+/// and what has the other keeps it and only grows, whatever is called, until init lets the level fall to 0 or below.
 pub fn system_locks_stay()
     ensures immutable { SystemImmutableStays }
     ensures append_only { SystemAppendOnlyGrows }

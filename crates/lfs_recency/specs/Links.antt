@@ -39,9 +39,6 @@ with_next fs i p = slice_set fs i (record (frame_at fs i) { next = p })
 abbrev pub with_prev : List Frame → ℕ → Ptr → List Frame
 with_prev fs i p = slice_set fs i (record (frame_at fs i) { prev = p })
 
-abbrev pub with_queue : List Frame → ℕ → Queue → List Frame
-with_queue fs i q = slice_set fs i (record (frame_at fs i) { queue = q })
-
 -- where the head of a queue stands, after n frames
 abbrev pub head_of : ℕ → Queue → ℕ
 head_of n Locked = n

@@ -1,11 +1,2 @@
-pub mod FaultLemmas
-pub mod FlagDigits
-pub mod GroupLists
-pub mod HexDigits
-pub mod InfoLemmas
-pub mod LevelWords
-pub mod LineCuts
-pub mod Numerals
 pub mod PlanLemmas
 pub mod SplitLemmas
-pub mod WordLists

@@ -1,17 +1,21 @@
 -- A plan grows line by line.
-use Rattle.std.proofs.Common.{◌≡◌, ℕ, ◌+◌, ◌<◌, ◌≤◌, ◌==◌, Bool, true, false, cond, List, [], ◌∷◌, length, Result, Ok, Err, refl, ap, arith}
+use Rattle.std.proofs.Common.{◌≡◌, ℕ, zero, suc, ◌+◌, ◌-◌, ◌<◌, ◌≤◌, ◌==◌, Bool, true, false, cond, List, [], ◌∷◌, length, drop, get_or, Result, Ok, Err, refl, sym, ap, ◌∙◌, arith}
 use Rattle.std.specs.List.{All, count_by}
 use Rattle.std.specs.Result.{IfErr}
 use Rattle.std.proofs.lemmas.Bool.{ne_eqb}
+use Rattle.std.proofs.lemmas.List.{length-drop}
 use Rattle.std.proofs.lemmas.List.Splits.{slice_split_at, slice_split_none, length-slice_split}
-use Rattle.lfs_text.specs.Lines.{HasNoLineFeed, IsFirstLine}
-use Rattle.lfs_text.specs.PlanTypes.{Drafted, Planned}
+use Rattle.lfs_words.specs.Lines.{HasNoLineFeed, IsFirstLine}
+use Rattle.lfs_words.specs.Lines.{is_printable}
+use Rattle.lfs_text.specs.Parsing.{BeginsReadable, IsReadable}
+use Rattle.lfs_text.specs.PlanTypes.{AreWithin, Drafted, Planned}
 use Rattle.lfs_text.specs.Plans.{added, at_line, line_said, lines_of, plan_from, planned}
-use Rattle.lfs_text.specs.Wording.{is_bare}
-use Rattle.lfs_text.specs.declared.fault.FaultKind.{FaultKind}
-use Rattle.lfs_text.specs.declared.fault.FaultKind.TheVariants.{Cut}
+use Rattle.lfs_words.specs.Wording.{is_bare}
+use Rattle.lfs_words.specs.declared.fault.FaultKind.{FaultKind}
+use Rattle.lfs_words.specs.declared.fault.FaultKind.TheVariants.{Cut}
 use Rattle.lfs_text.specs.declared.fault.ScriptFault.{ScriptFault}
 use Rattle.lfs_text.specs.declared.plan.Line.{Line}
+use Rattle.lfs_text.specs.declared.plan.Step.{Step}
 
 abbrev feed : ℕ → Bool
 feed b = b == 10
@@ -19,14 +23,62 @@ feed b = b == 10
 abbrev fault_at : ℕ → FaultKind → ScriptFault
 fault_at n kind = record { line = n; kind = kind }
 
+positive : (n : ℕ) → (n == 0) ≡ false → 0 < n
+positive zero e = absurd (cc)
+positive (suc n) e = omega arith
+
 no_feeds : (line : List ℕ) → HasNoLineFeed line → All (λ b. feed b ≡ false) line
 no_feeds line none = λ k d lt. ne_eqb _ _ (none k d lt)
 
-lines_first : (text line rest : List ℕ) → IsFirstLine text line rest → lines_of text ≡ line ∷ lines_of rest
+pub lines_first : (text line rest : List ℕ) → IsFirstLine text line rest → lines_of text ≡ line ∷ lines_of rest
 lines_first text line rest cut = rw cut.whole (slice_split_at feed line 10 rest (no_feeds line cut.first) refl)
 
 lines_some : (text : List ℕ) → (length (lines_of text) == 0) ≡ false
 lines_some text = rw (length-slice_split feed text) (ne_eqb (count_by feed text + 1) 0 (λ e. omega arith))
+
+-- the first line of a text that is printable
+pub begins : (text line rest : List ℕ) → IsFirstLine text line rest → is_printable line ≡ true → BeginsReadable text
+begins text line rest cut printable =
+    let some : (length (lines_of rest) == 0) ≡ false = lines_some rest in
+    record {
+      first = line;
+      more = lines_of rest;
+      lines = lines_first text line rest cut;
+      ended = positive (length (lines_of rest)) some;
+      printable = printable;
+    }
+
+behind_first : (all : List (List ℕ)) (n : ℕ) (first : List ℕ) (rest : List (List ℕ)) → drop n all ≡ first ∷ rest → drop (suc n) all ≡ rest
+behind_first all zero first rest e = rw e refl
+behind_first [] (suc n) first rest e = absurd (cc)
+behind_first (x ∷ all) (suc n) first rest e = behind_first all n first rest e
+
+-- the lines behind the first of those that are left
+pub next_lines : (text rest behind first : List ℕ) (n : ℕ) → drop n (lines_of text) ≡ lines_of rest → lines_of rest ≡ first ∷ lines_of behind → drop (n + 1) (lines_of text) ≡ lines_of behind
+next_lines text rest behind first n left split =
+    let one : n + 1 ≡ suc n = omega arith in
+    rw one (behind_first (lines_of text) n first (lines_of behind) (left ∙ split))
+
+at_drop : (all : List (List ℕ)) (n : ℕ) (first : List ℕ) (rest : List (List ℕ)) → drop n all ≡ first ∷ rest → get_or all n [] ≡ first
+at_drop all zero first rest e = rw e refl
+at_drop [] (suc n) first rest e = absurd (cc)
+at_drop (x ∷ all) (suc n) first rest e = at_drop all n first rest e
+
+-- the first line of what is left is a line of the text
+pub readable : (text rest : List ℕ) (n : ℕ) → drop n (lines_of text) ≡ lines_of rest → BeginsReadable rest → IsReadable text (n + 1)
+readable text rest n left begun =
+    let behind : drop n (lines_of text) ≡ begun.first ∷ begun.more = left ∙ begun.lines in
+    let here : n + 1 - 1 ≡ n = omega arith in
+    let count : length (lines_of text) - n ≡ suc (length begun.more) = sym (length-drop n (lines_of text)) ∙ ap length behind in
+    record {
+      counted = omega arith;
+      ended = omega (arith, count, begun.ended);
+      printable = rw (here, at_drop (lines_of text) n begun.first begun.more behind) begun.printable;
+    }
+
+-- a higher session bounds the sessions of steps too
+pub within_higher : (steps : List Step) (low high : ℕ) → low ≤ high → AreWithin steps low → AreWithin steps high
+within_higher steps low high le within = λ k d lt. let at = within k d lt in omega arith
 
 -- the first line is taken
 pub plan_step : (n : ℕ) (draft : Drafted) (text line rest : List ℕ) → IsFirstLine text line rest → plan_from n draft (lines_of text) ≡ at_line n (line_said line) (λ said. plan_from (n + 1) (added draft said) (lines_of rest))

@@ -12,8 +12,8 @@ use Rattle.lfs_types.specs.declared.attrs.Attrs.{Attrs}
 use Rattle.lfs_types.specs.declared.attrs.Kind.{Kind}
 use Rattle.lfs_types.specs.declared.attrs.Kind.TheVariants.{File, Directory}
 use Rattle.lfs_types.specs.declared.rule.Denial.{Denial}
-use Rattle.lfs_text.specs.BytesText.{bytes_text}
-use Rattle.lfs_text.specs.NameText.{flags_text, mode_text, name_text}
+use Rattle.lfs_words.specs.BytesText.{bytes_text}
+use Rattle.lfs_words.specs.NameText.{flags_text, mode_text, name_text}
 
 -- words, each behind a space
 abbrev pub spaced : List (List ℕ) → List ℕ

@@ -1,54 +1,14 @@
 -- What the words of cleaner calls ask.
-use Rattle.std.specs.Prelude.{ℕ, ◌==◌, ◌&&◌, nat_lt, List, [], ◌∷◌, length, Result, Ok, Err, if◌then◌else◌}
-use Rattle.std.specs.List.{slice_split}
+use Rattle.std.specs.Prelude.{ℕ, List, Result, Ok}
 use Rattle.lfs_model.specs.declared.journal.CleanerKind.{CleanerKind}
 use Rattle.lfs_model.specs.declared.journal.CleanerKind.TheVariants as kind
-use Rattle.lfs_types.specs.declared.cleaner.BlockInfo.{BlockInfo}
 use Rattle.lfs_types.specs.declared.cleaner.CleanerCall.{CleanerCall}
 use Rattle.lfs_types.specs.declared.cleaner.CleanerCall.TheVariants.{Ifile, Infos, Bmapv, Markv, Segclean}
-use Rattle.lfs_text.specs.Callers.{is_decimal}
-use Rattle.lfs_text.specs.Faults.{◌>>=◌}
-use Rattle.lfs_text.specs.Requests.{short_of}
-use Rattle.lfs_text.specs.Wording.{no_word, one_word}
-use Rattle.lfs_text.specs.declared.fault.FaultKind.{FaultKind}
-use Rattle.lfs_text.specs.declared.fault.FaultKind.TheVariants.{Many, Number}
-
--- the parts of an info
-abbrev pub info_parts : List ℕ → List (List ℕ)
-info_parts word = slice_split (λ b. b == 58) word
-
--- the info of four parts, number, version, logical block and address: that each is a decimal is asked before any range
-abbrev pub info_from : List ℕ → List ℕ → List ℕ → List ℕ → Result BlockInfo FaultKind
-info_from first second third fourth =
-    if is_decimal first && is_decimal second && is_decimal third && is_decimal fourth then
-    (short_of first >>= (λ ino. short_of second >>= (λ version. short_of third >>= (λ lbn. short_of fourth >>= (λ addr.
-    Ok (record { ino = ino; version = version; lbn = lbn; addr = addr }))))))
-    else Err Number
-
--- the info of parts that are to be four
-abbrev pub info_of_parts : List (List ℕ) → Result BlockInfo FaultKind
-info_of_parts [] = Err Number
-info_of_parts (first ∷ []) = Err Number
-info_of_parts (first ∷ second ∷ []) = Err Number
-info_of_parts (first ∷ second ∷ third ∷ []) = Err Number
-info_of_parts (first ∷ second ∷ third ∷ fourth ∷ []) = info_from first second third fourth
-info_of_parts (first ∷ second ∷ third ∷ fourth ∷ fifth ∷ more) = Err Number
-
--- the info that a word spells
-abbrev pub info_of : List ℕ → Result BlockInfo FaultKind
-info_of word = info_of_parts (info_parts word)
-
--- infos, one a word
-unfoldable pub infos_of : List (List ℕ) → Result (List BlockInfo) FaultKind
-infos_of [] = Ok []
-infos_of (word ∷ words) = do
-  info ← info_of word
-  infos ← infos_of words
-  Ok (info ∷ infos)
-
--- at most `most` infos
-abbrev pub infos_within : ℕ → List (List ℕ) → Result (List BlockInfo) FaultKind
-infos_within most words = if nat_lt most (length words) then Err Many else infos_of words
+use Rattle.lfs_words.specs.Faults.{◌>>=◌}
+use Rattle.lfs_words.specs.Infos.{infos_within}
+use Rattle.lfs_words.specs.Numbers.{short_of}
+use Rattle.lfs_words.specs.Wording.{no_word, one_word}
+use Rattle.lfs_words.specs.declared.fault.FaultKind.{FaultKind}
 
 -- a segment
 abbrev pub segment_of : List (List ℕ) → Result ℕ FaultKind

@@ -1,5 +1,6 @@
 -- Plans as contracts see them.
-use Rattle.std.specs.Prelude.{ℕ, List}
+use Rattle.std.specs.Prelude.{ℕ, ◌≤◌, List}
+use Rattle.std.specs.List.{All}
 use Rattle.lfs_types.specs.Caller.{Caller}
 use Rattle.lfs_text.specs.declared.plan.Step.{Step}
 
@@ -7,6 +8,10 @@ use Rattle.lfs_text.specs.declared.plan.Step.{Step}
 pub record Planned : Type 0 where
   pub steps : List Step
   pub sessions : ℕ
+
+-- no step is of a session above this one
+abbrev pub AreWithin : List Step → ℕ → Type 0
+AreWithin steps highest = All (λ step. step.session ≤ highest) steps
 
 -- the plan of some lines, and the session and the caller of the lines that follow
 pub record Drafted : Type 0 where

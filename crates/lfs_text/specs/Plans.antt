@@ -1,16 +1,17 @@
 -- The plan of a script: a function of its text.
-use Rattle.std.specs.Prelude.{ℕ, ◌+◌, ◌==◌, ◌&&◌, nat_le, max, Bool, true, false, List, [], ◌∷◌, ◌++◌, length, Option, None, Some, Result, Ok, Err, if◌then◌else◌}
-use Rattle.std.specs.List.{list_all, list_any, slice_split}
-use Rattle.lfs_text.specs.Callers.{caller_said}
+use Rattle.std.specs.Prelude.{ℕ, ◌+◌, ◌==◌, max, false, List, [], ◌∷◌, ◌++◌, length, Option, None, Some, Result, Ok, Err, if◌then◌else◌}
+use Rattle.std.specs.List.{list_any, slice_split}
+use Rattle.lfs_words.specs.Callers.{caller_said}
 use Rattle.lfs_text.specs.CleanerCalls.{cleaner_said}
-use Rattle.lfs_text.specs.Faults.{◌>>=◌}
-use Rattle.lfs_text.specs.Numbers.{number_of}
+use Rattle.lfs_words.specs.Faults.{◌>>=◌}
+use Rattle.lfs_words.specs.Lines.{is_printable, is_skipped}
+use Rattle.lfs_words.specs.Numbers.{number_of}
 use Rattle.lfs_text.specs.PlanTypes.{Drafted, Planned}
 use Rattle.lfs_text.specs.Requests.{request_said}
 use Rattle.lfs_text.specs.Verbs.{verb_of}
-use Rattle.lfs_text.specs.Wording.{is_bare, no_word, one_word, words_of}
-use Rattle.lfs_text.specs.declared.fault.FaultKind.{FaultKind}
-use Rattle.lfs_text.specs.declared.fault.FaultKind.TheVariants as fault
+use Rattle.lfs_words.specs.Wording.{is_bare, no_word, one_word, words_of}
+use Rattle.lfs_words.specs.declared.fault.FaultKind.{FaultKind}
+use Rattle.lfs_words.specs.declared.fault.FaultKind.TheVariants as fault
 use Rattle.lfs_text.specs.declared.fault.ScriptFault.{ScriptFault}
 use Rattle.lfs_text.specs.declared.plan.Act.TheVariants.{User, Cleaner, Pass}
 use Rattle.lfs_text.specs.declared.plan.Line.{Line}
@@ -46,15 +47,6 @@ verb_found (Some verb) words = verb_said verb words
 abbrev pub words_said : List (List ℕ) → Result Line FaultKind
 words_said [] = Err fault.Words
 words_said (first ∷ words) = verb_found (verb_of first) words
-
--- an empty line and a comment say nothing
-abbrev pub is_skipped : List ℕ → Bool
-is_skipped [] = true
-is_skipped (c ∷ cs) = c == 35
-
--- whether every byte is from a space to a tilde
-abbrev pub is_printable : List ℕ → Bool
-is_printable line = list_all (λ b. nat_le 32 b && nat_le b 126) line
 
 -- what a line says, which is given without its line feed, or its first fault
 unfoldable pub line_said : List ℕ → Result Line FaultKind

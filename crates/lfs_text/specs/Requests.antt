@@ -1,33 +1,21 @@
 -- What the words of users' calls ask.
-use Rattle.std.specs.Prelude.{ℕ, ◌-◌, ◌^◌, List, [], ◌∷◌, codes, Option, None, Some, Result, Ok, Err, if◌then◌else◌}
+use Rattle.std.specs.Prelude.{ℕ, List, [], ◌∷◌, codes, Option, None, Some, Result, Ok, Err, if◌then◌else◌}
 use Rattle.std.specs.Str.{bytes_eq}
 use Rattle.lfs_types.specs.declared.request.Place.{Place}
 use Rattle.lfs_types.specs.declared.request.Place.TheVariants.{At, End}
 use Rattle.lfs_types.specs.declared.request.Request.{Request}
 use Rattle.lfs_types.specs.declared.request.Request.TheVariants.{Stat, Read, Write, List as Names, SetLength, Create, Mkdir, Unlink, Rmdir, Rename, Chmod, Chown, Chflags, SetLevel, Sync}
-use Rattle.lfs_text.specs.BytesText.{bytes_of}
-use Rattle.lfs_text.specs.Faults.{◌>>=◌}
-use Rattle.lfs_text.specs.FlagText.{flags_of}
-use Rattle.lfs_text.specs.LevelText.{level_word}
-use Rattle.lfs_text.specs.Numbers.{number_of}
-use Rattle.lfs_text.specs.PathText.{path_of}
-use Rattle.lfs_text.specs.Wording.{no_word, one_word, two_words, three_words}
-use Rattle.lfs_text.specs.declared.fault.FaultKind.{FaultKind}
-use Rattle.lfs_text.specs.declared.fault.FaultKind.TheVariants.{Words}
+use Rattle.lfs_words.specs.BytesText.{bytes_of}
+use Rattle.lfs_words.specs.Faults.{◌>>=◌}
+use Rattle.lfs_words.specs.FlagText.{flags_of}
+use Rattle.lfs_words.specs.LevelText.{level_word}
+use Rattle.lfs_words.specs.Numbers.{long_of, mode_of, short_of}
+use Rattle.lfs_words.specs.PathText.{path_of}
+use Rattle.lfs_words.specs.Wording.{no_word, one_word, two_words, three_words}
+use Rattle.lfs_words.specs.declared.fault.FaultKind.{FaultKind}
+use Rattle.lfs_words.specs.declared.fault.FaultKind.TheVariants.{Words}
 use Rattle.lfs_text.specs.declared.verb.RequestKind.{RequestKind}
 use Rattle.lfs_text.specs.declared.verb.RequestKind.TheVariants as kind
-
--- a number below 2^64
-abbrev pub long_of : List ℕ → Result ℕ FaultKind
-long_of word = number_of 10 20 (2 ^ 64 - 1) word
-
--- a number below 2^32
-abbrev pub short_of : List ℕ → Result ℕ FaultKind
-short_of word = number_of 10 20 (2 ^ 32 - 1) word
-
--- a mode
-abbrev pub mode_of : List ℕ → Result ℕ FaultKind
-mode_of word = number_of 8 6 4095 word
 
 -- a path alone
 abbrev pub lone_path : List (List ℕ) → Result (List (List ℕ)) FaultKind

@@ -1,14 +1,15 @@
 //! Calls of the cleaner in scripts.
 
 ghost use Rattle.std.specs.Prelude.{◌≡◌, map};
-ghost use Rattle.lfs_text.specs.CleanerCalls.{cleaner_said, info_from, info_of, infos_within, segment_of};
-ghost use Rattle.lfs_text.specs.Faults.{Reads};
+ghost use Rattle.lfs_text.specs.CleanerCalls.{cleaner_said, segment_of};
+ghost use Rattle.lfs_words.specs.Faults.{Reads};
 
-use crate::fault::FaultKind;
-use crate::number::{is_decimal, short_decimal};
-use crate::words::{no_word, one_word, pieces};
 use lfs_model::journal::CleanerKind;
-use lfs_types::cleaner::{BlockInfo, BlockInfos, CleanerCall};
+use lfs_types::cleaner::CleanerCall;
+use lfs_words::fault::FaultKind;
+use lfs_words::info::infos;
+use lfs_words::number::short_decimal;
+use lfs_words::words::{no_word, one_word};
 use std::alloc::Global;
 
 /// The call of this kind that the words behind its name ask for.
@@ -36,49 +37,4 @@ fn segment(words: &[&str]) -> Result<u32, FaultKind>
     ensures { result ≡ segment_of (map (λ x. x.now) words.now) }
 {
     short_decimal(one_word(words)?)
-}
-
-/// The infos that words spell, where the list takes as many.
-fn infos<const LIMIT: usize>(alloc: Global, words: &[&str]) -> Result<BlockInfos<LIMIT>, FaultKind>
-    ensures { Reads (infos_within LIMIT (map (λ x. x.now) words.now)) result }
-{
-    if words.len() > LIMIT {
-        return Err(FaultKind::Many);
-    }
-    let mut infos = BlockInfos::empty();
-    for word in words {
-        let found = info(alloc, word)?;
-        infos.push(found);
-    }
-    Ok(infos)
-}
-
-/// The info that a word spells.
-fn info(alloc: Global, word: &str) -> Result<BlockInfo, FaultKind>
-    ensures { Reads (info_of word.now) result }
-{
-    let parts = pieces(alloc, word, ':')?;
-    match parts.as_slice() {
-        [ino, version, lbn, addr] => info_from(ino, version, lbn, addr),
-        _ => Err(FaultKind::Number),
-    }
-}
-
-/// The info of four parts: that each is a decimal is asked before any range.
-fn info_from(ino: &str, version: &str, lbn: &str, addr: &str) -> Result<BlockInfo, FaultKind>
-    ensures { result ≡ info_from ino.now version.now lbn.now addr.now }
-{
-    if !(is_decimal(ino) && is_decimal(version) && is_decimal(lbn) && is_decimal(addr)) {
-        return Err(FaultKind::Number);
-    }
-    let ino = short_decimal(ino)?;
-    let version = short_decimal(version)?;
-    let lbn = short_decimal(lbn)?;
-    let addr = short_decimal(addr)?;
-    Ok(BlockInfo {
-        ino,
-        version,
-        lbn,
-        addr,
-    })
 }

@@ -2,12 +2,8 @@
 //! lines that are printed.
 #![tactic(auto)]
 
-mod append;
-mod caller;
 mod cleaner_calls;
 pub mod fault;
-mod hex;
-mod number;
 pub mod plan;
 pub mod print;
 pub mod report;
@@ -17,4 +13,3 @@ pub mod split;
 #[cfg(test)]
 mod tests;
 mod verb;
-mod words;

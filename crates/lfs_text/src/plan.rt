@@ -1,12 +1,13 @@
 //! What a script asks.
 
 ghost use Rattle.std.specs.Prelude.{◌≡◌, OnOk};
+ghost use Rattle.lfs_text.specs.PlanTypes.{AreWithin};
 ghost use Rattle.lfs_text.specs.Plans.{added, first_draft, planned};
 
-use crate::caller::first_caller;
 use lfs_types::cleaner::CleanerCall;
 use lfs_types::cred::Cred;
 use lfs_types::request::Request;
+use lfs_words::caller::first_caller;
 use std::alloc::{AllocError, Global};
 use std::marker::Model;
 
@@ -34,7 +35,7 @@ pub struct Step {
 
 /// What a line says.
 #[derive(Drop, Debug)]
-pub enum Line {
+pub(crate) enum Line {
     /// Nothing: an empty line or a comment.
     Nothing,
     /// The lines that follow are of this session.
@@ -53,11 +54,13 @@ pub struct Plan {
 }
 
 impl Model for Plan {
-    ghost use Rattle.lfs_text.specs.PlanTypes.{Planned};
+    ghost use Rattle.lfs_text.specs.PlanTypes.{AreWithin, Planned};
 
     ghost Value = { Planned };
 
     ghost view = { λ p. record { steps = p.steps.items; sessions = p.sessions } };
+
+    ghost invariant = { λ p. AreWithin p.steps.items p.sessions };
 }
 
 impl Plan {
@@ -68,9 +71,10 @@ impl Plan {
         self.steps.as_slice()
     }
 
-    /// The highest session that a line names, from 0 to 8.
+    /// The highest session that a line names, from 0 to 8. No step is of a higher one.
     pub fn sessions(&self) -> u8
-        ensures { result ≡ self.now.sessions }
+        ensures value { result ≡ self.now.sessions }
+        ensures highest { AreWithin self.now.steps result }
     {
         self.sessions
     }
@@ -85,7 +89,7 @@ impl Plan {
 
 /// The plan of the lines read so far, and the session and the credential of the lines to come.
 #[derive(Drop)]
-pub struct Draft {
+pub(crate) struct Draft {
     session: u8,
     cred: Cred,
     sessions: u8,
@@ -93,16 +97,19 @@ pub struct Draft {
 }
 
 impl Model for Draft {
-    ghost use Rattle.lfs_text.specs.PlanTypes.{Drafted};
+    ghost use Rattle.std.specs.Prelude.{◌≤◌};
+    ghost use Rattle.lfs_text.specs.PlanTypes.{AreWithin, Drafted};
 
     ghost Value = { Drafted };
 
     ghost view = { λ d. record { session = d.session; cred = d.cred; sessions = d.sessions; steps = d.steps.items } };
+
+    ghost invariant = { λ d. AreWithin d.steps.items d.sessions × (d.session ≤ d.sessions) };
 }
 
 impl Draft {
     /// No lines.
-    pub fn new(alloc: Global) -> Draft
+    pub(crate) fn new(alloc: Global) -> Draft
         ensures { result ≡ first_draft }
     {
         Draft {
@@ -114,7 +121,7 @@ impl Draft {
     }
 
     /// Adds a line.
-    pub fn add(&mut self, line: Line) -> Result<(), AllocError>
+    pub(crate) fn add(&mut self, line: Line) -> Result<(), AllocError>
         ensures { OnOk result (self.new ≡ added self.old line) }
     {
         match line {
@@ -134,7 +141,7 @@ impl Draft {
     }
 
     /// The plan of these lines.
-    pub fn finish(self) -> Plan
+    pub(crate) fn finish(self) -> Plan
         ensures { result ≡ planned self }
     {
         Plan {

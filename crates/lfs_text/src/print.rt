@@ -3,11 +3,8 @@
 ghost use Rattle.std.specs.Prelude.{◌≡◌, ◌∷◌, ◌++◌, [], map, IfOk, OnOk};
 ghost use Rattle.lfs_text.specs.AnswerText.{answer_line, answer_words, attrs_words, denial_words, kind_word, resource_word, served_words, spaced, stat_words};
 ghost use Rattle.lfs_text.specs.CleanerText.{cleaner_line, cleaner_words, done_words, fault_words};
-ghost use Rattle.lfs_text.specs.NameText.{name_text};
+ghost use Rattle.lfs_words.specs.NameText.{name_text};
 
-use crate::append::{
-    push_bytes, push_decimal, push_flags, push_mode, push_name, push_number, push_word,
-};
 use crate::verb::cleaner_word;
 use lfs_model::journal::{CleanerAnswer, CleanerKind};
 use lfs_types::answer::{Answer, Resource, Served};
@@ -15,6 +12,9 @@ use lfs_types::attrs::{Attrs, Kind};
 use lfs_types::cleaner::CleanFault;
 use lfs_types::name::Name;
 use lfs_types::rule::Denial;
+use lfs_words::append::{
+    push_bytes, push_decimal, push_flags, push_mode, push_name, push_number, push_word,
+};
 use std::alloc::{AllocError, Global};
 
 /// The line of an answer to a user's call: the session, what is answered and a line feed.

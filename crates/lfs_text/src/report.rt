@@ -4,10 +4,10 @@ ghost use Rattle.std.specs.Prelude.{◌≡◌, ◌++◌, count_by, IfOk, OnOk};
 ghost use Rattle.std.specs.List.{flat_map};
 ghost use Rattle.lfs_text.specs.ReportText.{count_line, denials, denied_code, is_cleaner, is_denied, is_refused, is_served, report_text, rule_line, users_lines};
 
-use crate::append::{push_number, push_word};
 use lfs_model::journal::{CleanerOutcome, Entry, Event};
 use lfs_types::answer::Answer;
 use lfs_types::rule::Rule;
+use lfs_words::append::{push_number, push_word};
 use std::alloc::{AllocError, Global};
 
 /// The rules, in the order in which they are reported.

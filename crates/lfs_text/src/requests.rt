@@ -2,19 +2,19 @@
 
 ghost use Rattle.std.specs.Prelude.{◌≡◌, Ok, Err, map, MatchResult};
 ghost use Rattle.std.specs.Option.{option_copied};
-ghost use Rattle.lfs_text.specs.Faults.{Reads};
-ghost use Rattle.lfs_text.specs.PathText.{path_of};
+ghost use Rattle.lfs_words.specs.Faults.{Reads};
 ghost use Rattle.lfs_text.specs.Requests.{lone_path, path_and_mode, place_of, request_said, write_words};
 ghost use Rattle.lfs_text.specs.declared.verb.RequestKind.TheVariants as kind;
 
-use crate::fault::FaultKind;
-use crate::hex::{flags, payload};
-use crate::number::{decimal, level, mode, short_decimal};
 use crate::verb::RequestKind;
-use crate::words::{no_word, one_word, three_words, two_words};
 use lfs_types::mode::Mode;
-use lfs_types::path::{BadPath, Path};
+use lfs_types::path::Path;
 use lfs_types::request::{Place, Request};
+use lfs_words::fault::FaultKind;
+use lfs_words::hex::{flags, payload};
+use lfs_words::number::{decimal, level, mode, short_decimal};
+use lfs_words::path::path_of;
+use lfs_words::words::{no_word, one_word, three_words, two_words};
 use std::alloc::Global;
 
 /// The call of this kind that the words behind its name ask for.
@@ -181,15 +181,4 @@ fn lone_path(alloc: Global, words: &[&str]) -> Result<Path, FaultKind>
     ensures { Reads (lone_path (map (λ x. x.now) words.now)) result }
 {
     path_of(alloc, one_word(words)?)
-}
-
-/// The path that a word spells.
-fn path_of(alloc: Global, word: &str) -> Result<Path, FaultKind>
-    ensures { Reads (path_of word.now) result }
-{
-    match Path::parse(alloc, word) {
-        Ok(path) => Ok(path),
-        Err(BadPath::Memory) => Err(FaultKind::Memory),
-        Err(fault) => Err(FaultKind::Path(fault)),
-    }
 }

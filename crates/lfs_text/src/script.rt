@@ -1,24 +1,23 @@
 //! Lines of a script.
 
-ghost use Rattle.std.specs.Prelude.{◌≡◌, ◌≢◌, ◌==◌, ◌^◌, ◌<◌, ◌+◌, ℕ, length, true, false, Err, map, position, IfOk, MatchOption, MatchResult};
-ghost use Rattle.std.specs.List.{list_any};
-ghost use Rattle.lfs_text.specs.Faults.{Reads};
-ghost use Rattle.lfs_text.specs.Lines.{HasNoLineFeed, IsFirstLine};
-ghost use Rattle.lfs_text.specs.Parsing.{ParsesScript};
-ghost use Rattle.lfs_text.specs.Plans.{is_printable, is_skipped, line_said, lines_of, plan_from, verb_said, words_said};
-ghost use Rattle.lfs_text.specs.Wording.{is_bare, words_of};
-ghost use Rattle.lfs_text.specs.declared.fault.FaultKind.TheVariants.{Bytes, Memory};
+ghost use Rattle.std.specs.Prelude.{◌≡◌, ◌≢◌, ◌^◌, ◌<◌, ◌+◌, ◌∷◌, ℕ, List, length, true, Err, map, IfOk, MatchResult};
+ghost use Rattle.lfs_words.specs.Faults.{Reads};
+ghost use Rattle.lfs_words.specs.Lines.{is_printable};
+ghost use Rattle.lfs_text.specs.Parsing.{BeginsReadable, ParsesScript};
+ghost use Rattle.lfs_text.specs.Plans.{line_said, lines_of, plan_from, verb_said, words_said};
+ghost use Rattle.lfs_words.specs.declared.fault.FaultKind.TheVariants.{Memory};
 
-use crate::caller::caller;
 use crate::cleaner_calls::cleaner_call;
-use crate::fault::{FaultKind, ScriptFault};
-use crate::number::session;
+use crate::fault::ScriptFault;
 use crate::plan::{Act, Draft, Line, Plan};
 use crate::requests::request;
 use crate::verb::Verb;
-use crate::words::{no_word, one_word, pieces};
+use lfs_words::caller::caller;
+use lfs_words::fault::FaultKind;
+use lfs_words::line::{cut_line, has_bare_word, is_skipped, text_of};
+use lfs_words::number::session;
+use lfs_words::words::{no_word, one_word, pieces};
 use std::alloc::Global;
-use std::str;
 
 /// What a script asks, or its first fault: that of the first line that has one.
 pub fn parse_script(alloc: Global, script: &[u8]) -> Result<Plan, ScriptFault>
@@ -46,6 +45,9 @@ fn take_line<'a>(alloc: Global, text: &'a [u8], draft: &mut Draft) -> Result<&'a
         (λ rest. (line : ℕ) → plan_from line draft.old (lines_of text.now) ≡ plan_from (line + 1) draft.new (lines_of rest.now))
         (λ kind. kind ≢ Memory → (line : ℕ) →
         plan_from line draft.old (lines_of text.now) ≡ Err (record { line = line; kind = kind })) }
+    ensures lines { MatchResult result
+        (λ rest. (first : List ℕ) × (lines_of text.now ≡ first ∷ lines_of rest.now))
+        (λ kind. kind ≡ Memory → BeginsReadable text.now) }
 {
     match cut_line(text) {
         Some((line, rest)) => {
@@ -57,27 +59,13 @@ fn take_line<'a>(alloc: Global, text: &'a [u8], draft: &mut Draft) -> Result<&'a
     }
 }
 
-/// A text up to its first line feed, and what is behind it.
-fn cut_line(text: &[u8]) -> Option<(&[u8], &[u8])>
-    ensures { MatchOption result (HasNoLineFeed text.now) (λ cut. IsFirstLine text.now cut.0.now cut.1.now) }
-{
-    match line_feed_at(text) {
-        Some(at) => Some((&text[..at], &text[at + 1..])),
-        None => None,
-    }
-}
-
-/// Where the first line feed stands.
-fn line_feed_at(text: &[u8]) -> Option<usize>
-    ensures { result ≡ position (λ b. b == 10) text.now }
-{
-    text.iter().position(|byte| *byte == b'\n')
-}
-
 /// What a line says, which is given without its line feed.
 #[tactic(auto, unfolding(crate::specs::Plans::line_said))]
 fn parse_line(alloc: Global, line: &[u8]) -> Result<Line, FaultKind>
-    ensures { Reads (line_said line.now) result }
+    ensures said { Reads (line_said line.now) result }
+    ensures printable { MatchResult result
+        (λ _. is_printable line.now ≡ true)
+        (λ kind. kind ≡ Memory → is_printable line.now ≡ true) }
 {
     let text = text_of(line)?;
     if is_skipped(text) {
@@ -88,23 +76,6 @@ fn parse_line(alloc: Global, line: &[u8]) -> Result<Line, FaultKind>
     }
     let words = pieces(alloc, text, ' ')?;
     parse_words(alloc, words.as_slice())
-}
-
-/// Whether a line says nothing.
-fn is_skipped(line: &str) -> bool
-    ensures { result ≡ is_skipped line.now }
-{
-    match line.as_bytes() {
-        [] => true,
-        [first, ..] => *first == b'#',
-    }
-}
-
-/// Whether a word of a line has no bytes.
-fn has_bare_word(line: &str) -> bool
-    ensures { result ≡ list_any is_bare (words_of line.now) }
-{
-    line.split(' ').any(|word| word.is_empty())
 }
 
 /// What words say, of which the first is to be a verb.
@@ -134,26 +105,4 @@ fn parse_verb(alloc: Global, verb: Verb, words: &[&str]) -> Result<Line, FaultKi
             Ok(Line::Act(Act::Pass))
         }
     }
-}
-
-/// The text of a line, whose bytes are from 0x20 to 0x7E.
-fn text_of(line: &[u8]) -> Result<&str, FaultKind>
-    ensures { MatchResult result
-        (λ text. (is_printable line.now ≡ true) × (text.now ≡ line.now))
-        (λ kind. (is_printable line.now ≡ false) × (kind ≡ Bytes)) }
-{
-    if !is_printable(line) {
-        return Err(FaultKind::Bytes);
-    }
-    match str::from_utf8(line) {
-        Ok(text) => Ok(text),
-        Err(_) => unreachable!(),
-    }
-}
-
-/// Whether every byte is from 0x20 to 0x7E.
-fn is_printable(line: &[u8]) -> bool
-    ensures { result ≡ is_printable line.now }
-{
-    line.iter().all(|byte| *byte >= 0x20 && *byte <= 0x7e)
 }

@@ -2,12 +2,10 @@
 
 ghost use Rattle.std.specs.Prelude.{◌≡◌, ◌<◌, ◌≤◌, length, IfOk, MatchResult};
 
+use crate::limits::TRANSFER_BYTES;
 use crate::name::{Name, clone_names};
 use std::alloc::{AllocError, Global};
 use std::marker::Model;
-
-/// The most bytes of a Write or a Read (this project's profile).
-pub const PAYLOAD_MAX: usize = 4096;
 
 /// Bytes that a Read served.
 #[derive(Drop, Debug)]
@@ -172,7 +170,7 @@ impl Payload {
             (λ p. (length bytes.items ≤ 4096) × (p ≡ bytes.items))
             (λ e. (4096 < length bytes.items) × (e.0.items ≡ bytes.items)) }
     {
-        if bytes.len() <= PAYLOAD_MAX {
+        if bytes.len() <= TRANSFER_BYTES {
             Ok(Payload { content: bytes })
         } else {
             Err(BadSize(bytes))

@@ -1,5 +1,5 @@
 -- Journals: the opening one, and one with an entry more.
-use Rattle.std.proofs.Common.{◌≡◌, ℕ, ◌+◌, ◌<◌, ◌≤◌, Bool, List, [], ◌∷◌, ◌++◌, length, ◌↔◌, None, inr, true, false, refl, sym, ap, subst, ◌∙◌, ⊎_elim, arith, length-append}
+use Rattle.std.proofs.Common.{◌≡◌, ℕ, ◌+◌, ◌<◌, ◌≤◌, List, [], ◌∷◌, ◌++◌, length, ◌↔◌, None, inr, true, false, refl, sym, ap, subst, ◌∙◌, ⊎_elim, arith, length-append, append_assoc, append-nil}
 use Rattle.std.proofs.lemmas.Bool.{cases_eq}
 use Rattle.std.specs.Prelude.{option_map, Result, Ok, Err, OnErr}
 use Rattle.std.specs.FinMap as map
@@ -7,7 +7,7 @@ use Rattle.lfs_types.specs.Caller.{Caller}
 use Rattle.lfs_types.specs.Changes.{IsLength}
 use Rattle.lfs_types.specs.Shown.{IsList, ServesList}
 use Rattle.lfs_types.specs.StoreStates.{Follows, Shape, StoreState}
-use Rattle.lfs_types.specs.Tree.{File, Row, World, Content, root, fresh_root, opening_content, opening_world}
+use Rattle.lfs_types.specs.Tree.{File, Row, World, root, fresh_root, opening_content, opening_world}
 use Rattle.lfs_types.specs.declared.answer.Answer.{Answer}
 use Rattle.lfs_types.specs.declared.answer.Answer.TheVariants.{Served, Denied, Refused}
 use Rattle.lfs_types.specs.declared.answer.Resource.TheVariants.{NoMemory, NoSpace, NoInodes, DirectoryFull, JournalFull}
@@ -17,11 +17,11 @@ use Rattle.lfs_types.specs.declared.level.Level.TheVariants.{Insecure}
 use Rattle.lfs_types.specs.declared.request.Request.{Request}
 use Rattle.lfs_types.specs.declared.request.Request.TheVariants.{Stat, Read, Write, List as Names, SetLength, Create, Mkdir, Unlink, Rmdir, Rename, Chmod, Chown, Chflags, SetLevel, Sync}
 use Rattle.lfs_dirs.specs.Changes.{number_in-nil}
+use Rattle.lfs_model.specs.declared.journal.Call.{Call}
 use Rattle.lfs_model.specs.declared.journal.Entry.{Entry}
-use Rattle.lfs_model.specs.declared.journal.Event.TheVariants.{User}
-use Rattle.lfs_model.specs.World.{IsTree}
-use Rattle.lfs_model.specs.Memory.{MayLackMemory}
-use Rattle.lfs_model.specs.Runs.{IsNoSpace, IsShort, IsUnserved, cleaned}
+use Rattle.lfs_model.specs.declared.journal.Event.{Event}
+use Rattle.lfs_model.specs.declared.journal.Event.TheVariants.{User, Cleaner}
+use Rattle.lfs_model.specs.Runs.{IsNoSpace, IsShort, IsUnserved, cleaned, cleans, kept, kept_entry}
 use Rattle.lfs_model.specs.Steps.{IsAnswer, IsLegal, after_answer, world_of}
 use Rattle.lfs_model.proofs.Children.{child-answer}
 use Rattle.lfs_model.proofs.LevelLemmas.{level_after}
@@ -34,7 +34,7 @@ use Rattle.lfs_calls.specs.Calls.{IsCallAt, answered}
 use Rattle.lfs_calls.specs.declared.halt.Halt.{Halt}
 use Rattle.lfs_calls.specs.declared.halt.Halt.TheVariants as halts
 use Rattle.lfs_volume.specs.Copies.{is_lack_of_memory}
-use Rattle.lfs_volume.specs.Journals.{IsAnswered, IsJournal, Stays, level_left, level_set}
+use Rattle.lfs_volume.specs.Journals.{AreAnswers, IsAnswered, IsCaused, IsJournal, IsStep, Stays, level_left, level_set}
 
 nothing_listed : IsListing opening_rows root []
 unfolding entries_below
@@ -73,15 +73,21 @@ IsShort-fewer clean fewer [] h short = tt
 IsShort-fewer clean fewer (e ∷ es) h short =
     ((λ no. let few = short.0 no in omega arith), IsShort-fewer clean fewer es h short.1)
 
--- one entry more makes no fewer segments clean
-cleaned-more : (es : List Entry) (e : Entry) → cleaned es ≤ cleaned (es ++ e ∷ [])
-cleaned-more [] e = omega arith
-cleaned-more (x ∷ es) e = let more = cleaned-more es e in omega arith
+-- one entry more makes as many segments clean as its event tells
+cleaned-append : (es : List Entry) (e : Entry) → cleaned (es ++ e ∷ []) ≡ cleaned es + cleans e.event
+cleaned-append [] e = omega arith
+cleaned-append (x ∷ es) e = let more = cleaned-append es e in omega (arith, more)
 
-IsShort-append : (clean : ℕ) (es : List Entry) (e : Entry) → IsShort clean es → (IsNoSpace e.event → clean ≤ 2) → IsShort clean (es ++ e ∷ [])
-IsShort-append clean [] e short few = ((λ no. let two = few no in omega arith), tt)
+-- want of space makes none clean
+cleans-none : (event : Event) → IsNoSpace event → cleans event ≡ 0
+cleans-none (User request answer) short = refl
+cleans-none (Cleaner kind outcome) short = absurd short
+
+IsShort-append : (clean : ℕ) (es : List Entry) (e : Entry) → IsShort clean es → (IsNoSpace e.event → clean ≤ 2)
+    → IsShort (clean + cleans e.event) (es ++ e ∷ [])
+IsShort-append clean [] e short few = ((λ no. let two = few no in let none = cleans-none e.event no in omega (arith, two, none)), tt)
 IsShort-append clean (x ∷ es) e short few =
-    ((λ no. let old = short.0 no in let more = cleaned-more es e in omega arith), IsShort-append clean es e short.1 few)
+    ((λ no. let old = short.0 no in let more = cleaned-append es e in omega (arith, old, more)), IsShort-append clean es e short.1 few)
 
 -- the journal of a store that changed nothing but the count of its clean segments
 pub IsJournal-same : (old new : StoreState) (level level_after : Level) (es : List Entry) (limit : ℕ)
@@ -112,25 +118,39 @@ entered_space : (s : StoreState) (w : World) (caller : Caller) (request : Reques
 entered_space s w caller request answer o e = (subst (IsOutcome s w caller request) e o).2
 
 -- the journal with an entry more
-pub IsJournal-entered : (old new : StoreState) (level level_after : Level) (es : List Entry) (limit session : ℕ) (caller : Caller) (request : Request) (answer : Answer)
-    → IsJournal old level es limit → length es < limit → IsAnswered old new level level_after caller request answer → is_lack_of_memory answer ≡ false
-    → IsJournal new level_after (es ++ record { session = session; cred = caller; event = User request answer } ∷ []) limit
-IsJournal-entered old new level level_after es limit session caller request answer j room a entered =
-    let entry : Entry = record { session = session; cred = caller; event = User request answer } in
+pub IsJournal-entered : (old new : StoreState) (level level_after : Level) (es : List Entry) (limit session : ℕ) (caller : Caller) (event : Event)
+    → IsJournal old level es limit → length es < limit → IsStep old new level_after (world_of old.shape.numbers es) caller event
+    → IsJournal new level_after (es ++ record { session = session; cred = caller; event = event } ∷ []) limit
+IsJournal-entered old new level level_after es limit session caller event j room step =
+    let entry : Entry = record { session = session; cred = caller; event = event } in
     let numbers = old.shape.numbers in
-    let w = world_of numbers es in
-    let o = a.outcome w j.shown j.at_level in
     let leads = world_after-append numbers es (entry ∷ []) opening_world in
-    let few : IsNoSpace entry.event → old.clean ≤ 2 = entered_space old w caller request answer o in
     record {
-      legal = subst (λ (s : Shape). IsLegal s.numbers s.segments (es ++ entry ∷ []) opening_world) (sym a.follows.shape)
-          (IsLegal-append numbers old.shape.segments es entry opening_world j.legal (entered_answer old w caller request answer o entered));
-      shown = subst (λ (s : Shape). IsVolume new (world_of s.numbers (es ++ entry ∷ []))) (sym a.follows.shape)
-          (subst (IsVolume new) (sym leads) (a.leaves w j.shown));
-      at_level = subst (λ (s : Shape). (world_of s.numbers (es ++ entry ∷ [])).level ≡ level_after) (sym a.follows.shape)
-          (ap (λ (v : World). v.level) leads ∙ a.leveled w j.at_level);
+      legal = subst (λ (s : Shape). IsLegal s.numbers s.segments (es ++ entry ∷ []) opening_world) (sym step.shape)
+          (IsLegal-append numbers old.shape.segments es entry opening_world j.legal step.happens);
+      shown = subst (λ (s : Shape). IsVolume new (world_of s.numbers (es ++ entry ∷ []))) (sym step.shape)
+          (subst (IsVolume new) (sym leads) step.leaves);
+      at_level = subst (λ (s : Shape). (world_of s.numbers (es ++ entry ∷ [])).level ≡ level_after) (sym step.shape)
+          (ap (λ (v : World). v.level) leads ∙ step.leveled);
       within = simp length-append (omega arith);
-      space = IsShort-fewer old.clean new.clean (es ++ entry ∷ []) a.follows.clean (IsShort-append old.clean es entry j.space few);
+      space = IsShort-fewer (old.clean + cleans event) new.clean (es ++ entry ∷ []) step.clean
+          (IsShort-append old.clean es entry j.space step.space);
+    }
+
+-- an answered call is a step, where memory was not wanting
+pub IsStep-answered : (old new : StoreState) (level level_after : Level) (es : List Entry) (limit : ℕ) (caller : Caller) (request : Request) (answer : Answer)
+    → IsJournal old level es limit → IsAnswered old new level level_after caller request answer → is_lack_of_memory answer ≡ false
+    → IsStep old new level_after (world_of old.shape.numbers es) caller (User request answer)
+IsStep-answered old new level level_after es limit caller request answer j a entered =
+    let w = world_of old.shape.numbers es in
+    let o = a.outcome w j.shown j.at_level in
+    record {
+      happens = entered_answer old w caller request answer o entered;
+      leaves = a.leaves w j.shown;
+      leveled = a.leveled w j.at_level;
+      space = entered_space old w caller request answer o;
+      clean = omega (arith, a.follows.clean);
+      shape = a.follows.shape;
     }
 
 -- a call whose answer wanted memory for its copy
@@ -146,15 +166,30 @@ lack_unserved (Served shown) h = absurd (cc)
 lack_unserved (Denied denial) h = tt
 lack_unserved (Refused resource) h = tt
 
--- the causes of one more answer's refusals
-pub lack_cause : (s : StoreState) (limit : ℕ) (journal : List Entry) (w : World) (caller : Caller) (request : Request) (answer : Answer)
-    → ((answer ≡ Refused JournalFull) ↔ (length journal ≡ limit)) → length journal ≤ limit
-    → (length journal < limit → IsOutcome s w caller request answer)
-    → answer ≡ Refused NoMemory → MayLackMemory s.shape.can_lack_memory request
-lack_cause s limit journal w caller request answer full within outcome e = ⊎_elim
-    (λ at. let is : answer ≡ Refused JournalFull = full.1 at in absurd (cc))
-    (λ other. let o = subst (IsOutcome s w caller request) e (outcome (omega (arith, within, other))) in o.3)
-    (cases_eq (length journal) limit)
+-- ---- runs
+
+-- one more call was answered
+pub AreAnswers-append : (old : StoreState) (limit : ℕ) (journal : List Entry) (calls : List Call) (answers : List Answer) (call : Call) (answer : Answer)
+    → AreAnswers old limit journal calls answers
+    → ((answer ≡ Refused JournalFull) ↔ (length (journal ++ kept calls answers) ≡ limit))
+    → (length (journal ++ kept calls answers) < limit → IsCaused old (journal ++ kept calls answers) call answer)
+    → AreAnswers old limit journal (calls ++ call ∷ []) (answers ++ answer ∷ [])
+AreAnswers-append old limit journal [] [] call answer are full cause = (
+  subst (λ j. (answer ≡ Refused JournalFull) ↔ (length j ≡ limit)) (append-nil journal) full,
+  subst (λ j. length j < limit → IsCaused old j call answer) (append-nil journal) cause,
+  tt,
+)
+AreAnswers-append old limit journal [] (a ∷ answers) call answer are full cause = absurd are
+AreAnswers-append old limit journal (c ∷ calls) [] call answer are full cause = absurd are
+AreAnswers-append old limit journal (c ∷ calls) (a ∷ answers) call answer are full cause =
+    let entry = kept_entry c.session c.cred c.request a in
+    let behind = sym (append_assoc journal entry (kept calls answers)) in (
+      are.0,
+      are.1,
+      AreAnswers-append old limit (journal ++ entry) calls answers call answer are.2
+          (subst (λ j. (answer ≡ Refused JournalFull) ↔ (length j ≡ limit)) behind full)
+          (subst (λ j. length j < limit → IsCaused old j call answer) behind cause),
+    )
 
 -- ---- from what a call comes to, to its answer
 

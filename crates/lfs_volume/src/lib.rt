@@ -1,8 +1,6 @@
 //! The journal of a volume is a legal run to the tree that its store and its level show.
 #![tactic(auto)]
 
-#[cfg(test)]
-mod tests;
 pub mod volume;
 
 pub use lfs_flatfiles::flat_files;

@@ -1,15 +1,16 @@
 //! A volume: a file store under the rules, and the journal of what was answered.
 
-ghost use Rattle.std.specs.Prelude.{◌≡◌, ◌↔◌, ◌<◌, [], ◌++◌, length, IfOk, IfErr};
+ghost use Rattle.std.specs.Prelude.{◌≡◌, ◌↔◌, ◌<◌, ◌≤◌, [], ◌∷◌, ◌++◌, length, vec_len, IfOk, IfErr};
+ghost use Rattle.std.specs.Vec.{vec_capacity};
 ghost use Rattle.lfs_types.specs.StoreStates.{Follows};
 ghost use Rattle.lfs_types.specs.Tree.{opening_content};
 ghost use Rattle.lfs_types.specs.declared.level.Level.TheVariants.{Insecure};
-ghost use Rattle.lfs_model.specs.Runs.{AreAnswers, IsUnserved, kept, kept_entry};
+ghost use Rattle.lfs_model.specs.Runs.{IsUnserved, kept, kept_entry};
 ghost use Rattle.lfs_model.specs.Steps.{world_of};
 ghost use Rattle.lfs_calls.specs.Outcomes.{IsOutcome};
 ghost use Rattle.lfs_calls.specs.Volumes.{HasWorld};
 ghost use Rattle.lfs_volume.specs.Copies.{is_lack_of_memory};
-ghost use Rattle.lfs_volume.specs.Journals.{IsAnswered, IsJournal, Stays, level_left};
+ghost use Rattle.lfs_volume.specs.Journals.{AreAnswers, IsAnswered, IsJournal, Stays, StaysJournal, level_left};
 
 use lfs_calls::halt::answered;
 use lfs_calls::serving::serve;
@@ -64,11 +65,14 @@ impl<F: FileStore + Drop> Volume<F> {
 
     /// Makes a user's call: judges it by the rules on the tree that the journal leads to, does it, and enters it.
     pub fn call(&mut self, session: u8, cred: &Cred, request: Request) -> Answer
-        ensures full { (result ≡ Answer.Refused Resource.JournalFull) ↔ (length self.old.journal ≡ self.old.limit) }
+        ensures full { (result ≡ Answer.Refused Resource.JournalFull)
+            ↔ (length self.old.journal ≡ self.old.limit) }
         ensures at_limit { length self.old.journal ≡ self.old.limit → self.new ≡ self.old }
-        ensures outcome { length self.old.journal < self.old.limit → let old = F.state self.old.store in
+        ensures outcome { length self.old.journal < self.old.limit
+            → let old = F.state self.old.store in
             IsOutcome old (world_of old.shape.numbers self.old.journal) cred.now request result }
-        ensures entered { self.new.journal ≡ self.old.journal ++ kept_entry session cred.now request result }
+        ensures entered { self.new.journal ≡ self.old.journal
+            ++ kept_entry session cred.now request result }
         ensures legal { IsJournal (F.state self.new.store) self.new.level self.new.journal self.new.limit }
         ensures unserved { IsUnserved result
             → Stays (F.state self.old.store) (F.state self.new.store) self.old.level self.new.level }
@@ -87,22 +91,17 @@ impl<F: FileStore + Drop> Volume<F> {
             Ok(copy) => copy,
             Err(AllocError) => return Answer::Refused(Resource::NoMemory),
         };
-        let entry = Entry {
-            session,
-            cred: *cred,
-            event: Event::User(request, copy),
-        };
-        match self.journal.push(entry) {
-            Ok(()) => answer,
-            Err(_) => unreachable!(),
-        }
+        let event = Event::User(request, copy);
+        enter(&mut self.journal, session, cred, event);
+        answer
     }
 
     /// Makes calls one after another, each as `call` does. Room for the answers is asked for before the first.
     pub fn run(&mut self, calls: Vec<Call>) -> Result<Vec<Answer>, RunMemory>
         ensures each { IfOk result (λ answers. let old = self.old in
-            AreAnswers old.limit (F.state old.store).shape.can_lack_memory old.journal calls.items answers.items) }
-        ensures entered { IfOk result (λ answers. self.new.journal ≡ self.old.journal ++ kept calls.items answers.items) }
+            AreAnswers (F.state old.store) old.limit old.journal calls.items answers.items) }
+        ensures entered { IfOk result (λ answers. self.new.journal
+            ≡ self.old.journal ++ kept calls.items answers.items) }
         ensures legal { IsJournal (F.state self.new.store) self.new.level self.new.journal self.new.limit }
         ensures refused { IfErr result (λ _. self.new ≡ self.old) }
         ensures limit { self.new.limit ≡ self.old.limit }
@@ -159,6 +158,25 @@ impl<F: FileStore + Drop> Volume<F> {
 #[derive(Clone, Copy, PartialEq, Eq, Debug, Error)]
 #[error("no memory for the answers")]
 pub struct RunMemory;
+
+/// Enters an event of a session into a journal that has room for it.
+fn enter(journal: &mut Vec<Entry>, session: u8, cred: &Cred, event: Event)
+    requires { vec_len journal.old < vec_capacity journal.old }
+    ensures entered { journal.new.items
+        ≡ journal.old.items ++ record { session = session; cred = cred.now; event = event } ∷ [] }
+    ensures legal { StaysJournal journal.old.items journal.new.items cred.now event }
+    ensures room { vec_capacity journal.old ≤ vec_capacity journal.new }
+{
+    let entry = Entry {
+        session,
+        cred: *cred,
+        event,
+    };
+    match journal.push(entry) {
+        Ok(()) => (),
+        Err(_) => unreachable!(),
+    }
+}
 
 /// Whether a call was refused for want of memory.
 fn lacks_memory(answer: &Answer) -> bool

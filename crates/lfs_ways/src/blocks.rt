@@ -3,11 +3,12 @@
 ghost use Rattle.std.specs.Prelude.{◌≡◌, ◌∷◌, ◌<◌, IfSome, MatchOption, []};
 ghost use Rattle.lfs_ways.specs.Blocks.{IsFileBlock, code_of, logical_of, file_block_of, way_to};
 
+use lfs_inodes::inode::DIRECT_COUNT;
 use lfs_segments::entry::LogicalBlock;
 use lfs_types::limits::FILE_BLOCKS;
 
-/// The number of data blocks whose addresses stand in the inode record (4.4BSD's NDADDR).
-pub const DIRECT_BLOCKS: u32 = 12;
+/// The number of data blocks whose addresses stand in the inode record, as the code of a block counts them.
+pub const DIRECT_BLOCKS: u32 = DIRECT_COUNT as u32;
 
 /// The place among the addresses of a record where that of the single indirect block stands.
 pub const SINGLE_PLACE: u32 = 12;

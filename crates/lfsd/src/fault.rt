@@ -1,7 +1,11 @@
 //! Why a script is not run to its end.
 
+ghost use Rattle.std.specs.Prelude.{◌≡◌};
+ghost use Rattle.lfsd.specs.declared.fault.LinesFault.TheVariants.{Memory};
+
 use lfs_text::fault::ScriptFault;
 use lfs_types::fault::FormatFault;
+use std::alloc::{AllocError, AllocFailed};
 use thiserror::Error;
 
 /// Why a run of a script ended. Up to `Format` nothing was written; after `Memory` or `Write` how much went out is not said.
@@ -28,4 +32,20 @@ pub enum LinesFault {
     /// An answer could not be written.
     #[error("write failed")]
     Write,
+}
+
+impl From<AllocError> for LinesFault {
+    ghost from_gives = { λ _ fault. fault ≡ Memory };
+
+    fn from(_error: AllocError) -> LinesFault {
+        LinesFault::Memory
+    }
+}
+
+impl<T: Drop> From<AllocFailed<T>> for LinesFault {
+    ghost from_gives = { λ _ fault. fault ≡ Memory };
+
+    fn from(_error: AllocFailed<T>) -> LinesFault {
+        LinesFault::Memory
+    }
 }

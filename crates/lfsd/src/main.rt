@@ -3,6 +3,7 @@
 
 mod fault;
 mod options;
+mod output;
 mod read;
 mod run;
 mod tell;
@@ -31,10 +32,8 @@ fn main(rt: HostRuntime) -> ExitCode {
             return ExitCode::from(error.exit_code() as u8);
         }
     };
-    match run::run_lines(alloc, &mut rt.stdin(), &mut rt.stdout(), params) {
-        Ok(()) => ExitCode::SUCCESS,
-        Err(fault) => ExitCode::from(tell::tell(&mut stderr, &fault)),
-    }
+    let outcome = run::run_lines(alloc, &mut rt.stdin(), &mut rt.stdout(), params);
+    ExitCode::from(tell::end(&mut stderr, outcome))
 }
 
 /// The words of the command line, the program's name first.

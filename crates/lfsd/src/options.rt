@@ -14,13 +14,30 @@ pub const DEFAULTS: Params = Params {
     journal: 4096,
 };
 
+/// What is told of a number that begins with a sign, for each argument.
+const SIGNS: [(&str, &str); 2] = [
+    (
+        "inodes",
+        "--inodes takes a number of decimal digits alone, from 16 to 4096",
+    ),
+    (
+        "journal",
+        "--journal takes a number of decimal digits alone, from 1 to 100000",
+    ),
+];
+
+/// What `--help` tells behind the options.
+const MORE: &str = "Example: printf 'create /a 0644\\nstat /a\\n' | lfsd
+
+Read on in README.md: docs/FORMATS.md says how scripts, answers and the report are written, docs/RULES.md which rule
+denies what.";
+
 /// The parameters that the program's words ask for; the first word is the program's name.
 pub fn params_of<'a, S: AsStr>(alloc: Global, words: &'a [S]) -> Result<Params, Error> {
     let mut command = command(alloc)?;
     let matches = command.try_get_matches_from_mut(words)?;
-    for id in ["inodes", "journal"] {
+    for (id, message) in SIGNS {
         if has_sign(&matches, id) {
-            let message = "a number has decimal digits alone";
             return Err(command.error(ErrorKind::ValueValidation, message)?);
         }
     }
@@ -49,7 +66,10 @@ fn command<'a>(alloc: Global) -> Result<Command<'a>, AllocError> {
         .value_parser(value_parser!(u32).range(1..=100_000))
         .help("How many entries the journal may have, 1 to 100000; by default 4096");
     Command::new(alloc, "lfsd")
-        .about("Runs a script of calls on a volume in memory and prints the answers")
+        .about(
+            "Runs a script of calls, read from standard input, on a volume in memory and prints the answers and a report",
+        )
+        .after_help(MORE)
         .arg(inodes)?
         .arg(journal)
 }

@@ -1,6 +1,6 @@
 //! Telling a fault.
 
-ghost use Rattle.std.specs.Prelude.{◌≡◌};
+ghost use Rattle.std.specs.Prelude.{◌≡◌, MatchResult};
 
 use crate::fault::LinesFault;
 use std::io::Write;
@@ -11,4 +11,14 @@ pub fn tell<W: Write>(writer: &mut W, fault: &LinesFault) -> u8
 {
     let _ = writeln!(writer, "lfsd: {fault}");
     1
+}
+
+/// Tells the fault of a run that has one, and gives the status with which the program ends: 0 for a run that is done.
+pub fn end<W: Write>(writer: &mut W, outcome: Result<(), LinesFault>) -> u8
+    ensures { MatchResult outcome (λ _. result ≡ 0) (λ _. result ≡ 1) }
+{
+    match outcome {
+        Ok(()) => 0,
+        Err(fault) => tell(writer, &fault),
+    }
 }

@@ -6,6 +6,7 @@ mod rules;
 mod sizes;
 mod streams;
 mod texts;
+mod volume;
 
 use crate::fault::LinesFault;
 use crate::options::DEFAULTS;
@@ -28,9 +29,23 @@ fn output(alloc: Global, script: &str) -> Result<Vec<u8>, LinesFault> {
     output_with(alloc, script, DEFAULTS)
 }
 
-/// Asserts that a run of this script writes these lines.
-fn expect(rt: &impl Abort, alloc: Global, script: &str, expected: &str) -> Result<(), Fail> {
-    let written = output(alloc, script)?;
-    assert_eq!(rt; written.as_slice(), expected.as_bytes());
+/// Asserts that a run of this script with these parameters writes these lines, and then a report.
+fn expect_with(
+    rt: &impl Abort,
+    alloc: Global,
+    script: &str,
+    params: Params,
+    expected: &str,
+) -> Result<(), Fail> {
+    let written = output_with(alloc, script, params)?;
+    let Some(report) = written.as_slice().strip_prefix(expected.as_bytes()) else {
+        return Err(Fail::from("other lines"));
+    };
+    assert!(rt; report.starts_with(b"entries "));
     Ok(())
+}
+
+/// Asserts that a run of this script writes these lines, and then a report, where the program has no arguments.
+fn expect(rt: &impl Abort, alloc: Global, script: &str, expected: &str) -> Result<(), Fail> {
+    expect_with(rt, alloc, script, DEFAULTS, expected)
 }

@@ -146,7 +146,8 @@ fn splice(old: &mut Vec<u8>, off: u64, bytes: &[u8])
 /// Adds zeros up to this length, where there is room for them.
 fn fill_up(bytes: &mut Vec<u8>, len: usize)
     requires { len ≤ vec_capacity bytes.old }
-    ensures filled { bytes.new.items ≡ bytes.old.items ++ replicate (len - length bytes.old.items) 0 }
+    ensures filled { bytes.new.items ≡ bytes.old.items
+        ++ replicate (len - length bytes.old.items) 0 }
     ensures grows { vec_capacity bytes.old ≤ vec_capacity bytes.new }
 {
     if bytes.len() < len {
@@ -159,7 +160,8 @@ fn fill_up(bytes: &mut Vec<u8>, len: usize)
 /// Writes bytes over as many others.
 fn overwrite(old: &mut Vec<u8>, start: usize, bytes: &[u8])
     requires { start + length bytes.now ≤ vec_len old.old }
-    ensures written { old.new.items ≡ take start old.old.items ++ bytes.now ++ drop (start + length bytes.now) old.old.items }
+    ensures written { old.new.items ≡ take start old.old.items ++ bytes.now
+        ++ drop (start + length bytes.now) old.old.items }
     ensures same { vec_capacity old.new ≡ vec_capacity old.old }
 {
     old[start..start + bytes.len()].copy_from_slice(bytes);

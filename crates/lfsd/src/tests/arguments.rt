@@ -51,12 +51,42 @@ fn usage_faults(rt: HostRuntime) {
 }
 
 #[test]
-fn help(rt: HostRuntime) {
+fn help(rt: HostRuntime) -> Result<(), Fail> {
     let Err(error) = params_of(rt.alloc(), &["lfsd", "--help"]) else {
-        assert!(rt; false);
-        return;
+        return Err(Fail::from("no help"));
     };
     assert_eq!(rt; error.kind(), ErrorKind::DisplayHelp);
     assert_eq!(rt; error.exit_code(), 0);
     assert!(rt; !error.use_stderr());
+    let text = format!(in rt.alloc(); "{error}")?;
+    for told in [
+        "--inodes",
+        "16 to 4096",
+        "--journal",
+        "1 to 100000",
+        "Example: ",
+        "docs/FORMATS.md",
+    ] {
+        assert!(rt; text.contains(told), "{told}");
+    }
+    Ok(())
+}
+
+#[test]
+fn usage_fault_names_the_range(rt: HostRuntime) -> Result<(), Fail> {
+    let cases = [
+        ("--inodes=15", "16..=4096"),
+        ("--inodes=4097", "16..=4096"),
+        ("--journal=0", "1..=100000"),
+        ("--inodes=+16", "from 16 to 4096"),
+        ("--journal=+1", "from 1 to 100000"),
+    ];
+    for (word, range) in cases {
+        let Err(error) = params_of(rt.alloc(), &["lfsd", word]) else {
+            return Err(Fail::from("no fault"));
+        };
+        let text = format!(in rt.alloc(); "{error}")?;
+        assert!(rt; text.contains(range), "{text}");
+    }
+    Ok(())
 }

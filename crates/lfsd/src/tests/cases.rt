@@ -28,7 +28,18 @@ fn push_long(script: &mut String, length: usize, number: u32) -> Result<(), Allo
 fn owner_writes_and_stranger_only_reads(rt: HostRuntime) -> Result<(), Fail> {
     let script =
         "as 0 0\ncreate /a 0644\nwrite /a at 0 616263\nas 5 5\nread /a 0 10\nwrite /a at 0 64\n";
-    let expected = b"0 ok\n0 ok\n0 bytes 616263\n0 denied M2 EACCES 0 1\n";
+    let expected = b"\
+0 ok
+0 ok
+0 bytes 616263
+0 denied M2 EACCES 0 1
+entries 4
+served 3
+denied 1
+refused 0
+cleaner 0
+rule M2 1
+";
     assert_eq!(rt; output(rt.alloc(), script)?.as_slice(), expected.as_slice());
     Ok(())
 }
@@ -36,9 +47,8 @@ fn owner_writes_and_stranger_only_reads(rt: HostRuntime) -> Result<(), Fail> {
 #[test]
 fn file_on_the_way_is_no_directory(rt: HostRuntime) -> Result<(), Fail> {
     let script = "create /f 0000\nas 8 8\nstat /f/x\n";
-    let expected = b"0 ok\n0 denied N1 ENOTDIR 0 1\n";
-    assert_eq!(rt; output(rt.alloc(), script)?.as_slice(), expected.as_slice());
-    Ok(())
+    let expected = "0 ok\n0 denied N1 ENOTDIR 0 1\n";
+    expect(&rt, rt.alloc(), script, expected)
 }
 
 #[test]
@@ -46,17 +56,14 @@ fn file_length_limit(rt: HostRuntime) -> Result<(), Fail> {
     let script =
         "create /h 0644\nwrite /h at 71679 7a\nread /h 71678 4\nwrite /h at 71680 7a\nwrite /h at 18446744073709551615 7a7a\nlength /h 71681\n";
     let expected =
-        b"0 ok\n0 ok\n0 bytes 007a\n0 denied Z1 EFBIG 0 1\n0 denied Z1 EFBIG 0 1\n0 denied Z1 EFBIG 0 1\n";
-    assert_eq!(rt; output(rt.alloc(), script)?.as_slice(), expected.as_slice());
-    Ok(())
+        "0 ok\n0 ok\n0 bytes 007a\n0 denied Z1 EFBIG 0 1\n0 denied Z1 EFBIG 0 1\n0 denied Z1 EFBIG 0 1\n";
+    expect(&rt, rt.alloc(), script, expected)
 }
 
 #[test]
 fn root_directory_is_no_file(rt: HostRuntime) -> Result<(), Fail> {
-    let expected = b"0 denied K1 EISDIR 0 0\n";
-    let written = output(rt.alloc(), "read / 0 1\n")?;
-    assert_eq!(rt; written.as_slice(), expected.as_slice());
-    Ok(())
+    let expected = "0 denied K1 EISDIR 0 0\n";
+    expect(&rt, rt.alloc(), "read / 0 1\n", expected)
 }
 
 #[test]
@@ -66,7 +73,39 @@ fn journal_limit(rt: HostRuntime) -> Result<(), Fail> {
         ..DEFAULTS
     };
     let script = "create /a 0600\nstat /a\nstat /a\n";
-    let expected = b"0 ok\n0 stat 4 file 0 0 0600 00000000 0\n0 refused JournalFull\n";
+    let expected = b"\
+0 ok
+0 stat 4 file 0 0 0600 00000000 0
+0 refused JournalFull
+entries 2
+served 2
+denied 0
+refused 0
+cleaner 0
+";
+    let written = output_with(rt.alloc(), script, params)?;
+    assert_eq!(rt; written.as_slice(), expected.as_slice());
+    Ok(())
+}
+
+#[test]
+fn full_journal_ends_no_run(rt: HostRuntime) -> Result<(), Fail> {
+    let params = Params {
+        journal: 1,
+        ..DEFAULTS
+    };
+    let script = "create /a 0600\nread / 0 1\nsession 3\nsync\nas 5 5\nlevel 1\n";
+    let expected = b"\
+0 ok
+0 refused JournalFull
+3 refused JournalFull
+3 refused JournalFull
+entries 1
+served 1
+denied 0
+refused 0
+cleaner 0
+";
     let written = output_with(rt.alloc(), script, params)?;
     assert_eq!(rt; written.as_slice(), expected.as_slice());
     Ok(())
@@ -87,6 +126,7 @@ fn inode_limit(rt: HostRuntime) -> Result<(), Fail> {
     }
     script.push_str("create /f13 0600\nas 5 5\ncreate /q 0600\n")?;
     expected.push_str("0 refused NoInodes\n0 denied M2 EACCES 0 0\n")?;
+    expected.push_str("entries 14\nserved 12\ndenied 1\nrefused 1\ncleaner 0\nrule M2 1\n")?;
     let written = output_with(alloc, script.as_str(), params)?;
     assert_eq!(rt; written.as_slice(), expected.as_bytes());
     Ok(())
@@ -102,7 +142,8 @@ fn line_without_line_feed(rt: HostRuntime) {
 
 #[test]
 fn empty_script(rt: HostRuntime) -> Result<(), Fail> {
-    assert!(rt; output(rt.alloc(), "")?.is_empty());
+    let expected = b"entries 0\nserved 0\ndenied 0\nrefused 0\ncleaner 0\n";
+    assert_eq!(rt; output(rt.alloc(), "")?.as_slice(), expected.as_slice());
     Ok(())
 }
 
@@ -412,4 +453,23 @@ fn rename_within_a_directory_of_long_names(rt: HostRuntime) -> Result<(), Fail> 
     script.push('\n')?;
     expected.push_str("0 ok\n")?;
     expect(&rt, alloc, script.as_str(), expected.as_str())
+}
+
+#[test]
+fn names_are_listed_in_byte_order(rt: HostRuntime) -> Result<(), Fail> {
+    let script = "\
+create /b 0644
+create /a. 0644
+create /B 0644
+create /a 0644
+list /
+";
+    let expected = "\
+0 ok
+0 ok
+0 ok
+0 ok
+0 names B a a. b
+";
+    expect(&rt, rt.alloc(), script, expected)
 }

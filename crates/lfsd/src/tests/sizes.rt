@@ -1,6 +1,6 @@
 //! Scripts at the greatest sizes, lines of sessions, and lines that the program doesn't run.
 
-use super::{expect, output, output_with};
+use super::{expect, expect_with, output};
 use crate::fault::LinesFault;
 use crate::options::DEFAULTS;
 use crate::tell::tell;
@@ -74,9 +74,7 @@ fn list_of_280_names_of_251_bytes(rt: HostRuntime) -> Result<(), Fail> {
         inodes: 512,
         ..DEFAULTS
     };
-    let written = output_with(alloc, script.as_str(), params)?;
-    assert_eq!(rt; written.as_slice(), expected.as_bytes());
-    Ok(())
+    expect_with(&rt, alloc, script.as_str(), params, expected.as_str())
 }
 
 #[test]
@@ -94,6 +92,39 @@ fn list_of_4092_names(rt: HostRuntime) -> Result<(), Fail> {
     write!(expected, "0 names{names}\n0 refused NoInodes\n")?;
     let params = Params {
         inodes: 4096,
+        ..DEFAULTS
+    };
+    expect_with(&rt, alloc, script.as_str(), params, expected.as_str())
+}
+
+/// Appends the `create` or the `unlink` of a name of `length` bytes that ends with this number, and its answer's line.
+fn push_call(to: &mut String, verb: &str, length: usize, number: u32) -> Result<(), AllocError> {
+    write!(to, "{verb} /")?;
+    push_times(to, "n", length.saturating_sub(3))?;
+    write!(to, "{number:03}")?;
+    to.push_str(if verb == "create" { " 0600\n" } else { "\n" })
+}
+
+#[test]
+fn new_name_takes_the_first_block_where_it_fits(rt: HostRuntime) -> Result<(), Fail> {
+    let alloc = rt.alloc();
+    let mut script = String::new(alloc);
+    let mut expected = String::new(alloc);
+    for k in 0..279u32 {
+        push_call(&mut script, "create", 251, k)?;
+        expected.push_str("0 ok\n")?;
+    }
+    // The last of 140 blocks has room for 46 bytes more, then the first for 251.
+    push_call(&mut script, "create", 200, 279)?;
+    push_call(&mut script, "unlink", 251, 0)?;
+    // The short name takes of the first block, so a name of 251 bytes fits no longer.
+    script.push_str("create /x 0600\n")?;
+    push_call(&mut script, "create", 251, 280)?;
+    push_call(&mut script, "create", 245, 281)?;
+    script.push_str("create /y 0600\n")?;
+    expected.push_str("0 ok\n0 ok\n0 ok\n0 refused DirectoryFull\n0 ok\n0 ok\n")?;
+    let params = Params {
+        inodes: 512,
         ..DEFAULTS
     };
     let written = output_with(alloc, script.as_str(), params)?;

@@ -3,7 +3,9 @@
 use crate::fault::LinesFault;
 use crate::options::DEFAULTS;
 use crate::run::run_lines;
+use crate::tell::end;
 use lfs_text::fault::{FaultKind, ScriptFault};
+use std::alloc::{AllocError, Global};
 use std::io;
 use std::io::{ErrorKind, Read, Write};
 use std::test::Fail;
@@ -78,6 +80,28 @@ impl Write for Full {
     }
 }
 
+/// Takes one byte at each write.
+#[derive(Drop)]
+struct Slow {
+    taken: Vec<u8>,
+}
+
+impl Write for Slow {
+    fn write(&mut self, buf: &[u8]) -> io::Result<usize> {
+        let Some(first) = buf.first() else {
+            return Ok(0);
+        };
+        match self.taken.push(*first) {
+            Ok(()) => Ok(1),
+            Err(_) => Err(io::Error::from(ErrorKind::OutOfMemory)),
+        }
+    }
+
+    fn flush(&mut self) -> io::Result<()> {
+        Ok(())
+    }
+}
+
 #[test]
 fn reader_that_fails_at_each_read(rt: HostRuntime) {
     let kinds = [ErrorKind::Interrupted, ErrorKind::Other];
@@ -129,6 +153,9 @@ fn longest_script(rt: HostRuntime) -> Result<(), Fail> {
     let mut writer = Vec::new(alloc);
     let result = run_lines(alloc, &mut script.as_slice(), &mut writer, DEFAULTS);
     assert_eq!(rt; result, Ok(()));
+    let report = b"entries 0\nserved 0\ndenied 0\nrefused 0\ncleaner 0\n";
+    assert_eq!(rt; writer.as_slice(), report.as_slice());
+    writer.clear();
     script.push(b'x')?;
     let result = run_lines(alloc, &mut script.as_slice(), &mut writer, DEFAULTS);
     assert_eq!(rt; result, Err(LinesFault::TooLong));
@@ -143,28 +170,65 @@ fn longest_script(rt: HostRuntime) -> Result<(), Fail> {
     Ok(())
 }
 
+/// A script that writes more than two pieces of 65,536 bytes, and less than three: twenty Reads of 4,096 bytes.
+fn long_answers(alloc: Global) -> Result<String, AllocError> {
+    let mut script = String::new(alloc);
+    script.push_str("create /a 0644\nlength /a 4096\n")?;
+    for _ in 0..20 {
+        script.push_str("read /a 0 4096\n")?;
+    }
+    Ok(script)
+}
+
 #[test]
-fn writer_that_fails_at_each_write(rt: HostRuntime) {
-    for writes in 0..4 {
+fn writer_that_fails_at_each_write(rt: HostRuntime) -> Result<(), Fail> {
+    let script = long_answers(rt.alloc())?;
+    for writes in 0..3 {
         let mut writer = Full {
             writes,
             flushes: true,
         };
-        let result = run_lines(rt.alloc(), &mut &*SCRIPT, &mut writer, DEFAULTS);
+        let result = run_lines(rt.alloc(), &mut script.as_bytes(), &mut writer, DEFAULTS);
         assert_eq!(rt; result, Err(LinesFault::Write), "{writes}");
     }
-    let mut writer = Full {
-        writes: 4,
-        flushes: true,
+    for (flushes, expected) in [(true, Ok(())), (false, Err(LinesFault::Write))] {
+        let mut writer = Full { writes: 3, flushes };
+        let result = run_lines(rt.alloc(), &mut script.as_bytes(), &mut writer, DEFAULTS);
+        assert_eq!(rt; result, expected);
+        assert_eq!(rt; writer.writes, 0);
+    }
+    Ok(())
+}
+
+#[test]
+fn writer_that_takes_a_byte_at_a_time(rt: HostRuntime) -> Result<(), Fail> {
+    let mut writer = Slow {
+        taken: Vec::new(rt.alloc()),
     };
     let result = run_lines(rt.alloc(), &mut &*SCRIPT, &mut writer, DEFAULTS);
     assert_eq!(rt; result, Ok(()));
-    let mut writer = Full {
-        writes: 4,
-        flushes: false,
-    };
-    let result = run_lines(rt.alloc(), &mut &*SCRIPT, &mut writer, DEFAULTS);
-    assert_eq!(rt; result, Err(LinesFault::Write));
+    let expected = b"\
+0 ok
+0 ok
+0 bytes 616263
+0 stat 4 file 0 0 0644 00000000 3
+entries 4
+served 4
+denied 0
+refused 0
+cleaner 0
+";
+    assert_eq!(rt; writer.taken.as_slice(), expected.as_slice());
+    Ok(())
+}
+
+#[test]
+fn status_of_a_run(rt: HostRuntime) {
+    let mut told = Vec::new(rt.alloc());
+    assert_eq!(rt; end(&mut told, Ok(())), 0);
+    assert!(rt; told.is_empty());
+    assert_eq!(rt; end(&mut told, Err(LinesFault::Write)), 1);
+    assert_eq!(rt; told.as_slice(), b"lfsd: write failed\n".as_slice());
 }
 
 #[test]

@@ -30,7 +30,7 @@ returns-in_err-set_attrs g c =
 
 pub returns : goal.returns
 returns g c =
-    done c.args.level c.find.ensures.state
+    done c.args.level c.find.ensures.state tt
     (serves (chflags_path c.args.level c.args.cred.now c.args.path.now c.args.flags) c.in_ok-file.file c.in_ok-file.ensures.reach c.depth.result c.depth.ensures c.in_ok-may_chflags.ensures (λ w h. h) (λ w h. h))
     (λ w. refl)
     (attrs_set c.args.cred.now c.args.path.now c.find.ensures.state c.in_ok-file.file c.in_ok-file.ensures.reach (g.F.FileStore.state c.set_attrs.new.store) (record c.in_ok-file.file.attrs { flags = c.args.flags }) refl (λ (f : File). record f { flags = c.args.flags }) (λ bytes. refl) c.in_ok-set_attrs.ensures.ok)

@@ -30,7 +30,7 @@ returns-in_err-set_attrs g c level =
 
 pub returns : goal.returns
 returns g c level =
-    done level c.find.ensures.state
+    done level c.find.ensures.state tt
     (serves (chmod_path level c.args.cred.now c.args.path.now c.args.mode) c.in_ok-file.file c.in_ok-file.ensures.reach c.depth.result c.depth.ensures c.in_ok-may_chmod.ensures (λ w h. h) (λ w h. h))
     (λ w. refl)
     (attrs_set c.args.cred.now c.args.path.now c.find.ensures.state c.in_ok-file.file c.in_ok-file.ensures.reach (g.F.FileStore.state c.set_attrs.new.store) (record c.in_ok-file.file.attrs { mode = c.args.mode }) refl (λ (f : File). record f { mode = c.args.mode }) (λ bytes. refl) c.in_ok-set_attrs.ensures.ok)

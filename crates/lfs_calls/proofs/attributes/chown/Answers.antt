@@ -31,7 +31,7 @@ returns-in_err-set_attrs g c level =
 
 pub returns : goal.returns
 returns g c level =
-    done level c.find.ensures.state
+    done level c.find.ensures.state tt
     (serves (chown_path level c.args.cred.now c.args.path.now c.args.uid c.args.gid) c.in_ok-file.file c.in_ok-file.ensures.reach c.depth.result c.depth.ensures c.in_ok-may_chown.ensures (λ w h. h) (λ w h. h))
     (λ w. refl)
     (attrs_set c.args.cred.now c.args.path.now c.find.ensures.state c.in_ok-file.file c.in_ok-file.ensures.reach (g.F.FileStore.state c.set_attrs.new.store) (record c.in_ok-file.file.attrs { uid = c.args.uid; gid = c.args.gid; mode = c.mode_after-mode.result }) refl (given c.args.cred.now c.args.uid c.args.gid) (λ bytes. ap (λ m. file_of (record c.in_ok-file.file.attrs { uid = c.args.uid; gid = c.args.gid; mode = m }) bytes) c.mode_after-mode.ensures) c.in_ok-set_attrs.ensures.ok)

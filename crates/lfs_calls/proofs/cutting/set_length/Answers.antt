@@ -47,7 +47,7 @@ pub returns : goal.returns
 returns g c level =
     let file = c.in_ok-file.file in
     let tests = judged_all (length_tests c.args.cred.now c.args.len file.attrs c.depth.result) (sym c.in_ok-may_set_length.ensures) in
-    done level c.find.ensures.state
+    done level c.find.ensures.state tt
     (serves (length_path level c.args.cred.now c.args.path.now c.args.len) file c.in_ok-file.ensures.reach c.depth.result c.depth.ensures c.in_ok-may_set_length.ensures (λ w h. h) (λ w h. h))
     (λ w. refl)
     (cut_volume (g.F.FileStore.state c.cut.new.store) c.args.cred.now c.args.path.now c.find.ensures.state file c.in_ok-file.ensures.reach c.args.len

@@ -1,4 +1,4 @@
-use Rattle.std.proofs.Common.{◌≡◌, ◌≤◌, ◌%◌, ℕ, List, [], length, None, Some, Ok, Err, sym, ap, subst, ◌∙◌}
+use Rattle.std.proofs.Common.{◌≡◌, ◌≤◌, ◌%◌, ℕ, List, [], length, None, Some, Ok, sym, ap, subst, ◌∙◌}
 use Rattle.lfs_calls.specs.Volumes.{IsVolume}
 use Rattle.lfs_calls.proofs.StateLemmas.{same_content, same_numbers}
 use Rattle.std.specs.Prelude.{IsSomeAnd}
@@ -11,50 +11,57 @@ use Rattle.lfs_types.specs.Tree.{World, Content}
 use Rattle.lfs_types.specs.declared.attrs.Kind.TheVariants.{Directory}
 use Rattle.lfs_dirs.specs.Directory.{number_in}
 use Rattle.lfs_model.specs.World.{IsTree}
-use Rattle.lfs_model.specs.Rules.{last}
+use Rattle.lfs_model.specs.Rules.{Judges, first_failing, last, making}
 use Rattle.lfs_calls.specs.Content.{Shows, AreBlocks, FitsNowhere, listed}
 use Rattle.lfs_calls.specs.declared.making.Room.{Room}
-use Rattle.lfs_calls.specs.Makes.{JudgesMaking, IsParent, IsRoom}
+use Rattle.lfs_calls.specs.Makes.{IsParent, IsRoom}
 use Rattle.lfs_model.specs.Steps.{AllUsed}
-use Rattle.lfs_calls.proofs.CreateLemmas.{dir_free, room_ready, crowded_in, not_all_used, roomy, shows_after, tree_after}
+use Rattle.lfs_calls.proofs.CreateLemmas.{enters_first, dir_free, room_ready, crowded_in, not_all_used, roomy, shows_after, tree_after}
 use Rattle.lfs_calls.proofs.Directories.{size_whole, size_bounded, bytes_listing}
-use Rattle.lfs_calls.proofs.MakeLemmas.{last_of, all_used}
-use Rattle.lfs_calls.proofs.MakeOutcomes.{make_denial, make_after, make_no_inodes, make_full, make_done, make_refused}
+use Rattle.lfs_calls.proofs.MakeLemmas.{all_used}
+use Rattle.lfs_calls.proofs.MakeOutcomes.{make_changing, make_looks, make_denial, make_after, make_no_inodes, make_full, make_done, make_refused}
 use Rattle.lfs_calls.proofs.making.make.Goals as goal
-use Rattle.lfs_calls.proofs.making.make.Goals.{In-Some-least_free}
+use Rattle.lfs_calls.proofs.making.make.Goals.{In-Some}
 
 -- the content before, as the store has it at the call
-abbrev before : (g : _) (c : In-Some-least_free g) → Content
+abbrev before : (g : _) (c : In-Some g) → Content
 before g c = (g.F.FileStore.state c.args.store.now).content
 
--- the directory in which the name is put
-parent : (g : _) (c : In-Some-least_free g) (w : World) → IsVolume (g.F.FileStore.state c.args.store.now) w → IsParent (before g c) w.rows c.args.cred.now 0 c.args.path.now c.in_ok-dir.dir
-parent g c w v = subst (λ names. JudgesMaking (before g c) w.rows c.args.cred.now 0 names (Ok c.in_ok-dir.dir)) c.names-names.ensures.value (c.in_ok-dir.ensures.judge w v)
+-- the judge found the call allowed, and the directory in which the name is put
+judged_so : (g : _) (c : In-Some g) (w : World) → IsVolume (g.F.FileStore.state c.args.store.now) w
+    → (first_failing (making w.rows c.args.cred.now 0 c.args.path.now) ≡ None) × IsParent (before g c) w.rows c.args.path.now c.in_ok-dir.dir
+judged_so g c w v = subst (λ names. Judges (making w.rows c.args.cred.now 0 names) (IsParent (before g c) w.rows names) (Ok c.in_ok-dir.dir)) c.names-names.ensures.value (c.in_ok-dir.ensures.judge w v)
 
-name_is : (g : _) (c : In-Some-least_free g) → c.in-Some.name.now ≡ last c.args.path.now
-name_is g c = sym (last_of _ c.in-Some.field-0-1.now c.in-Some.name.now (sym c.names-names.ensures.value ∙ c.in-Some.ensures.cases.0))
+parent : (g : _) (c : In-Some g) (w : World) → IsVolume (g.F.FileStore.state c.args.store.now) w → IsParent (before g c) w.rows c.args.path.now c.in_ok-dir.dir
+parent g c w v = (judged_so g c w v).1
 
-least : (g : _) (c : In-Some-least_free g) → IsLeastFree (g.F.FileStore.state c.args.store.now).shape.numbers (before g c) (Some c.in-Some-least_free.number)
-least g c = subst (λ x. IsLeastFree (g.F.FileStore.state c.args.store.now).shape.numbers x (Some c.in-Some-least_free.number)) (same_content c.judge_make.ensures.state)
-    (subst (λ n. IsLeastFree n (g.F.FileStore.state c.judge_make.new.store).content (Some c.in-Some-least_free.number)) (same_numbers c.judge_make.ensures.state) c.in-Some-least_free.ensures)
+pub last_name-name-requires : goal.last_name-name-requires
+last_name-name-requires g c = let t = c.requires in (c.in_ok-dir.ensures.judge t.0 t.1).1.some
+
+name_is : (g : _) (c : In-Some g) → c.last_name-name.result.now ≡ last c.args.path.now
+name_is g c = c.last_name-name.ensures.name ∙ ap last c.names-names.ensures.value
+
+least : (g : _) (c : In-Some g) → IsLeastFree (g.F.FileStore.state c.args.store.now).shape.numbers (before g c) (Some c.in-Some.number)
+least g c = subst (λ x. IsLeastFree (g.F.FileStore.state c.args.store.now).shape.numbers x (Some c.in-Some.number)) (same_content c.judge_make.ensures.state)
+    (subst (λ n. IsLeastFree n (g.F.FileStore.state c.judge_make.new.store).content (Some c.in-Some.number)) (same_numbers c.judge_make.ensures.state) c.in-Some.ensures)
 
 pub find_room-requires-clause-whole : goal.find_room-requires-clause-whole
 find_room-requires-clause-whole g c =
-    let k = (goal.at.find_room-requires-clause-whole g c).In-Some-least_free in
+    let k = (goal.at.find_room-requires-clause-whole g c).In-Some in
     let t = c.requires in
     let is = parent g k t.0 t.1 in
     size_whole t.1.shows c.in_ok-dir.dir.number c.in_ok-dir.dir.attrs is.shown is.directory
 
 pub find_room-requires-clause-bounded : goal.find_room-requires-clause-bounded
 find_room-requires-clause-bounded g c =
-    let k = (goal.at.find_room-requires-clause-bounded g c).In-Some-least_free in
+    let k = (goal.at.find_room-requires-clause-bounded g c).In-Some in
     let t = c.requires in
     let is = parent g k t.0 t.1 in
     size_bounded t.1.shows c.in_ok-dir.dir.number c.in_ok-dir.dir.attrs is.shown is.directory
 
 pub find_room-requires-clause-blocks : goal.find_room-requires-clause-blocks
 find_room-requires-clause-blocks g c =
-    let k = (goal.at.find_room-requires-clause-blocks g c).In-Some-least_free in
+    let k = (goal.at.find_room-requires-clause-blocks g c).In-Some in
     let t = c.requires in
     let is = parent g k t.0 t.1 in
     subst (λ x. AreBlocks (bytes_of x c.in_ok-dir.dir.number)) (sym (same_content c.judge_make.ensures.state))
@@ -62,95 +69,105 @@ find_room-requires-clause-blocks g c =
 
 pub find_room-requires-clause-free : goal.find_room-requires-clause-free
 find_room-requires-clause-free g c =
-    let k = (goal.at.find_room-requires-clause-free g c).In-Some-least_free in
+    let k = (goal.at.find_room-requires-clause-free g c).In-Some in
     let t = c.requires in
     ap (λ n. number_in n (listed (bytes_of (g.F.FileStore.state c.judge_make.new.store).content c.in_ok-dir.dir.number))) (name_is g k)
     ∙ ap (λ x. number_in (last c.args.path.now) (listed (bytes_of x c.in_ok-dir.dir.number))) (same_content c.judge_make.ensures.state)
     ∙ dir_free t.1.shows (parent g k t.0 t.1)
 
-short : (g : _) (c : In-Some-least_free g) → length (last c.args.path.now) ≤ 255
+short : (g : _) (c : In-Some g) → length (last c.args.path.now) ≤ 255
 short g c = subst (λ (n : List ℕ). length n ≤ 255) (name_is g c) c.as_bytes.ensures.bounded
 
 -- the store has a number, and so the tree has one
-numbered : (g : _) (c : In-Some-least_free g) (w : World) → IsVolume (g.F.FileStore.state c.args.store.now) w → AllUsed (g.F.FileStore.state c.args.store.now).shape.numbers w.rows → ⊥
-numbered g c w v = not_all_used v.shows (parent g c w v) (g.F.FileStore.state c.args.store.now).shape.numbers c.in-Some-least_free.number (least g c)
+numbered : (g : _) (c : In-Some g) (w : World) → IsVolume (g.F.FileStore.state c.args.store.now) w → AllUsed (g.F.FileStore.state c.args.store.now).shape.numbers w.rows → ⊥
+numbered g c w v = not_all_used v.shows (parent g c w v) (g.F.FileStore.state c.args.store.now).shape.numbers c.in-Some.number (least g c)
 
 -- the room that was found, in the content before
-room_is : (g : _) (c : In-Some-least_free g) (room : Room) (n : ℕ) → IsRoom (bytes_of (g.F.FileStore.state c.judge_make.new.store).content c.in_ok-dir.dir.number) c.in-Some-least_free.number c.in-Some.name.now room n
-    → IsRoom (bytes_of (before g c) c.in_ok-dir.dir.number) c.in-Some-least_free.number (last c.args.path.now) room n
+room_is : (g : _) (c : In-Some g) (room : Room) (n : ℕ) → IsRoom (bytes_of (g.F.FileStore.state c.judge_make.new.store).content c.in_ok-dir.dir.number) c.in-Some.number c.last_name-name.result.now room n
+    → IsRoom (bytes_of (before g c) c.in_ok-dir.dir.number) c.in-Some.number (last c.args.path.now) room n
 room_is g c room n h =
-    subst (λ x. IsRoom (bytes_of x c.in_ok-dir.dir.number) c.in-Some-least_free.number (last c.args.path.now) room n) (same_content c.judge_make.ensures.state)
-    (subst (λ name. IsRoom (bytes_of (g.F.FileStore.state c.judge_make.new.store).content c.in_ok-dir.dir.number) c.in-Some-least_free.number name room n) (name_is g c) h)
+    subst (λ x. IsRoom (bytes_of x c.in_ok-dir.dir.number) c.in-Some.number (last c.args.path.now) room n) (same_content c.judge_make.ensures.state)
+    (subst (λ name. IsRoom (bytes_of (g.F.FileStore.state c.judge_make.new.store).content c.in_ok-dir.dir.number) c.in-Some.number name room n) (name_is g c) h)
 
 pub put_new-requires-clause-directory : goal.put_new-requires-clause-directory
 put_new-requires-clause-directory g c =
-    let k = (goal.at.put_new-requires-clause-directory g c).In-Some-least_free in
+    let k = (goal.at.put_new-requires-clause-directory g c).In-Some in
     let t = c.requires in
     let found = c.in-Some-find_room.ensures.room in
     subst (λ x. IsSomeAnd (get x c.in_ok-dir.dir.number) (λ f. (f.kind ≡ Directory) × (length f.bytes % 512 ≡ 0) × (length f.bytes ≤ 71680) × (c.in-Some-find_room.room.off ≤ length f.bytes)))
     (sym ((same_content c.find_room.ensures.state) ∙ (same_content c.judge_make.ensures.state)))
     (room_ready t.1.shows (parent g k t.0 t.1) (room_is g k c.in-Some-find_room.room found.0 found.1))
 
-pub returns-in_err-dir : goal.returns-in_err-dir
-returns-in_err-dir g c level =
+pub returns-in_err-dir-clause-call : goal.returns-in_err-dir-clause-call
+returns-in_err-dir-clause-call g c level =
     let p = err_from_is_err_and c.from_residual.result c.from_residual.ensures.1 in
     rw (p.1, p.2) (denied level c.judge_make.ensures.state c.in_err-dir.field-0.0 (λ w v at_level.
     make_denial (g.F.FileStore.state c.args.store.now) w c.args.cred.now c.args.path.now c.args.mode c.args.kind c.in_err-dir.field-0.0
-    (subst (λ names. JudgesMaking (g.F.FileStore.state c.args.store.now).content w.rows c.args.cred.now 0 names (Err c.in_err-dir.field-0.0)) c.names-names.ensures.value (c.in_err-dir.ensures.judge w v))))
+    (subst (λ names. first_failing (making w.rows c.args.cred.now 0 names) ≡ Some c.in_err-dir.field-0.0) c.names-names.ensures.value (c.in_err-dir.ensures.judge w v))))
 
-pub returns-in_default-least_free : goal.returns-in_default-least_free
-returns-in_default-least_free g c level = lacking level c.judge_make.ensures.state NoInodes (λ w v at_level.
+pub returns-in_default-clause-call : goal.returns-in_default-clause-call
+returns-in_default-clause-call g c level = lacking level c.judge_make.ensures.state NoInodes (λ w v at_level.
     let before = (g.F.FileStore.state c.args.store.now).content in
     let numbers = (g.F.FileStore.state c.args.store.now).shape.numbers in
-    let is = subst (λ names. JudgesMaking before w.rows c.args.cred.now 0 names (Ok c.in_ok-dir.dir)) c.names-names.ensures.value (c.in_ok-dir.ensures.judge w v) in
+    let allowed = (subst (λ names. Judges (making w.rows c.args.cred.now 0 names) (IsParent before w.rows names) (Ok c.in_ok-dir.dir)) c.names-names.ensures.value (c.in_ok-dir.ensures.judge w v)).0 in
     let used = subst (λ x. IsUsedBelow x numbers) (same_content c.judge_make.ensures.state)
-    (subst (λ n. IsUsedBelow (g.F.FileStore.state c.judge_make.new.store).content n) (same_numbers c.judge_make.ensures.state) c.in_default-least_free.ensures) in
-    make_no_inodes (g.F.FileStore.state c.args.store.now) w c.args.cred.now c.args.path.now c.args.mode is.allowed c.args.kind (all_used before w v.shows numbers used))
+    (subst (λ n. IsUsedBelow (g.F.FileStore.state c.judge_make.new.store).content n) (same_numbers c.judge_make.ensures.state) c.in_default.ensures) in
+    make_no_inodes (g.F.FileStore.state c.args.store.now) w c.args.cred.now c.args.path.now c.args.mode allowed c.args.kind (all_used before w v.shows numbers used))
 
-pub returns-in_default-find_room : goal.returns-in_default-find_room
-returns-in_default-find_room g c level = lacking level (c.find_room.ensures.state ∙ c.judge_make.ensures.state) DirectoryFull (λ w v at_level.
-    let k = (goal.at.returns-in_default-find_room g c).In-Some-least_free in
+pub returns-in_default-find_room-clause-call : goal.returns-in_default-find_room-clause-call
+returns-in_default-find_room-clause-call g c level = lacking level (c.find_room.ensures.state ∙ c.judge_make.ensures.state) DirectoryFull (λ w v at_level.
+    let k = (goal.at.returns-in_default-find_room-clause-call g c).In-Some in
     let is = parent g k w v in
     let full = subst (λ x. FitsNowhere (bytes_of x c.in_ok-dir.dir.number) None (last c.args.path.now)) (same_content c.judge_make.ensures.state)
     (subst (λ name. FitsNowhere (bytes_of (g.F.FileStore.state c.judge_make.new.store).content c.in_ok-dir.dir.number) None name) (name_is g k) c.in_default-find_room.ensures.room) in
-    make_full (g.F.FileStore.state c.args.store.now) w c.args.cred.now c.args.path.now c.args.mode is.allowed (numbered g k w v) c.args.kind
+    make_full (g.F.FileStore.state c.args.store.now) w c.args.cred.now c.args.path.now c.args.mode (judged_so g k w v).0 (numbered g k w v) c.args.kind
     (crowded_in v.shows is full (short g k)) (subst (λ p. FitsNowhere (bytes_of (before g k) p) None (last c.args.path.now)) (sym is.object) full))
 
-pub returns-in_err-put_new : goal.returns-in_err-put_new
-returns-in_err-put_new g c level =
+pub returns-in_err-put_new-clause-call : goal.returns-in_err-put_new-clause-call
+returns-in_err-put_new-clause-call g c level =
     let p = err_from_is_err_and c.from_residual-in_err-put_new.result c.from_residual-in_err-put_new.ensures.1 in
-    rw (p.1, p.2) (refused_so level (c.find_room.ensures.state ∙ c.judge_make.ensures.state) c.in_err-put_new.field-0.0 (λ w v at_level.
-    let k = (goal.at.returns-in_err-put_new g c).In-Some-least_free in
+    rw (p.1, p.2) (refused_so level (c.find_room.ensures.state ∙ c.judge_make.ensures.state) c.in_err-put_new.field-0.0 (make_changing c.args.path.now c.args.mode c.args.kind) (λ w v at_level.
+    let k = (goal.at.returns-in_err-put_new-clause-call g c).In-Some in
     let is = parent g k w v in
     let found = c.in-Some-find_room.ensures.room in
-    make_refused (g.F.FileStore.state c.args.store.now) w c.args.cred.now c.args.path.now c.args.mode is.allowed (numbered g k w v)
+    make_refused (g.F.FileStore.state c.args.store.now) w c.args.cred.now c.args.path.now c.args.mode (judged_so g k w v).0 (numbered g k w v)
     (roomy v.shows is (room_is g k c.in-Some-find_room.room found.0 found.1)) c.args.kind c.in_err-put_new.field-0.0
     (subst (λ s. MayRefuse s.clean s.shape.can_lack_memory c.in_err-put_new.field-0.0) (c.find_room.ensures.state ∙ c.judge_make.ensures.state) c.in_err-put_new.ensures.refused)) c.in_err-put_new.ensures)
 
-pub returns : goal.returns
-returns g c level = done_so level (c.find_room.ensures.state ∙ c.judge_make.ensures.state)
+pub returns-clause-call : goal.returns-clause-call
+returns-clause-call g c level = done_so level (c.find_room.ensures.state ∙ c.judge_make.ensures.state) (make_looks _ _ c.args.path.now c.args.mode c.args.kind)
     (λ w v at_level.
-    let k = (goal.at.returns g c).In-Some-least_free in
+    let k = (goal.at.returns-clause-call g c).In-Some in
     let is = parent g k w v in
     let found = c.in-Some-find_room.ensures.room in
-    make_done (g.F.FileStore.state c.args.store.now) w c.args.cred.now c.args.path.now c.args.mode is.allowed (numbered g k w v)
+    make_done (g.F.FileStore.state c.args.store.now) w c.args.cred.now c.args.path.now c.args.mode (judged_so g k w v).0 (numbered g k w v)
     (roomy v.shows is (room_is g k c.in-Some-find_room.room found.0 found.1)) c.args.kind)
     (λ w v. record {
       shows =
-          let k = (goal.at.returns g c).In-Some-least_free in
+          let k = (goal.at.returns-clause-call g c).In-Some in
           let is = parent g k w v in
           let found = c.in-Some-find_room.ensures.room in
           let numbers = (g.F.FileStore.state c.args.store.now).shape.numbers in
           subst (Shows (g.F.FileStore.state c.put_new.new.store).content) (sym (make_after (g.F.FileStore.state c.args.store.now) w c.args.cred.now c.args.path.now c.args.mode c.args.kind))
-          (shows_after v.shows is v.tree numbers c.in-Some-least_free.number (least g k) c.args.kind c.args.mode (room_is g k c.in-Some-find_room.room found.0 found.1)
+          (shows_after v.shows is c.args.cred.now v.tree numbers c.in-Some.number (least g k) c.args.kind c.args.mode (room_is g k c.in-Some-find_room.room found.0 found.1)
           (g.F.FileStore.state c.find_room.new.store).content (g.F.FileStore.state c.put_new.new.store).content ((same_content c.find_room.ensures.state) ∙ (same_content c.judge_make.ensures.state))
           _ (ap (λ n. record { kind = c.args.kind; uid = c.uid.result; gid = c.in_ok-dir.dir.attrs.gid; mode = c.args.mode; flags = n; bytes = [] }) c.none.ensures
           ∙ ap (λ n. record { kind = c.args.kind; uid = n; gid = c.in_ok-dir.dir.attrs.gid; mode = c.args.mode; flags = 0; bytes = [] }) c.uid.ensures)
           c.in_ok-put_new.ensures.ok);
       tree =
-          let k = (goal.at.returns g c).In-Some-least_free in
+          let k = (goal.at.returns-clause-call g c).In-Some in
           let numbers = (g.F.FileStore.state c.args.store.now).shape.numbers in
           subst (λ (x : World). IsTree x.rows) (sym (make_after (g.F.FileStore.state c.args.store.now) w c.args.cred.now c.args.path.now c.args.mode c.args.kind))
-          (tree_after v.shows (parent g k w v) v.tree numbers c.in-Some-least_free.number (least g k) c.args.kind c.args.mode);
+          (tree_after v.shows (parent g k w v) c.args.cred.now v.tree numbers c.in-Some.number (least g k) c.args.kind c.args.mode);
     })
     c.in_ok-put_new.ensures.follows
+
+-- the block was found as the first with room, and it alone was written
+pub returns-clause-place : goal.returns-clause-place
+returns-clause-place g c w v =
+    let k = (goal.at.returns-clause-place g c).In-Some in
+    let is = parent g k w v in
+    let found = c.in-Some-find_room.ensures.room in
+    let room = c.in-Some-find_room.room in
+    enters_first v.shows is (room_is g k room found.0 found.1) (g.F.FileStore.state c.find_room.new.store).content (g.F.FileStore.state c.put_new.new.store).content
+    ((same_content c.find_room.ensures.state) ∙ (same_content c.judge_make.ensures.state)) _ c.in_ok-put_new.ensures.ok

@@ -1,16 +1,12 @@
 use Rattle.std.proofs.Common.{◌≡◌, refl, sym, subst}
 use Rattle.lfs_calls.proofs.StateLemmas.{follows_same, same_content}
 use Rattle.lfs_types.specs.StoreStates.{StoreState}
-use Rattle.std.specs.Prelude.{IsSome, IfErr, OnErr}
+use Rattle.std.specs.Prelude.{IfErr, OnErr}
 use Rattle.std.proofs.lemmas.Result.{IfOk-weaker}
 use Rattle.lfs_types.specs.Stored.{bytes_of, MayRefuse}
 use Rattle.lfs_types.specs.Tree.{Content, World}
-use Rattle.lfs_dirs.specs.Directory.{number_in}
-use Rattle.lfs_model.specs.Rules.{last}
-use Rattle.lfs_calls.specs.Content.{listed}
 use Rattle.lfs_calls.specs.Removes.{HangsAs, IsTaking, TakesFile}
 use Rattle.lfs_calls.proofs.Directories.{size_whole, size_bounded, bytes_listing}
-use Rattle.lfs_calls.proofs.MakeLemmas.{last_of}
 use Rattle.lfs_calls.specs.Volumes.{IsVolume}
 use Rattle.lfs_calls.proofs.CallLemmas.{still}
 use Rattle.lfs_calls.proofs.TakeLemmas.{taking_listed, can_take, takes_file}
@@ -18,15 +14,14 @@ use Rattle.lfs_calls.proofs.removing.take_row.Goals as goal
 use Rattle.lfs_calls.proofs.removing.take_row.Goals.{After-apply, After-take_name-room}
 
 -- the row, as the store shows it after its directory was read
-at_take : (g : _) (c : After-take_name-room g) → (w : World) × (IsVolume (g.F.FileStore.state c.take_name-room.new.store) w × HangsAs (g.F.FileStore.state c.take_name-room.new.store).content w.rows c.args.removal.now c.in-Some.name.now)
+at_take : (g : _) (c : After-take_name-room g) → (w : World) × (IsVolume (g.F.FileStore.state c.take_name-room.new.store) w × HangsAs (g.F.FileStore.state c.take_name-room.new.store).content w.rows c.args.removal.now c.args.name.now)
 at_take g c =
     let t = c.requires.world in
-    let named = subst (HangsAs (g.F.FileStore.state c.args.store.now).content t.0.rows c.args.removal.now) (last_of _ _ _ c.in-Some.ensures.cases.0) t.1.1 in
-    (t.0, (still c.take_name-room.ensures.state t.1.0, subst (λ x. HangsAs x t.0.rows c.args.removal.now c.in-Some.name.now) (sym (same_content c.take_name-room.ensures.state)) named))
+    (t.0, (still c.take_name-room.ensures.state t.1.0, subst (λ x. HangsAs x t.0.rows c.args.removal.now c.args.name.now) (sym (same_content c.take_name-room.ensures.state)) t.1.1))
 
 -- the block without the name
-taken : (g : _) (c : After-take_name-room g) → IsTaking (bytes_of (g.F.FileStore.state c.take_name-room.new.store).content c.args.removal.now.dir.number) c.in-Some.name.now c.take_name-room.result c.take_name-room.ensures.room.0
-taken g c = subst (λ x. IsTaking (bytes_of x c.args.removal.now.dir.number) c.in-Some.name.now c.take_name-room.result c.take_name-room.ensures.room.0) (sym (same_content c.take_name-room.ensures.state)) c.take_name-room.ensures.room.1
+taken : (g : _) (c : After-take_name-room g) → IsTaking (bytes_of (g.F.FileStore.state c.take_name-room.new.store).content c.args.removal.now.dir.number) c.args.name.now c.take_name-room.result c.take_name-room.ensures.room.0
+taken g c = subst (λ x. IsTaking (bytes_of x c.args.removal.now.dir.number) c.args.name.now c.take_name-room.result c.take_name-room.ensures.room.0) (sym (same_content c.take_name-room.ensures.state)) c.take_name-room.ensures.room.1
 
 pub take_name-room-requires-clause-whole : goal.take_name-room-requires-clause-whole
 take_name-room-requires-clause-whole g c =
@@ -46,14 +41,13 @@ take_name-room-requires-clause-blocks g c =
 pub take_name-room-requires-clause-listed : goal.take_name-room-requires-clause-listed
 take_name-room-requires-clause-listed g c =
     let t = c.requires.world in
-    subst (λ name. IsSome (number_in name (listed (bytes_of (g.F.FileStore.state c.args.store.now).content c.args.removal.now.dir.number)))) (last_of _ _ _ c.in-Some.ensures.cases.0)
-    (taking_listed (g.F.FileStore.state c.args.store.now).content t.0 t.1.0.shows t.1.0.tree c.args.removal.now (last c.args.names.now) t.1.1)
+    taking_listed (g.F.FileStore.state c.args.store.now).content t.0 t.1.0.shows t.1.0.tree c.args.removal.now c.args.name.now t.1.1
 
 pub apply-requires : goal.apply-requires
 apply-requires g c =
     let k = (goal.at.apply-requires g c).After-take_name-room in
     let t = at_take g k in
-    can_take (g.F.FileStore.state c.take_name-room.new.store).content t.0 t.1.0.shows t.1.0.tree c.args.removal.now c.in-Some.name.now t.1.1 c.take_name-room.result c.take_name-room.ensures.room.0 (taken g k) _ _ refl
+    can_take (g.F.FileStore.state c.take_name-room.new.store).content t.0 t.1.0.shows t.1.0.tree c.args.removal.now c.args.name.now t.1.1 c.take_name-room.result c.take_name-room.ensures.room.0 (taken g k) _ _ refl
 
 -- where the store refused, nothing changed
 onerr : (g : _) (c : After-apply g) → OnErr c.apply.result ((g.F.FileStore.state c.apply.new.self).content ≡ (g.F.FileStore.state c.args.store.now).content)
@@ -69,9 +63,9 @@ returns g c =
         c.take_name-room.result,
         c.take_name-room.ensures.room.0,
         (
-          subst (λ name. IsTaking (bytes_of (g.F.FileStore.state c.args.store.now).content c.args.removal.now.dir.number) name c.take_name-room.result c.take_name-room.ensures.room.0) (sym (last_of _ _ _ c.in-Some.ensures.cases.0)) c.take_name-room.ensures.room.1,
+          c.take_name-room.ensures.room.1,
           subst (λ x. TakesFile x (g.F.FileStore.state c.apply.new.self).content c.args.removal.now.file.number c.args.removal.now.dir.number c.take_name-room.result.off c.take_name-room.result.block) (same_content same)
-              (takes_file (g.F.FileStore.state c.take_name-room.new.store).content t.0 t.1.0.shows t.1.0.tree c.args.removal.now c.in-Some.name.now t.1.1 c.take_name-room.result c.take_name-room.ensures.room.0 (taken g k) (g.F.FileStore.state c.apply.new.self).content h),
+              (takes_file (g.F.FileStore.state c.take_name-room.new.store).content t.0 t.1.0.shows t.1.0.tree c.args.removal.now c.args.name.now t.1.1 c.take_name-room.result c.take_name-room.ensures.room.0 (taken g k) (g.F.FileStore.state c.apply.new.self).content h),
         ),
       ))
           c.apply.ensures.ok;

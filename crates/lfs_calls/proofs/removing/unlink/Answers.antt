@@ -2,10 +2,9 @@ use Rattle.std.proofs.Common.{Err, Ok, refl, sym, subst}
 use Rattle.std.proofs.lemmas.Result.{err_from_is_err_and}
 use Rattle.lfs_types.specs.declared.answer.Served.TheVariants.{Done}
 use Rattle.lfs_types.specs.declared.request.Request.TheVariants.{Unlink}
-use Rattle.lfs_model.specs.Rules.{last}
 use Rattle.lfs_calls.specs.declared.halt.Halt.TheVariants.{Denied, Refused}
 use Rattle.lfs_calls.specs.Calls.{IsCallAt, resource_of}
-use Rattle.lfs_calls.specs.Removes.{HangsAs}
+use Rattle.lfs_calls.specs.Removes.{HangsAs, TakesRow}
 use Rattle.lfs_calls.proofs.CallLemmas.{denied, done, refused, still}
 use Rattle.lfs_calls.proofs.RowLemmas.{row_hangs, row_taken}
 use Rattle.lfs_calls.proofs.StateLemmas.{same_content}
@@ -20,13 +19,18 @@ returns-in_err-removal g c level =
     rw (p.1, p.2) (subst (λ path. IsCallAt level old new c.args.cred.now (Unlink path) (Err (Denied denial))) c.names-names.ensures.value
     (denied level c.judge_unlink.ensures.state denial (λ w v at. c.in_err-removal.ensures.judge w v)))
 
-pub take_row-requires-clause-world : goal.take_row-requires-clause-world
-take_row-requires-clause-world g c =
+pub last_name-requires : goal.last_name-requires
+last_name-requires g c = let t = c.requires in (c.in_ok-removal.ensures.judge t.0 t.1).1.is.some
+
+pub take_row-requires : goal.take_row-requires
+take_row-requires g c =
     let t = c.requires in
     let names = c.names-names.result.now in
     let removal = c.in_ok-removal.removal in
-    let hangs = row_hangs (g.F.FileStore.state c.args.store.now).content t.0 t.1.shows t.1.tree c.args.cred.now names (Unlink names) removal (c.in_ok-removal.ensures.judge t.0 t.1) in
-    (t.0, (still c.judge_unlink.ensures.state t.1, subst (λ x. HangsAs x t.0.rows removal (last names)) (sym (same_content c.judge_unlink.ensures.state)) hangs))
+    let hangs = row_hangs (g.F.FileStore.state c.args.store.now).content t.0 t.1.shows t.1.tree names removal (c.in_ok-removal.ensures.judge t.0 t.1).1 in
+    let content = sym (same_content c.judge_unlink.ensures.state) in
+    let named = subst (λ name. HangsAs (g.F.FileStore.state c.args.store.now).content t.0.rows removal name) (sym c.last_name.ensures.name) hangs in
+    record { world = (t.0, (still c.judge_unlink.ensures.state t.1, subst (λ x. HangsAs x t.0.rows removal c.last_name.result.now) content named)) }
 
 pub returns-in_err-take_row : goal.returns-in_err-take_row
 returns-in_err-take_row g c level =
@@ -36,7 +40,7 @@ returns-in_err-take_row g c level =
     let refusal = c.in_err-take_row.field-0.0 in
     rw (p.1, p.2) (subst (λ path. IsCallAt level old new c.args.cred.now (Unlink path) (Err (Refused (resource_of refusal)))) c.names-names.ensures.value
     (refused level c.judge_unlink.ensures.state refusal tt
-    (λ w v at. record { allowed = (c.in_ok-removal.ensures.judge w v).allowed; numbered = λ h. h; roomy = λ h. h })
+    (λ w v at. record { allowed = (c.in_ok-removal.ensures.judge w v).0; numbered = λ h. h; roomy = λ h. h })
     c.in_err-take_row.ensures))
 
 pub returns : goal.returns
@@ -45,8 +49,9 @@ returns g c level =
     let new = g.F.FileStore.state c.take_row.new.store in
     let names = c.names-names.result.now in
     subst (λ path. IsCallAt level old new c.args.cred.now (Unlink path) (Ok Done)) c.names-names.ensures.value
-    (done level c.judge_unlink.ensures.state
-    (λ w v at. record { allowed = (c.in_ok-removal.ensures.judge w v).allowed; numbered = λ h. h; roomy = λ h. h })
+    (done level c.judge_unlink.ensures.state tt
+    (λ w v at. record { allowed = (c.in_ok-removal.ensures.judge w v).0; numbered = λ h. h; roomy = λ h. h })
     (λ w. refl)
-    (row_taken new c.args.cred.now names (Unlink names) c.in_ok-removal.removal c.judge_unlink.ensures.state c.in_ok-removal.ensures.judge c.in_ok-take_row.ensures.ok)
+    (row_taken new names c.in_ok-removal.removal c.judge_unlink.ensures.state (λ w v. (c.in_ok-removal.ensures.judge w v).1)
+    (subst (λ name. TakesRow (g.F.FileStore.state c.judge_unlink.new.store).content new.content c.in_ok-removal.removal name) c.last_name.ensures.name c.in_ok-take_row.ensures.ok))
     c.in_ok-take_row.ensures.follows)

@@ -36,11 +36,11 @@ returns-in-Sync g c =
 
 pub returns-in-Create : goal.returns-in-Create
 returns-in-Create g c =
-    subst (λ r. IsCallAt c.args.level (g.F.FileStore.state c.args.store.now) (g.F.FileStore.state c.create.new.store) c.args.cred.now r c.create.result) (sym c.in-Create.is) (c.create.ensures c.args.level)
+    subst (λ r. IsCallAt c.args.level (g.F.FileStore.state c.args.store.now) (g.F.FileStore.state c.create.new.store) c.args.cred.now r c.create.result) (sym c.in-Create.is) (c.create.ensures.call c.args.level)
 
 pub returns-in-Mkdir : goal.returns-in-Mkdir
 returns-in-Mkdir g c =
-    subst (λ r. IsCallAt c.args.level (g.F.FileStore.state c.args.store.now) (g.F.FileStore.state c.mkdir.new.store) c.args.cred.now r c.mkdir.result) (sym c.in-Mkdir.is) (c.mkdir.ensures c.args.level)
+    subst (λ r. IsCallAt c.args.level (g.F.FileStore.state c.args.store.now) (g.F.FileStore.state c.mkdir.new.store) c.args.cred.now r c.mkdir.result) (sym c.in-Mkdir.is) (c.mkdir.ensures.call c.args.level)
 
 pub returns-in-Unlink : goal.returns-in-Unlink
 returns-in-Unlink g c =
@@ -52,4 +52,4 @@ returns-in-Rmdir g c =
 
 pub returns-in-Rename : goal.returns-in-Rename
 returns-in-Rename g c =
-    subst (λ r. IsCallAt c.args.level (g.F.FileStore.state c.args.store.now) (g.F.FileStore.state c.rename.new.store) c.args.cred.now r c.rename.result) (sym c.in-Rename.is) (c.rename.ensures c.args.level)
+    subst (λ r. IsCallAt c.args.level (g.F.FileStore.state c.args.store.now) (g.F.FileStore.state c.rename.new.store) c.args.cred.now r c.rename.result) (sym c.in-Rename.is) (c.rename.ensures.call c.args.level)

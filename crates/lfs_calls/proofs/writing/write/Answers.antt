@@ -78,7 +78,7 @@ returns g c level =
     let new = g.F.FileStore.state c.put.new.store in
     let bytes = c.as_slice-bytes.result.now in
     let some : (length bytes == 0) ≡ false = sym c.if-is_empty.ensures in
-    done level c.find.ensures.state
+    done level c.find.ensures.state tt
     (serves (write_path level c.args.cred.now c.args.path.now c.args.place c.args.bytes.now) c.in_ok-file.file c.in_ok-file.ensures.reach c.depth.result c.depth.ensures (tested g k) (λ w h. h) (λ w h. h))
     (λ w. refl)
     (subst (λ (bs : List ℕ). InWorld old (λ w. IsVolume new (after_write w c.args.cred.now c.args.path.now c.args.place bs))) c.as_slice-bytes.ensures.value

@@ -1,4 +1,4 @@
-use Rattle.lfs_model.proofs.EntryLemmas.{each_entry}
+use Rattle.lfs_model.proofs.EachLemmas.{each_entry}
 use Rattle.lfs_model.proofs.laws.each_entry.Goals as goal
 
 pub returns : goal.returns

@@ -1,6 +1,6 @@
 use Rattle.std.proofs.Common.{◌≡◌, ◌++◌, map, take}
 use Rattle.lfs_text.specs.AnswerText.{spaced}
-use Rattle.lfs_text.specs.NameText.{name_text}
+use Rattle.lfs_words.specs.NameText.{name_text}
 use Rattle.lfs_text.proofs.print.push_names.Given as goal
 
 abbrev pub invariant-loop-name : goal.invariant-loop-name

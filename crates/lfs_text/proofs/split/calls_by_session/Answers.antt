@@ -1,4 +1,4 @@
-use Rattle.std.proofs.Common.{◌≡◌, ◌∙◌, length, map, ap, refl}
+use Rattle.std.proofs.Common.{◌≡◌, ◌∙◌, length, ap, refl}
 use Rattle.lfs_text.proofs.SplitLemmas.{length-with_call, sorted_push, sorted_skip}
 use Rattle.lfs_text.proofs.split.calls_by_session.Goals as goal
 

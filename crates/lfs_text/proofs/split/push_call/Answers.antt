@@ -1,4 +1,4 @@
-use Rattle.std.proofs.Common.{◌≡◌, ◌<◌, length, rules}
+use Rattle.std.proofs.Common.{◌<◌, length, rules}
 use Rattle.lfs_text.proofs.SplitLemmas.{with_call-push}
 use Rattle.lfs_text.proofs.split.push_call.Goals as goal
 

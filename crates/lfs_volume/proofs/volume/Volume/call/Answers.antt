@@ -1,4 +1,4 @@
-use Rattle.std.proofs.Common.{◌≡◌, ℕ, [], ◌∷◌, ◌++◌, refl, sym, ap, subst, ◌∙◌, arith}
+use Rattle.std.proofs.Common.{refl, sym, subst, arith}
 use Rattle.lfs_types.specs.StoreStates.{StoreState}
 use Rattle.lfs_types.specs.Tree.{World}
 use Rattle.lfs_types.specs.declared.answer.Answer.TheVariants.{Refused}
@@ -6,10 +6,10 @@ use Rattle.lfs_types.specs.declared.answer.Resource.TheVariants.{NoMemory}
 use Rattle.lfs_model.specs.declared.journal.Event.TheVariants.{User}
 use Rattle.lfs_model.specs.Steps.{world_of}
 use Rattle.lfs_calls.specs.Outcomes.{IsOutcome}
-use Rattle.lfs_volume.specs.Journals.{IsJournal, Stays}
-use Rattle.lfs_volume.proofs.JournalLemmas.{IsJournal-same, IsJournal-entered, copy_outcome, lack_unserved}
+use Rattle.lfs_volume.specs.Journals.{IsJournal, IsStep, Stays}
+use Rattle.lfs_volume.proofs.JournalLemmas.{IsJournal-same, IsStep-answered, copy_outcome, lack_unserved}
 use Rattle.lfs_volume.proofs.volume.Volume.call.Goals as goal
-use Rattle.lfs_volume.proofs.volume.Volume.call.Goals.{After-answer-answer, In-Ok-push}
+use Rattle.lfs_volume.proofs.volume.Volume.call.Goals.{After-answer-answer, After-enter}
 
 -- the store before the call and after it
 abbrev before : (g : _) (c : After-answer-answer g) → StoreState
@@ -70,17 +70,18 @@ returns-clause-outcome g c room =
     subst (λ v. IsOutcome (g.F.FileStore.state v.store) (world_of (g.F.FileStore.state v.store).shape.numbers v.journal) c.args.cred.now c.args.request c.answer-answer.result) c.self.view_is (outcome_is g k)
 
 -- the journal after the entry
-longer : (g : _) (c : In-Ok-push g) → IsJournal (g.F.FileStore.state c.answer-answer.new.store) c.answer-answer.new.level c.push.new.self.items c.self.inside.limit
+longer : (g : _) (c : After-enter g) → IsJournal (g.F.FileStore.state c.answer-answer.new.store) c.answer-answer.new.level c.enter.new.journal.items c.self.inside.limit
 longer g c =
     let k = (goal.at.returns-clause-legal g c).After-answer-answer in
-    let entered =
-    IsJournal-entered (before g k) (after g k) c.self.inside.level c.answer-answer.new.level c.self.inside.journal.items c.self.inside.limit c.args.session c.args.cred.now c.args.request c.answer-answer.result
-    c.self.invariant.0 (omega (arith, c.if-len-self.false, c.len.ensures, c.self.inside.journal.ok.0)) c.answer-answer.ensures (sym c.if-lacks_memory.ensures) in
-    let items = c.in-Ok-push.ensures.items ∙ ap (λ a. c.self.inside.journal.items ++ record { session = c.args.session; cred = c.args.cred.now; event = User c.args.request a } ∷ []) c.in-Ok.ensures.copy in
-    subst (λ es. IsJournal (after g k) c.answer-answer.new.level es c.self.inside.limit) (sym items) entered
+    let copy = c.in-Ok.ensures.copy in
+    let step = IsStep-answered (before g k) (after g k) c.self.inside.level c.answer-answer.new.level c.self.inside.journal.items c.self.inside.limit c.args.cred.now c.args.request c.answer-answer.result
+    c.self.invariant.0 c.answer-answer.ensures (sym c.if-lacks_memory.ensures) in
+    c.enter.ensures.legal (before g k) (after g k) c.self.inside.level c.answer-answer.new.level c.self.inside.limit c.self.invariant.0
+    (omega (arith, c.if-len-self.false, c.len.ensures, c.self.inside.journal.ok.0))
+    (subst (λ a. IsStep (before g k) (after g k) c.answer-answer.new.level (world g k) c.args.cred.now (User c.args.request a)) (sym copy) step)
 
 pub invariant_of-self-2 : goal.invariant_of-self-2
-invariant_of-self-2 g c = (longer g c, omega (arith, c.self.invariant.1, c.in-Ok-push.ensures.capacity))
+invariant_of-self-2 g c = (longer g c, omega (arith, c.self.invariant.1, c.enter.ensures.room))
 
 pub returns-clause-legal : goal.returns-clause-legal
 returns-clause-legal g c = longer g c

@@ -1,12 +1,14 @@
-use Rattle.std.proofs.Common.{◌≡◌, ◌↔◌, ◌∷◌, [], ◌++◌, length, sym, ap, subst, ◌∙◌, arith, length-append, append_assoc}
+use Rattle.std.proofs.Common.{◌≡◌, ◌↔◌, ◌∷◌, [], ◌++◌, ◌<◌, length, sym, ap, subst, ◌∙◌, arith, length-append, append_assoc}
 use Rattle.lfs_types.specs.declared.answer.Answer.TheVariants.{Refused}
 use Rattle.lfs_types.specs.declared.answer.Resource.TheVariants.{JournalFull}
 use Rattle.lfs_types.specs.StoreStates.{Shape}
-use Rattle.lfs_model.specs.Memory.{MayLackMemory}
-use Rattle.lfs_model.specs.Runs.{AreAnswers, kept, kept_entry}
+use Rattle.lfs_calls.specs.Outcomes.{IsOutcome}
+use Rattle.lfs_calls.specs.Volumes.{IsVolume}
+use Rattle.lfs_model.specs.Runs.{kept, kept_entry}
 use Rattle.lfs_model.specs.Steps.{world_of}
-use Rattle.lfs_model.proofs.RunLemmas.{AreAnswers-append, kept-append}
-use Rattle.lfs_volume.proofs.JournalLemmas.{lack_cause}
+use Rattle.lfs_model.proofs.RunLemmas.{kept-append}
+use Rattle.lfs_volume.specs.Journals.{AreAnswers, IsCaused}
+use Rattle.lfs_volume.proofs.JournalLemmas.{AreAnswers-append}
 use Rattle.lfs_volume.proofs.volume.Volume.run.Goals as goal
 
 pub loop-session-preserved : goal.loop-session-preserved
@@ -16,14 +18,27 @@ loop-session-preserved g c =
     let answer = call.result in
     let one = c.in-Some.field-0 in
     let before = c.loop-session.self in
+    let first = g.F.FileStore.state c.args.self.now.store in
+    let state = g.F.FileStore.state before.store in
+    let limit = c.args.self.now.limit in
+    let journal = c.args.self.now.journal ++ kept c.loop-session.yielded c.loop-session.answers.items in
     let pushed : c.push.new.self.items ≡ c.loop-session.answers.items ++ answer ∷ [] = c.in-Ok-push.ensures.items in
     let stepped : c.loop-session.session-iterator.rest.items ≡ one ∷ c.next.new.self.rest.items = c.in-Some.ensures.steps.0 in
+    let cause : length journal < limit → IsCaused first journal one answer = λ room. record {
+      store = state;
+      follows = i.follows;
+      shown = subst (λ j. IsVolume state (world_of first.shape.numbers j)) i.entered
+          (subst (λ (s : Shape). IsVolume state (world_of s.numbers before.journal)) i.follows.shape i.legal.shown);
+      outcome = subst (λ j. IsOutcome state (world_of first.shape.numbers j) one.cred one.request answer) i.entered
+          (subst (λ (s : Shape). IsOutcome state (world_of s.numbers before.journal) one.cred one.request answer) i.follows.shape
+          (call.ensures.outcome (subst (λ n. length before.journal < n) (sym i.limit) (subst (λ j. length j < limit) (sym i.entered) room))));
+    } in
     record {
-      each = subst (AreAnswers c.args.self.now.limit (g.F.FileStore.state c.args.self.now.store).shape.can_lack_memory c.args.self.now.journal (c.loop-session.yielded ++ one ∷ [])) (sym pushed)
-          (AreAnswers-append c.args.self.now.limit (g.F.FileStore.state c.args.self.now.store).shape.can_lack_memory c.args.self.now.journal c.loop-session.yielded c.loop-session.answers.items one answer i.each
-          (subst (λ j. (answer ≡ Refused JournalFull) ↔ (length j ≡ c.args.self.now.limit)) i.entered (subst (λ n. (answer ≡ Refused JournalFull) ↔ (length before.journal ≡ n)) i.limit call.ensures.full))
-          (λ e. subst (λ (s : Shape). MayLackMemory s.can_lack_memory one.request) i.follows.shape
-          (lack_cause (g.F.FileStore.state before.store) before.limit before.journal (world_of (g.F.FileStore.state before.store).shape.numbers before.journal) one.cred one.request answer call.ensures.full i.legal.within call.ensures.outcome e)));
+      each = subst (AreAnswers first limit c.args.self.now.journal (c.loop-session.yielded ++ one ∷ [])) (sym pushed)
+          (AreAnswers-append first limit c.args.self.now.journal c.loop-session.yielded c.loop-session.answers.items one answer i.each
+          (subst (λ j. (answer ≡ Refused JournalFull) ↔ (length j ≡ limit)) i.entered
+          (subst (λ n. (answer ≡ Refused JournalFull) ↔ (length before.journal ≡ n)) i.limit call.ensures.full))
+          cause);
       entered = call.ensures.entered
           ∙ ap (λ j. j ++ kept_entry one.session one.cred one.request answer) i.entered
           ∙ append_assoc c.args.self.now.journal (kept c.loop-session.yielded c.loop-session.answers.items) (kept_entry one.session one.cred one.request answer)

@@ -1,0 +1,45 @@
+use Rattle.std.proofs.Common.{◌≤◌, ◌+◌, ◌*◌, length, arith}
+use Rattle.lfs_landing.specs.Putting.{blocks_of_put}
+use Rattle.lfs_landing.proofs.PuttingLemmas.{put_all, put_more, put_none}
+use Rattle.lfs_landing.proofs.parts.Parts.put_blocks.Goals as goal
+
+pub loop-index-init : goal.loop-index-init
+loop-index-init c =
+    let ends = c.blocks_touched-touched.ensures.some (omega (arith, c.requires.some)) in
+    record {
+      puts = put_none c.args.self.now c.args.inode.now c.args.off c.args.bytes.now c.blocks_touched-touched.result.start c.requires.may
+          (λ n touched. (c.blocks_touched-touched.ensures.touched n touched).0);
+      frames = omega (arith, ends.0);
+    }
+
+pub put_block-requires-clause-may : goal.put_block-requires-clause-may
+put_block-requires-clause-may c = c.loop-index.invariant.puts.again
+
+pub put_block-requires-clause-room : goal.put_block-requires-clause-room
+put_block-requires-clause-room c =
+    let ends = c.blocks_touched-touched.ensures.some (omega (arith, c.requires.some)) in
+    let frames = c.loop-index.invariant.frames in
+    let low = c.loop-index-test.true in
+    let from = c.loop-index.auto.index in
+    omega (arith, ends.0, ends.1, c.requires.room)
+
+pub loop-index-preserved : goal.loop-index-preserved
+loop-index-preserved c =
+    let frames = c.loop-index.invariant.frames in
+    let more = c.put_block.ensures.frames in
+    record {
+      puts = put_more c.args.self.now c.loop-index.self c.put_block.new.self c.args.inode.now c.args.off c.args.bytes.now c.loop-index.index
+          c.loop-index.invariant.puts c.put_block.ensures;
+      frames = omega arith;
+    }
+
+pub returns : goal.returns
+returns c =
+    let ends = c.blocks_touched-touched.ensures.some (omega (arith, c.requires.some)) in
+    let high = c.loop-index-test.false in
+    let to = c.loop-index.auto.index-end in
+    let many = c.loop-index.invariant.frames in
+    let frames : length c.loop-index.self.cache.locked ≤ length c.args.self.now.cache.locked + 2 * blocks_of_put c.args.off (length c.args.bytes.now)
+    = omega (arith, ends.0, ends.1) in
+    put_all c.args.self.now c.loop-index.self c.args.inode.now c.args.off c.args.bytes.now c.loop-index.index c.requires.may c.loop-index.invariant.puts
+    (λ n touched. let under = (c.blocks_touched-touched.ensures.touched n touched).1 in omega arith) frames

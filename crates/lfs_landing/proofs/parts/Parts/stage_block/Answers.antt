@@ -1,0 +1,9 @@
+use Rattle.std.proofs.Common.{refl}
+use Rattle.lfs_landing.proofs.StagingLemmas.{staged_block}
+use Rattle.lfs_landing.proofs.parts.Parts.stage_block.Goals as goal
+
+pub returns : goal.returns
+returns c =
+    staged_block c.args.self.now _ c.args.inode.now.number c.args.inode.now.version c.code.result c.args.block c.args.bytes.now c.requires.version c.code.ensures
+    refl refl refl c.requires.readable.none_clean c.write.ensures.contents c.write.ensures.dirty c.write.ensures.others c.write.ensures.one_more
+    c.write.ensures.none_more c.write.ensures.formed

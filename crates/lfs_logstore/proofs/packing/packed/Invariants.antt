@@ -1,5 +1,0 @@
-use Rattle.lfs_logstore.proofs.PackingLemmas.{IsPackedBelow}
-use Rattle.lfs_logstore.proofs.packing.packed.Given as goal
-
-abbrev pub invariant-loop-k : goal.invariant-loop-k
-invariant-loop-k l = IsPackedBelow l.k l.inodes l.block

@@ -1,3 +1,0 @@
-pub mod Infos
-pub mod Packing
-pub mod SegmentLog

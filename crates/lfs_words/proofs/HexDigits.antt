@@ -1,0 +1,68 @@
+-- Bytes are read from their digits.
+use Rattle.std.proofs.Common.{◌≡◌, ℕ, ◌≤◌, Ok, false, ◌+◌, ◌*◌, ◌/◌, ◌%◌, ◌<◌, List, [], ◌∷◌, ◌++◌, length, take, get_or, refl, ap, sym, ◌∙◌, arith, append_assoc, true, ◌==◌, nat_lt}
+use Rattle.std.specs.Prelude.{◌&&◌}
+use Rattle.std.specs.Char.{digit_char, digit_value}
+use Rattle.std.specs.List.{list_all}
+use Rattle.std.proofs.lemmas.List.{take_more}
+use Rattle.std.proofs.lemmas.Str.{digit_value-digit_char}
+use Rattle.std.proofs.lemmas.Bool.{ltb-true, le-ltb, eqb-true, and_parts}
+use Rattle.lfs_words.specs.BytesText.{hex_text, hex_bytes, bytes_of, is_dash, is_hex, is_hex_digit}
+
+pub hex_text-push : (bs : List ℕ) (b : ℕ) → hex_text (bs ++ b ∷ []) ≡ hex_text bs ++ (digit_char (b / 16) ∷ digit_char (b % 16) ∷ [])
+hex_text-push [] b = refl
+hex_text-push (x ∷ bs) b = ap (λ xs. digit_char (x / 16) ∷ digit_char (x % 16) ∷ xs) (hex_text-push bs b)
+
+take_two : (digits : List ℕ) (j : ℕ) → j + 1 < length digits → take (j + 2) digits ≡ take j digits ++ (get_or digits j 0 ∷ get_or digits (j + 1) 0 ∷ [])
+take_two digits j lt =
+    let first = take_more digits j 0 (omega arith) in
+    let second = take_more digits (j + 1) 0 lt in
+    let both : j + 2 ≡ j + 1 + 1 = omega arith in
+    rw (both, second, first, append_assoc) refl
+
+pub hex_step : (digits bs : List ℕ) (k high low : ℕ) → 2 * k + 1 < length digits → high < 16 → low < 16 → hex_text bs ≡ take (2 * k) digits → digit_char high ≡ get_or digits (2 * k) 0 → digit_char low ≡ get_or digits (2 * k + 1) 0 → hex_text (bs ++ (16 * high + low) ∷ []) ≡ take (2 * (k + 1)) digits
+hex_step digits bs k high low lt h l so_far first second =
+    let top : (16 * high + low) / 16 ≡ high = omega arith in
+    let bottom : (16 * high + low) % 16 ≡ low = omega arith in
+    let two = take_two digits (2 * k) lt in
+    let there : 2 * (k + 1) ≡ 2 * k + 2 = omega arith in
+    let pushed = hex_text-push bs (16 * high + low) in
+    let taken : take (2 * (k + 1)) digits ≡ take (2 * k + 2) digits = ap (λ n. take n digits) there in
+    pushed ∙ rw (top, bottom, first, second, so_far) (sym (taken ∙ two))
+
+pub hex_parts : (digits : List ℕ) → is_hex digits ≡ true → (0 < length digits) × (length digits % 2 ≡ 0) × (list_all is_hex_digit digits ≡ true)
+hex_parts digits h =
+    let outer = and_parts (nat_lt 0 (length digits) && (length digits % 2 == 0)) (list_all is_hex_digit digits) h in
+    let inner = and_parts (nat_lt 0 (length digits)) (length digits % 2 == 0) outer.0 in
+    (ltb-true 0 (length digits) inner.0, eqb-true (length digits % 2) 0 inner.1, outer.1)
+
+hex_bytes-hex_push : (bs : List ℕ) (b : ℕ) → hex_bytes (hex_text (bs ++ b ∷ [])) ≡ hex_bytes (hex_text bs) ++ (16 * digit_value (digit_char (b / 16)) + digit_value (digit_char (b % 16))) ∷ []
+hex_bytes-hex_push [] b = refl
+hex_bytes-hex_push (x ∷ bs) b =
+    ap (λ xs. (16 * digit_value (digit_char (x / 16)) + digit_value (digit_char (x % 16))) ∷ xs) (hex_bytes-hex_push bs b)
+
+-- one more byte is read from its two digits
+pub hex_read : (bs : List ℕ) (high low : ℕ) → high < 16 → low < 16 → hex_bytes (hex_text bs) ≡ bs → hex_bytes (hex_text (bs ++ (16 * high + low) ∷ [])) ≡ bs ++ (16 * high + low) ∷ []
+hex_read bs high low h l so_far =
+    let top : (16 * high + low) / 16 ≡ high = omega arith in
+    let bottom : (16 * high + low) % 16 ≡ low = omega arith in
+    let first : digit_value (digit_char high) ≡ high = digit_value-digit_char high (omega arith) in
+    let second : digit_value (digit_char low) ≡ low = digit_value-digit_char low (omega arith) in
+    hex_bytes-hex_push bs (16 * high + low) ∙ rw (top, bottom, first, second, so_far) refl
+
+-- the bytes of digits that are as they are to be
+pub bytes_read : (word bs : List ℕ) → is_dash word ≡ false → length word ≤ 8192 → is_hex word ≡ true → hex_bytes word ≡ bs → bytes_of word ≡ Ok bs
+bytes_read word bs dash few hex read = rw (dash, le-ltb 8192 (length word) few, hex, read) refl
+
+-- each byte has two digits
+pub length-hex_text : (bs : List ℕ) → length (hex_text bs) ≡ 2 * length bs
+length-hex_text [] = refl
+length-hex_text (b ∷ bs) = omega (arith, length-hex_text bs)
+
+-- one more byte is spelled
+pub hex_text_more : (bytes : List ℕ) (i d : ℕ) → i < length bytes → hex_text (take (i + 1) bytes) ≡ hex_text (take i bytes) ++ (digit_char (get_or bytes i d / 16) ∷ digit_char (get_or bytes i d % 16) ∷ [])
+hex_text_more bytes i d lt = rw (take_more bytes i d lt) (hex_text-push (take i bytes) (get_or bytes i d))
+
+-- a text to which one more byte is appended
+pub hex_pushed : (out done bytes : List ℕ) (i high low : ℕ) → i < length bytes → done ≡ out ++ hex_text (take i bytes) → high ≡ digit_char (get_or bytes i 0 / 16) → low ≡ digit_char (get_or bytes i 0 % 16) → done ++ (high ∷ low ∷ []) ≡ out ++ hex_text (take (i + 1) bytes)
+hex_pushed out done bytes i high low lt so_far first second =
+    rw (so_far, first, second, append_assoc, hex_text_more bytes i 0 lt) refl

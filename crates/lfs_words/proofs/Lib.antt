@@ -1,0 +1,9 @@
+pub mod FaultLemmas
+pub mod FlagDigits
+pub mod GroupLists
+pub mod HexDigits
+pub mod InfoLemmas
+pub mod LevelWords
+pub mod LineCuts
+pub mod Numerals
+pub mod WordLists

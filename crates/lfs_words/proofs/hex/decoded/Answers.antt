@@ -1,0 +1,24 @@
+use Rattle.std.proofs.Common.{◌≤◌, ◌*◌, ◌∙◌, ap, sym, length, arith}
+use Rattle.std.proofs.lemmas.List.{take_all}
+use Rattle.lfs_words.specs.BytesText.{hex_bytes}
+use Rattle.lfs_words.proofs.HexDigits.{hex_parts, hex_step, hex_read}
+use Rattle.lfs_words.proofs.hex.decoded.Goals as goal
+
+pub loop-k-preserved : goal.loop-k-preserved
+loop-k-preserved c = record {
+  spelled =
+      rw c.in_ok-push.ensures.items
+      (hex_step c.args.digits.now c.loop-k.bytes.items c.loop-k.k c.digit_value-high.result c.digit_value-low.result (omega arith)
+      c.digit_value-high.ensures.bounded c.digit_value-low.ensures.bounded c.loop-k.invariant.spelled
+      c.digit_value-high.ensures.spelled c.digit_value-low.ensures.spelled);
+  read =
+      rw c.in_ok-push.ensures.items
+      (hex_read c.loop-k.bytes.items c.digit_value-high.result c.digit_value-low.result
+      c.digit_value-high.ensures.bounded c.digit_value-low.ensures.bounded c.loop-k.invariant.read);
+}
+
+pub returns-clause-read : goal.returns-clause-read
+returns-clause-read c =
+    let parts = hex_parts c.args.digits.now c.requires in
+    let le : length c.args.digits.now ≤ 2 * c.loop-k.k = omega (arith, parts.1) in
+    sym (sym c.loop-k.invariant.read ∙ ap hex_bytes (c.loop-k.invariant.spelled ∙ take_all (2 * c.loop-k.k) c.args.digits.now le))

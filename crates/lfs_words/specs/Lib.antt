@@ -1,0 +1,11 @@
+pub mod BytesText
+pub mod Callers
+pub mod Faults
+pub mod FlagText
+pub mod Infos
+pub mod LevelText
+pub mod Lines
+pub mod NameText
+pub mod Numbers
+pub mod PathText
+pub mod Wording

@@ -1,0 +1,117 @@
+//! Words that are appended to a text, each behind a space.
+
+ghost use Rattle.std.specs.Prelude.{◌≡◌, ◌<◌, ◌∷◌, ◌++◌, [], decimal, OnOk};
+ghost use Rattle.std.specs.Char.{digit_char};
+ghost use Rattle.std.specs.List.{flat_map};
+ghost use Rattle.lfs_words.specs.BytesText.{bytes_text, hex_text};
+ghost use Rattle.lfs_words.specs.NameText.{byte_text, flags_text, mode_text, name_text};
+
+use itoa::Buffer;
+use lfs_types::file_flags::FileFlags;
+use lfs_types::mode::Mode;
+use lfs_types::name::Name;
+use std::alloc::AllocError;
+
+/// The digits of numbers.
+const DIGITS: [u8; 16] = *b"0123456789abcdef";
+
+/// The digit of a number below 16.
+fn digit(value: u8) -> u8
+    requires { value < 16 }
+    ensures { result ≡ digit_char value }
+{
+    DIGITS[value as usize]
+}
+
+/// Appends a number in decimal, without a space.
+pub fn push_decimal(out: &mut Vec<u8>, number: u64) -> Result<(), AllocError>
+    ensures { OnOk result (out.new.items ≡ out.old.items ++ decimal number) }
+{
+    let mut buffer = Buffer::new();
+    out.extend_from_slice(buffer.format(number).as_bytes())
+}
+
+/// Appends a word.
+pub fn push_word(out: &mut Vec<u8>, word: &str) -> Result<(), AllocError>
+    ensures { OnOk result (out.new.items ≡ out.old.items ++ 32 ∷ word.now) }
+{
+    out.push(b' ')?;
+    out.extend_from_slice(word.as_bytes())
+}
+
+/// Appends a number in decimal.
+pub fn push_number(out: &mut Vec<u8>, number: u64) -> Result<(), AllocError>
+    ensures { OnOk result (out.new.items ≡ out.old.items ++ 32 ∷ decimal number) }
+{
+    out.push(b' ')?;
+    push_decimal(out, number)
+}
+
+/// Appends two digits for each byte, without a space.
+fn push_hex(out: &mut Vec<u8>, bytes: &[u8]) -> Result<(), AllocError>
+    ensures { OnOk result (out.new.items ≡ out.old.items ++ hex_text bytes.now) }
+{
+    for byte in bytes {
+        out.extend_from_slice(&[digit(byte / 16), digit(byte % 16)])?;
+    }
+    Ok(())
+}
+
+/// Appends bytes, two digits each, or `-` for none.
+pub fn push_bytes(out: &mut Vec<u8>, bytes: &[u8]) -> Result<(), AllocError>
+    ensures { OnOk result (out.new.items ≡ out.old.items ++ 32 ∷ bytes_text bytes.now) }
+{
+    if bytes.is_empty() {
+        return push_word(out, "-");
+    }
+    out.push(b' ')?;
+    push_hex(out, bytes)
+}
+
+/// Appends a mode as four octal digits.
+#[tactic(auto, unfolding(crate::specs::NameText::mode_text))]
+pub fn push_mode(out: &mut Vec<u8>, mode: Mode) -> Result<(), AllocError>
+    ensures { OnOk result (out.new.items ≡ out.old.items ++ 32 ∷ mode_text mode) }
+{
+    let bits = mode.bits();
+    out.push(b' ')?;
+    out.extend_from_slice(&[
+        digit((bits / 512) as u8),
+        digit((bits / 64 % 8) as u8),
+        digit((bits / 8 % 8) as u8),
+        digit((bits % 8) as u8),
+    ])
+}
+
+/// Appends flags as eight hexadecimal digits.
+#[tactic(auto, unfolding(crate::specs::NameText::flags_text))]
+pub fn push_flags(out: &mut Vec<u8>, flags: FileFlags) -> Result<(), AllocError>
+    ensures { OnOk result (out.new.items ≡ out.old.items ++ 32 ∷ flags_text flags) }
+{
+    out.push(b' ')?;
+    push_hex(out, &flags.bits().to_be_bytes())
+}
+
+/// Appends a name, in which a byte outside 0x21 to 0x7E, and `%`, is `%` and two digits.
+pub fn push_name(out: &mut Vec<u8>, name: &Name) -> Result<(), AllocError>
+    ensures { OnOk result (out.new.items ≡ out.old.items ++ 32 ∷ name_text name.now) }
+{
+    out.push(b' ')?;
+    for byte in name.as_bytes() {
+        push_name_byte(out, *byte)?;
+    }
+    Ok(())
+}
+
+/// Appends a byte of a name.
+fn push_name_byte(out: &mut Vec<u8>, byte: u8) -> Result<(), AllocError>
+    ensures { OnOk result (out.new.items ≡ out.old.items ++ byte_text byte) }
+{
+    match byte {
+        b'%' | 0..=0x20 | 0x7f..=0xff => {
+            out.push(b'%')?;
+            push_hex(out, &[byte])
+        }
+        _ => Ok(out.push(byte)?),
+    }
+}

@@ -1,0 +1,129 @@
+//! Bytes and file flags in scripts.
+
+ghost use Rattle.std.specs.Prelude.{◌≡◌, ◌<◌, ◌≤◌, length, true, IfOk};
+ghost use Rattle.lfs_words.specs.Faults.{Reads};
+ghost use Rattle.lfs_words.specs.BytesText.{is_dash, is_hex_digit, is_hex, hex_text, hex_bytes, bytes_of};
+ghost use Rattle.lfs_words.specs.FlagText.{is_flags, flags_of};
+ghost use Rattle.std.specs.Char.{digit_char};
+ghost use Rattle.std.specs.List.{list_all};
+
+use crate::fault::FaultKind;
+use lfs_types::file_flags::FileFlags;
+use lfs_types::limits::TRANSFER_BYTES;
+use lfs_types::payload::Payload;
+use std::alloc::{AllocError, Global};
+
+/// The most digits of flags.
+const FLAG_DIGITS: usize = 8;
+
+/// The bytes that an even, positive number of digits of 0-9 a-f spells, at most 4,096, or none for `-`.
+pub fn payload(alloc: Global, word: &str) -> Result<Payload, FaultKind>
+    ensures { Reads (bytes_of word.now) result }
+{
+    let digits = word.as_bytes();
+    if is_dash(digits) {
+        return Ok(payload_of(Vec::new(alloc)));
+    }
+    if digits.len() > 2 * TRANSFER_BYTES {
+        return Err(FaultKind::Range);
+    }
+    if !is_hex(digits) {
+        return Err(FaultKind::Hex);
+    }
+    let bytes = decoded(alloc, digits)?;
+    Ok(payload_of(bytes))
+}
+
+/// The payload of bytes that are not too many.
+fn payload_of(bytes: Vec<u8>) -> Payload
+    requires { length bytes.items ≤ 4096 }
+    ensures { result ≡ bytes.items }
+{
+    match Payload::new(bytes) {
+        Ok(payload) => payload,
+        Err(_) => unreachable!(),
+    }
+}
+
+/// Whether the word is the mark of no bytes.
+fn is_dash(word: &[u8]) -> bool
+    ensures { result ≡ is_dash word.now }
+{
+    match word {
+        [first] => *first == b'-',
+        _ => false,
+    }
+}
+
+/// Whether a byte is a digit of 0-9 a-f.
+fn is_hex_digit(byte: u8) -> bool
+    ensures { result ≡ is_hex_digit byte }
+{
+    match byte {
+        b'0'..=b'9' | b'a'..=b'f' => true,
+        _ => false,
+    }
+}
+
+/// Whether these are an even, positive number of digits.
+fn is_hex(digits: &[u8]) -> bool
+    ensures { result ≡ is_hex digits.now }
+{
+    !digits.is_empty() && digits.len() % 2 == 0 && has_hex_alone(digits)
+}
+
+/// Whether every byte is a digit.
+fn has_hex_alone(bytes: &[u8]) -> bool
+    ensures { result ≡ list_all is_hex_digit bytes.now }
+{
+    bytes.iter().all(|byte| is_hex_digit(*byte))
+}
+
+/// The value of a digit.
+fn digit_value(digit: u8) -> u8
+    requires { is_hex_digit digit ≡ true }
+    ensures bounded { result < 16 }
+    ensures spelled { digit_char result ≡ digit }
+{
+    if digit <= b'9' {
+        digit - b'0'
+    } else {
+        digit - b'a' + 10
+    }
+}
+
+/// The bytes that these digits spell.
+fn decoded(alloc: Global, digits: &[u8]) -> Result<Vec<u8>, AllocError>
+    requires { is_hex digits.now ≡ true }
+    ensures spelled { IfOk result (λ bytes. hex_text bytes.items ≡ digits.now) }
+    ensures read { IfOk result (λ bytes. hex_bytes digits.now ≡ bytes.items) }
+{
+    let half = digits.len() / 2;
+    let mut bytes = Vec::with_capacity(alloc, half)?;
+    for k in 0..half {
+        let high = digit_value(digits[2 * k]);
+        let low = digit_value(digits[2 * k + 1]);
+        bytes.push(16 * high + low)?;
+    }
+    Ok(bytes)
+}
+
+/// Whether a word is 1 to 8 digits of 0-9 a-f.
+fn is_flags(word: &str) -> bool
+    ensures { result ≡ is_flags word.now }
+{
+    !word.is_empty() && word.len() <= FLAG_DIGITS && has_hex_alone(word.as_bytes())
+}
+
+/// The flags, each of them known, that 1 to 8 digits of 0-9 a-f spell.
+pub fn flags(word: &str) -> Result<FileFlags, FaultKind>
+    ensures { result ≡ flags_of word.now }
+{
+    if !is_flags(word) {
+        return Err(FaultKind::Number);
+    }
+    match u32::from_str_radix(word, 16) {
+        Ok(bits) => FileFlags::new(bits).ok_or(FaultKind::Range),
+        Err(_) => unreachable!(),
+    }
+}

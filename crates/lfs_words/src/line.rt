@@ -1,0 +1,66 @@
+//! Lines: where one ends, whether its bytes are text, and whether it says something.
+
+ghost use Rattle.std.specs.Prelude.{◌≡◌, ◌==◌, true, false, position, MatchOption, MatchResult};
+ghost use Rattle.std.specs.List.{list_any};
+ghost use Rattle.lfs_words.specs.Lines.{HasNoLineFeed, IsFirstLine, is_printable, is_skipped};
+ghost use Rattle.lfs_words.specs.Wording.{is_bare, words_of};
+ghost use Rattle.lfs_words.specs.declared.fault.FaultKind.TheVariants.{Bytes};
+
+use crate::fault::FaultKind;
+use std::str;
+
+/// A text up to its first line feed, and what is behind it.
+pub fn cut_line(text: &[u8]) -> Option<(&[u8], &[u8])>
+    ensures { MatchOption result (HasNoLineFeed text.now) (λ cut. IsFirstLine text.now cut.0.now cut.1.now) }
+{
+    match line_feed_at(text) {
+        Some(at) => Some((&text[..at], &text[at + 1..])),
+        None => None,
+    }
+}
+
+/// Where the first line feed stands.
+fn line_feed_at(text: &[u8]) -> Option<usize>
+    ensures { result ≡ position (λ b. b == 10) text.now }
+{
+    text.iter().position(|byte| *byte == b'\n')
+}
+
+/// The text of a line, whose bytes are from 0x20 to 0x7E.
+pub fn text_of(line: &[u8]) -> Result<&str, FaultKind>
+    ensures { MatchResult result
+        (λ text. (is_printable line.now ≡ true) × (text.now ≡ line.now))
+        (λ kind. (is_printable line.now ≡ false) × (kind ≡ Bytes)) }
+{
+    if !is_printable(line) {
+        return Err(FaultKind::Bytes);
+    }
+    match str::from_utf8(line) {
+        Ok(text) => Ok(text),
+        Err(_) => unreachable!(),
+    }
+}
+
+/// Whether every byte is from 0x20 to 0x7E.
+fn is_printable(line: &[u8]) -> bool
+    ensures { result ≡ is_printable line.now }
+{
+    line.iter().all(|byte| *byte >= 0x20 && *byte <= 0x7e)
+}
+
+/// Whether a line says nothing.
+pub fn is_skipped(line: &str) -> bool
+    ensures { result ≡ is_skipped line.now }
+{
+    match line.as_bytes() {
+        [] => true,
+        [first, ..] => *first == b'#',
+    }
+}
+
+/// Whether a word of a line has no bytes.
+pub fn has_bare_word(line: &str) -> bool
+    ensures { result ≡ list_any is_bare (words_of line.now) }
+{
+    line.split(' ').any(|word| word.is_empty())
+}

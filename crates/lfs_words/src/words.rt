@@ -1,0 +1,64 @@
+//! The words of a line.
+
+ghost use Rattle.std.specs.Prelude.{◌≡◌, ◌==◌, ◌<◌, [], Ok, Err, map, IfOk, MatchResult};
+ghost use Rattle.std.specs.List.{slice_split};
+ghost use Rattle.lfs_words.specs.Wording.{no_word, one_word, two_words, three_words};
+
+use crate::fault::FaultKind;
+use std::alloc::{AllocError, Global};
+
+/// What stands between the separators of a text.
+pub fn pieces<'a>(alloc: Global, text: &'a str, separator: char) -> Result<Vec<&'a str>, AllocError>
+    requires { separator < 128 }
+    ensures { IfOk result (λ v. map (λ x. x.now) v.items ≡ slice_split (λ b. b == separator) text.now) }
+{
+    text.split(separator).collect(alloc)
+}
+
+/// Whether there is no word.
+pub fn no_word(words: &[&str]) -> Result<(), FaultKind>
+    ensures { MatchResult result
+        (λ _. no_word (map (λ x. x.now) words.now) ≡ Ok [])
+        (λ kind. no_word (map (λ x. x.now) words.now) ≡ Err kind) }
+{
+    match words {
+        [] => Ok(()),
+        _ => Err(FaultKind::Words),
+    }
+}
+
+/// A lone word.
+pub fn one_word<'a>(words: &[&'a str]) -> Result<&'a str, FaultKind>
+    ensures { MatchResult result
+        (λ word. one_word (map (λ x. x.now) words.now) ≡ Ok word.now)
+        (λ kind. one_word (map (λ x. x.now) words.now) ≡ Err kind) }
+{
+    match words {
+        [word] => Ok(word),
+        _ => Err(FaultKind::Words),
+    }
+}
+
+/// Two words.
+pub fn two_words<'a>(words: &[&'a str]) -> Result<(&'a str, &'a str), FaultKind>
+    ensures { MatchResult result
+        (λ two. two_words (map (λ x. x.now) words.now) ≡ Ok (two.0.now, two.1.now))
+        (λ kind. two_words (map (λ x. x.now) words.now) ≡ Err kind) }
+{
+    match words {
+        [first, second] => Ok((first, second)),
+        _ => Err(FaultKind::Words),
+    }
+}
+
+/// Three words.
+pub fn three_words<'a>(words: &[&'a str]) -> Result<(&'a str, &'a str, &'a str), FaultKind>
+    ensures { MatchResult result
+        (λ three. three_words (map (λ x. x.now) words.now) ≡ Ok (three.0.now, three.1.now, three.2.now))
+        (λ kind. three_words (map (λ x. x.now) words.now) ≡ Err kind) }
+{
+    match words {
+        [first, second, third] => Ok((first, second, third)),
+        _ => Err(FaultKind::Words),
+    }
+}
