@@ -38,7 +38,7 @@ use Rattle.lfs_ways.proofs.ReadingLemmas.{kept_blocks, landed_address, landed_ad
 use Rattle.lfs_ways.proofs.WayLemmas.{data_way-direct, data_way-single, known_way_of, same_code, up_known, way_of-code_of, way_of-data, way_of-known}
 use Rattle.lfs_landing.specs.declared.parts.Parts.{Parts}
 use Rattle.lfs_landing.specs.Keys.{log_state}
-use Rattle.lfs_landing.specs.Landing.{numbers_of, IsWaiting, ParentWaits, PutsBlock, Sets, StaysWaiting}
+use Rattle.lfs_landing.specs.Landing.{numbers_of, IsWaiting, ParentWaits, AppendsBlock, Sets, StaysWaiting}
 use Rattle.lfs_landing.specs.Store.{IsPresent}
 use Rattle.lfs_landing.specs.View.{key_of, record_of, root_in, tree_of, version_of, waiting_in}
 use Rattle.lfs_landing.proofs.KeyLemmas.{place-block, place-record}
@@ -54,7 +54,7 @@ pub record Steps (p r s q : Parts) (v : Inode) (block : FileBlock) (a i : ℕ) (
   pub can : IsFileBlock block
   pub other : code_of block ≢ 0
   pub way : way_to block ≡ i ∷ up
-  pub put : PutsBlock p r a (read (tree_of p v.number) (i ∷ up))
+  pub put : AppendsBlock p r a (read (tree_of p v.number) (i ∷ up))
   pub set : Sets r s v i up a
   pub memory : q.log.memory ≡ r.log.memory
   pub rows : q.log.tables.rows ≡ r.log.tables.rows

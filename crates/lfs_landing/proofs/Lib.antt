@@ -10,7 +10,6 @@ pub mod ReplacingLemmas
 pub mod SameContentLemmas
 pub mod SettingLemmas
 pub mod OrderLemmas
-pub mod ReadLemmas
 pub mod RoomLemmas
 pub mod ViewLemmas
 pub mod StagingLemmas

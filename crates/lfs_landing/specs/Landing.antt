@@ -112,7 +112,7 @@ pub record ExpectsBlock (m : SegmentMemory) (entry : SummaryEntry) : Type 0 wher
 
 -- A block was put at the log's end, where no block of a file lay: each record, and the block at each other address, is as
 -- it was.
-pub record PutsBlock (old new : Parts) (a : ℕ) (block : List ℕ) : Type 0 where
+pub record AppendsBlock (old new : Parts) (a : ℕ) (block : List ℕ) : Type 0 where
   pub end : a ≡ next_address old.log.memory
   pub somewhere : a ≢ 0
   pub inside : a < old.log.memory.active * SEGMENT_BLOCKS + SEGMENT_BLOCKS

@@ -15,7 +15,7 @@ ghost use Rattle.lfs_ways.specs.Log.{IsLog};
 ghost use Rattle.lfs_landing.specs.Keys.{log_state};
 ghost use Rattle.lfs_ways.specs.Blocks.{IsFileBlock, code_of, way_to};
 ghost use Rattle.lfs_landing.specs.Files.{content_of};
-ghost use Rattle.lfs_landing.specs.Landing.{ExpectsBlock, ExpectsSome, IsWaiting, IsWithin, LandsBlock, MayLand, ParentWaits, PutsBlock, Replaces, Sets, SetsEntry, StaysWaiting, entry_of, replaced};
+ghost use Rattle.lfs_landing.specs.Landing.{ExpectsBlock, ExpectsSome, IsWaiting, IsWithin, LandsBlock, MayLand, ParentWaits, AppendsBlock, Replaces, Sets, SetsEntry, StaysWaiting, entry_of, replaced};
 ghost use Rattle.lfs_landing.specs.Store.{AreFiles, IsPresent};
 ghost use Rattle.lfs_landing.specs.View.{IsReadable, key_of, waiting_in};
 
@@ -67,7 +67,7 @@ impl Parts {
         requires parts { IsParts self.old.log }
         requires log { IsLog (log_state self.old) 0 }
         requires expected { ExpectsSome self.old.log.memory }
-        ensures put { PutsBlock self.old self.new result bytes.now }
+        ensures put { AppendsBlock self.old self.new result bytes.now }
         ensures named { (entry : SummaryEntry) (rest : List SummaryEntry)
             → Expects self.old.log.memory (entry ∷ rest)
             → entry_at self.new.log.memory result ≡ Some entry }

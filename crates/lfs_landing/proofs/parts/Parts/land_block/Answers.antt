@@ -16,7 +16,7 @@ use Rattle.lfs_ways.proofs.BlockLemmas.{code_of-below}
 use Rattle.lfs_ways.proofs.WayLemmas.{way_of-code_of}
 use Rattle.lfs_landing.specs.declared.parts.Parts.{Parts}
 use Rattle.lfs_landing.specs.Keys.{log_state}
-use Rattle.lfs_landing.specs.Landing.{PutsBlock, entry_of}
+use Rattle.lfs_landing.specs.Landing.{AppendsBlock, entry_of}
 use Rattle.lfs_landing.specs.View.{LiesIn, blocks_of, key_of, tree_of}
 use Rattle.lfs_landing.proofs.FileLemmas.{tree_from-of}
 use Rattle.lfs_landing.proofs.KeyLemmas.{lies_in, place-block}
@@ -43,49 +43,43 @@ pub set_address-requires-clause-parent : goal.set_address-requires-clause-parent
 set_address-requires-clause-parent c = λ i up way.
     parent_kept c.args.self.now c.append_block-to.new.self c.args.inode.now up c.append_block-to.ensures.put.cache (c.requires.may_land.parent i up way)
 
-pub move_live-requires-clause-from_inside : goal.move_live-requires-clause-from_inside
-move_live-requires-clause-from_inside c =
-    let p = c.args.self.now in let v = c.args.inode.now in let may = c.requires.may_land in
-    let has = waiting_record p v may.is in
-    let same = tree_from-of p v.number v has (c.requires.files.files v.number (fields_of v) has) in
-    let lies = lies_in p v.number 0 (used_low p v.number may.is.in_use) c.requires.files.parts.laid_out c.requires.log in
-    let inside = lies.each c.args.block may.can in
-    let from = c.address_of-from.ensures ∙ ap (λ t. address t (way_to c.args.block)) same in
-    let w = way_some c.args.block may.can may.other in
-    let set = (c.set_address.ensures.set w.0 w.1 w.2).log in
-    let many = ap (λ (l : LogParts). l.memory.segments) set ∙ c.append_block-to.ensures.extends.segments in
-    omega (arith, inside, from, many)
-
-pub move_live-requires-clause-to_inside : goal.move_live-requires-clause-to_inside
-move_live-requires-clause-to_inside c =
-    let p = c.args.self.now in let may = c.requires.may_land in
-    let w = way_some c.args.block may.can may.other in
-    let set = (c.set_address.ensures.set w.0 w.1 w.2).log in
-    let many = ap (λ (l : LogParts). l.memory.segments) set ∙ c.append_block-to.ensures.extends.segments in
-    let below = c.append_block-to.ensures.put.inside in
-    let active = c.requires.files.parts.laid_out.active in
-    omega (arith, many, below, active)
-
-pub move_live-requires-clause-fits : goal.move_live-requires-clause-fits
-move_live-requires-clause-fits c = λ some.
-    let p = c.args.self.now in let may = c.requires.may_land in
-    let w = way_some c.args.block may.can may.other in
-    let put = c.append_block-to.ensures.put in
-    let tables = ap (λ (l : LogParts). l.tables) (c.set_address.ensures.set w.0 w.1 w.2).log ∙ put.tables in
-    subst (λ (t : Tables). live_of t (c.append_block-to.result / 64) + 128 * units (code_of c.args.block) ≤ 32768) (sym tables)
-    (live_fits p c.append_block-to.result (code_of c.args.block) c.requires.log put.end put.inside)
-
-pub move_live-requires-clause-had : goal.move_live-requires-clause-had
-move_live-requires-clause-had c = λ some.
-    let p = c.args.self.now in let v = c.args.inode.now in let may = c.requires.may_land in
-    let has = waiting_record p v may.is in
-    let same = tree_from-of p v.number v has (c.requires.files.files v.number (fields_of v) has) in
-    let is : address (tree_of p v.number) (way_of (code_of c.args.block)) ≡ c.address_of-from.result =
-    ap (address (tree_of p v.number)) (way_of-code_of c.args.block) ∙ sym (c.address_of-from.ensures ∙ ap (λ t. address t (way_to c.args.block)) same) in
-    let w = way_some c.args.block may.can may.other in
-    let tables = ap (λ (l : LogParts). l.tables) (c.set_address.ensures.set w.0 w.1 w.2).log ∙ c.append_block-to.ensures.put.tables in
-    subst (λ (t : Tables). 128 * units (code_of c.args.block) ≤ live_of t (c.address_of-from.result / 64)) (sym tables)
-    (live_had p v.number (code_of c.args.block) c.address_of-from.result c.requires.log (used_low p v.number may.is.in_use) (code_of-below c.args.block may.can) may.other is some)
+pub move_live-requires : goal.move_live-requires
+move_live-requires c = record {
+  from_inside = (let p = c.args.self.now in let v = c.args.inode.now in let may = c.requires.may_land in
+      let has = waiting_record p v may.is in
+      let same = tree_from-of p v.number v has (c.requires.files.files v.number (fields_of v) has) in
+      let lies = lies_in p v.number 0 (used_low p v.number may.is.in_use) c.requires.files.parts.laid_out c.requires.log in
+      let inside = lies.each c.args.block may.can in
+      let from = c.address_of-from.ensures ∙ ap (λ t. address t (way_to c.args.block)) same in
+      let w = way_some c.args.block may.can may.other in
+      let set = (c.set_address.ensures.set w.0 w.1 w.2).log in
+      let many = ap (λ (l : LogParts). l.memory.segments) set ∙ c.append_block-to.ensures.extends.segments in
+      omega (arith, inside, from, many));
+  to_inside = (let p = c.args.self.now in let may = c.requires.may_land in
+      let w = way_some c.args.block may.can may.other in
+      let set = (c.set_address.ensures.set w.0 w.1 w.2).log in
+      let many = ap (λ (l : LogParts). l.memory.segments) set ∙ c.append_block-to.ensures.extends.segments in
+      let below = c.append_block-to.ensures.put.inside in
+      let active = c.requires.files.parts.laid_out.active in
+      omega (arith, many, below, active));
+  had = (λ some.
+      let p = c.args.self.now in let v = c.args.inode.now in let may = c.requires.may_land in
+      let has = waiting_record p v may.is in
+      let same = tree_from-of p v.number v has (c.requires.files.files v.number (fields_of v) has) in
+      let is : address (tree_of p v.number) (way_of (code_of c.args.block)) ≡ c.address_of-from.result =
+      ap (address (tree_of p v.number)) (way_of-code_of c.args.block) ∙ sym (c.address_of-from.ensures ∙ ap (λ t. address t (way_to c.args.block)) same) in
+      let w = way_some c.args.block may.can may.other in
+      let tables = ap (λ (l : LogParts). l.tables) (c.set_address.ensures.set w.0 w.1 w.2).log ∙ c.append_block-to.ensures.put.tables in
+      subst (λ (t : Tables). 128 * units (code_of c.args.block) ≤ live_of t (c.address_of-from.result / 64)) (sym tables)
+      (live_had p v.number (code_of c.args.block) c.address_of-from.result c.requires.log (used_low p v.number may.is.in_use) (code_of-below c.args.block may.can) may.other is some));
+  fits = (λ some.
+      let p = c.args.self.now in let may = c.requires.may_land in
+      let w = way_some c.args.block may.can may.other in
+      let put = c.append_block-to.ensures.put in
+      let tables = ap (λ (l : LogParts). l.tables) (c.set_address.ensures.set w.0 w.1 w.2).log ∙ put.tables in
+      subst (λ (t : Tables). live_of t (c.append_block-to.result / 64) + 128 * units (code_of c.args.block) ≤ 32768) (sym tables)
+      (live_fits p c.append_block-to.result (code_of c.args.block) c.requires.log put.end put.inside));
+}
 
 after : goal.After-forget → Parts
 after c = record { log = c.move_live.new.self; cache = c.forget.new.self; waiting = c.set_address.new.self.waiting }
@@ -105,7 +99,7 @@ steps c i up way =
       can = may.can;
       other = may.other;
       way = way;
-      put = subst (PutsBlock p c.append_block-to.new.self c.append_block-to.result)
+      put = subst (AppendsBlock p c.append_block-to.new.self c.append_block-to.result)
           (c.block_of.ensures ∙ ap (λ t. read t (way_to c.args.block)) same ∙ ap (read (tree_of p v.number)) way) c.append_block-to.ensures.put;
       set = set;
       memory = c.move_live.ensures.memory ∙ ap (λ (l : LogParts). l.memory) set.log;
