@@ -127,7 +127,5 @@ fn new_name_takes_the_first_block_where_it_fits(rt: HostRuntime) -> Result<(), F
         inodes: 512,
         ..DEFAULTS
     };
-    let written = output_with(alloc, script.as_str(), params)?;
-    assert_eq!(rt; written.as_slice(), expected.as_bytes());
-    Ok(())
+    expect_with(&rt, alloc, script.as_str(), params, expected.as_str())
 }
