@@ -151,7 +151,7 @@ pub fn users_alone()
 {}
 
 /// Whoever isn't granted to read a file learns nothing of its bytes but how many they are: with other bytes in it, each
-/// answer that a call of his may have it may have still, a refusal for want of a resource too.
+/// answer that a call of his may have it may have still, NoInodes, DirectoryFull and NoSpace among them.
 pub fn nobody_reads()
     ensures { NobodyReads }
 {}
