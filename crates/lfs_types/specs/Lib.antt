@@ -15,3 +15,4 @@ pub mod Splicing
 pub mod StoreStates
 pub mod Stored
 pub mod Tree
+pub mod Cleaned

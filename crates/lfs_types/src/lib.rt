@@ -5,6 +5,7 @@
 pub mod answer;
 pub mod attrs;
 pub mod block;
+pub mod cleaned;
 pub mod cleaner;
 pub mod cred;
 pub mod fault;
