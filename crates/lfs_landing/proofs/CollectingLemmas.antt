@@ -128,7 +128,7 @@ key_entry p key files locked =
       | inl low ↦ subst (λ b. IsEntry (record { number = key.ino; version = key.version; block = b })) (sym (cond-false _ _ _ (lt-leb 131 key.lbn low)))
           (record { block = tt; owner = (number, version) })
       | inr high ↦
-          let below = (files.coded key locked).1 in
+          let below : key.lbn < 271 = elim (files.coded key locked) [ inl one ↦ absurd (omega arith) | inr range ↦ range.1 ] in
           subst (λ b. IsEntry (record { number = key.ino; version = key.version; block = b })) (sym (cond-true _ _ _ (le-leb 131 key.lbn high)))
           (record { block = omega arith; owner = (number, version) })
     ]

@@ -1,16 +1,15 @@
 -- A file whose record waits with a greater size, and one into which bytes were put.
-use Rattle.std.proofs.Common.{◌≡◌, ◌≢◌, ℕ, ◌+◌, ◌*◌, ◌<◌, ◌≤◌, max, List, length, Some, option_map, is_some, sym, ap, ◌∙◌, subst, inl, inr, arith}
+use Rattle.std.proofs.Common.{◌≡◌, ◌≢◌, ◌⊎◌, ℕ, ◌+◌, ◌*◌, ◌<◌, ◌≤◌, max, List, length, Some, option_map, is_some, sym, ap, ◌∙◌, subst, inl, inr, arith}
 use Rattle.std.specs.Cmp.{nat_cmp_total}
 use Rattle.std.specs.FinMap as map
 use Rattle.std.specs.FinMap.{same_map, nat_cmp-IsAntisymmetric}
-use Rattle.std.proofs.lemmas.Bool.{cases_eq}
+use Rattle.std.proofs.lemmas.Bool.{cases_eq, cond-true, lt-ltb}
 use Rattle.std.proofs.lemmas.Option.{same_Some}
 use Rattle.lfs_types.specs.declared.attrs.Attrs.{Attrs}
 use Rattle.lfs_types.specs.Changes.{changed_at}
 use Rattle.lfs_types.specs.Splicing.{splice}
 use Rattle.lfs_types.specs.Tree.{File, file_of}
 use Rattle.lfs_types.proofs.Maps.{get-insert_same, get-insert_other}
-use Rattle.lfs_types.specs.declared.limits.TheConstants.{ROOT_INODE}
 use Rattle.lfs_ifile.specs.Tables.{row_of}
 use Rattle.lfs_inodes.specs.declared.inode.Inode.{Inode}
 use Rattle.lfs_inodes.specs.Addresses.{addresses}
@@ -20,20 +19,31 @@ use Rattle.lfs_inodes.proofs.FieldLemmas.{AreFields-fields_of}
 use Rattle.lfs_cache.specs.Changes.{IsContents}
 use Rattle.lfs_cache.specs.Contents.{Contents, IsLocked}
 use Rattle.lfs_log.specs.Parts.{IsParts, LogParts}
+use Rattle.lfs_ways.specs.declared.blocks.FileBlock.{FileBlock}
+use Rattle.lfs_ways.specs.declared.blocks.FileBlock.TheVariants.{Record, Single, Data}
+use Rattle.lfs_ways.specs.Blocks.{code_of}
 use Rattle.lfs_ways.specs.Pieces.{IsPadded, IsPut, file_bytes}
 use Rattle.lfs_ways.specs.Reading.{address, data_block}
 use Rattle.lfs_ways.specs.Ways.{data_way}
 use Rattle.lfs_ways.proofs.PieceLemmas.{put_splice}
 use Rattle.lfs_landing.specs.declared.parts.Parts.{Parts}
 use Rattle.lfs_landing.specs.Files.{content_of, file_at, file_with}
-use Rattle.lfs_landing.specs.Putting.{ChangesRecord, GrowsTo, MayChange, PutsBytes, with_attrs, with_put}
+use Rattle.lfs_landing.specs.Changing.{frames_of_put, frames_of_single}
+use Rattle.lfs_landing.specs.Putting.{ChangesRecord, GrowsTo, MayChange, PutsBytes, blocks_of_put, with_attrs, with_put}
 use Rattle.lfs_landing.specs.Staging.{IsStaged, MayStage, StagesRecord}
-use Rattle.lfs_landing.specs.Store.{AreFiles, IsFile, IsPresent}
-use Rattle.lfs_landing.specs.View.{LiesIn, blocks_of, record_of, root_in, tree_of}
+use Rattle.lfs_landing.specs.Store.{AreFiles, IsFile, IsPresent, IsWithin}
+use Rattle.lfs_landing.specs.View.{LiesIn, blocks_of, key_of, record_of, root_in, tree_of, version_of}
 use Rattle.lfs_landing.specs.Waiting.{without}
 use Rattle.lfs_landing.proofs.FileLemmas.{file_at-record, file_at-some, get-content_of}
-use Rattle.lfs_landing.proofs.KeptLemmas.{log_kept, may_present, present_kept, record_once, record_parents, record_present, record_room, record_trees}
+use Rattle.lfs_landing.proofs.KeptLemmas.{AllWithin, few_records, log_kept, may_present, present_kept, record_once, record_parents, record_present, record_room, record_trees}
 use Rattle.lfs_landing.proofs.StagingLemmas.{version-same}
+use Rattle.lfs_landing.proofs.WaitingLemmas.{length-rest, length-without}
+
+-- a block that lies within a size lies within a greater one
+pub within_more : (block : FileBlock) (size other : ℕ) → size ≤ other → IsWithin block size → IsWithin block other
+within_more Record size other more within = tt
+within_more Single size other more within = omega arith
+within_more (Data index) size other more within = omega arith
 
 padded_longer : (blocks : ℕ → List ℕ) (size other : ℕ) → IsPadded blocks size → size ≤ other → IsPadded blocks other
 padded_longer blocks size other h more = record { whole = h.whole; zeros = λ i past. h.zeros i (omega arith) }
@@ -87,7 +97,6 @@ module _ (old new : Parts) (v w : Inode) (may : MayStage old v) (h : StagesRecor
     parts = subst IsParts (sym h.log) may.files.parts;
     cache = subst IsContents (sym h.cache) may.files.cache;
     readable = record { none_clean = ap (λ (s : Contents). s.lru) h.cache ∙ may.files.readable.none_clean };
-    root_used = ap (λ (l : LogParts). (row_of l.tables ROOT_INODE).used) h.log ∙ may.files.root_used;
     reserved = λ n low other. ap (λ (l : LogParts). (row_of l.tables n).used) h.log ∙ may.files.reserved n low other;
     recorded = λ n used. elim (cases_eq n v.number) [
       | inl is ↦ ap (λ m. is_some (record_of new m)) is ∙ ap is_some grown_here
@@ -120,12 +129,28 @@ module _ (old new : Parts) (v w : Inode) (may : MayStage old v) (h : StagesRecor
     records = subst (λ (vs : List Inode). length vs < 64) (sym (record_room old new w h ∙ ap (λ n. without n old.waiting.items) same_number)) may.records;
   }
 
+  grown_within : AllWithin old → AllWithin new
+  grown_within was n block f is can locked =
+      let before : IsLocked (key_of n (version_of old n) (code_of block)) old.cache
+      = subst (λ version. IsLocked (key_of n version (code_of block)) old.cache) (version-same old new n h.log) (subst (IsLocked (key_of n (version_of new n) (code_of block))) h.cache locked) in
+      elim (cases_eq n v.number) [
+        | inl here ↦
+            let f_is : fields_of w ≡ f = same_Some (fields_of w) f (sym grown_here ∙ ap (record_of new) (sym here) ∙ is) in
+            subst (λ (x : Fields). IsWithin block x.attributes.size) f_is (within_more block v.size w.size more (was n block (fields_of v) (ap (record_of old) here ∙ may.here) can before))
+        | inr other ↦ was n block f (sym (grown_others n other) ∙ is) can before
+      ]
+
+  grown_room : without v.number new.waiting.items ≡ without v.number old.waiting.items
+  grown_room = subst (λ n. without n new.waiting.items ≡ without n old.waiting.items) same_number (record_room old new w h)
+
   pub grown_kept : (spare : ℕ) → IsStaged old spare → IsStaged new spare
   grown_kept spare staged = record {
     whole = grown_files;
     log = log_kept old new spare h.log (λ n way known. ap (λ t. address t way) (grown_trees n)) staged.log;
     parents = record_parents old new w h staged.parents;
     once = record_once old new w h staged.once;
+    few = few_records new v.number (without v.number old.waiting.items) grown_room may.records;
+    within = grown_within staged.within;
   }
 
   pub record_changed : ChangesRecord v w old new
@@ -137,6 +162,7 @@ module _ (old new : Parts) (v w : Inode) (may : MayStage old v) (h : StagesRecor
     blocks = grown_trees;
     again = grown_again;
     kept = grown_kept;
+    room = grown_room;
   }
 
 pub grown_to : (old new : Parts) (v w : Inode) (size least : ℕ) → MayStage old v → StagesRecord w old new → attributes w ≡ record (attributes v) { size = size }
@@ -156,6 +182,7 @@ grown_to old new v w size least may h changed roots more is =
       blocks = r.blocks;
       again = r.again;
       kept = r.kept;
+      room = r.room;
     }
 
 -- ---- bytes put into a file
@@ -220,6 +247,26 @@ may_from p v number may has =
       here = ap (record_of p) own ∙ has;
       records = subst (λ n. length (without n p.waiting.items) < 64) (sym own) may.records;
     }
+
+-- at most one record more waits where those of the other numbers are the same
+pub one_record : (old new : Parts) (number : ℕ) → without number new.waiting.items ≡ without number old.waiting.items → length new.waiting.items ≤ length old.waiting.items + 1
+one_record old new number same =
+    let more = length-rest new.waiting.items number in
+    let less = length-without old.waiting.items number in
+    let is : length (without number new.waiting.items) ≡ length (without number old.waiting.items) = ap (λ (vs : List Inode). length vs) same in
+    omega arith
+
+-- the frames that bytes take
+pub put_frames : (old new : Parts) (start count : ℕ) → (length new.cache.locked ≤ length old.cache.locked + blocks_of_put start count)
+    ⊎ ((6144 < start + count) × (length new.cache.locked ≤ length old.cache.locked + blocks_of_put start count + 1))
+    → length new.cache.locked ≤ length old.cache.locked + frames_of_put start count
+put_frames old new start count cases = elim cases [
+  | inl few ↦ omega arith
+  | inr single ↦
+      let one : frames_of_single (start + count) ≡ 1 = cond-true _ _ _ (lt-ltb 6144 (start + count) single.0) in
+      let few = single.1 in
+      omega (arith, one, few)
+]
 
 pub put_shown : (old between new : Parts) (v w : Inode) (number start : ℕ) (bytes : List ℕ) → MayChange old number → 0 < length bytes → record_of old number ≡ Some (fields_of v)
     → GrowsTo v w (start + length bytes) old between → PutsBytes w start bytes between new → content_of new ≡ with_put number start bytes (content_of old)

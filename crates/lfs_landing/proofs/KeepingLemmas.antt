@@ -1,5 +1,5 @@
 -- What holds of the files holds still when a block landed.
-use Rattle.std.proofs.Common.{true, ◌≡◌, ◌≢◌, ℕ, ◌+◌, ◌/◌, ◌%◌, ◌<◌, ◌≤◌, ◌⊎◌, List, [], ◌∷◌, length, Some, IsSome, false, is_some, refl, sym, ap, ◌∙◌, subst, inl, inr, arith}
+use Rattle.std.proofs.Common.{true, ◌≡◌, ◌≢◌, ℕ, ◌+◌, ◌-◌, ◌/◌, ◌%◌, ◌<◌, ◌≤◌, ◌⊎◌, List, [], ◌∷◌, length, Some, IsSome, false, is_some, refl, sym, ap, ◌∙◌, subst, inl, inr, arith}
 use Rattle.std.specs.Prelude.{slice_index}
 use Rattle.std.proofs.lemmas.Bool.{cases_eq, cases_lt, false≢true}
 use Rattle.std.proofs.lemmas.Option.{none-some, same_Some}
@@ -17,27 +17,38 @@ use Rattle.lfs_cache.proofs.Entries.{same_cases, same_is}
 use Rattle.lfs_log.specs.Parts.{IsParts}
 use Rattle.lfs_ways.specs.declared.blocks.FileBlock.{FileBlock}
 use Rattle.lfs_ways.specs.declared.blocks.FileBlock.TheVariants.{Record, Single, Data}
-use Rattle.lfs_ways.specs.Blocks.{code_of}
+use Rattle.lfs_ways.specs.Blocks.{IsFileBlock, code_of, way_to}
 use Rattle.lfs_ways.specs.Pieces.{IsPadded}
 use Rattle.lfs_ways.specs.Reading.{address, data_block}
-use Rattle.lfs_ways.specs.Ways.{code_at, way_of}
-use Rattle.lfs_ways.proofs.WayLemmas.{known_way_of, up_code, up_known, way_of-data, way_of-zero}
+use Rattle.lfs_ways.specs.Ways.{code_at, data_way}
+use Rattle.lfs_ways.proofs.WayLemmas.{data_way-direct, data_way-single, way_of-data}
 use Rattle.lfs_landing.specs.declared.parts.TheConstants.{WAITING_LIMIT}
 use Rattle.lfs_landing.specs.declared.parts.Parts.{Parts}
 use Rattle.lfs_landing.specs.Files.{content_of}
-use Rattle.lfs_landing.specs.Landing.{ParentWaits, IsWithin, StaysWaiting}
-use Rattle.lfs_landing.specs.Store.{AreFiles, IsFile, IsPresent}
+use Rattle.lfs_landing.specs.Landing.{ParentWaits, StaysWaiting}
+use Rattle.lfs_landing.specs.Store.{AreFiles, IsFile, IsPresent, IsWithin}
 use Rattle.lfs_landing.specs.View.{key_of, record_of, tree_of}
 use Rattle.lfs_landing.proofs.FileLemmas.{record_of-past}
-use Rattle.lfs_landing.proofs.LandedLemmas.{Steps, address_same, data_same, known, record_other, rows_all, version_same, waits_key}
+use Rattle.lfs_landing.proofs.LandedLemmas.{Steps, address_same, data_same, record_other, rows_all, version_same, waits_key}
 use Rattle.lfs_landing.proofs.SameContentLemmas.{content_of-same, file_at-kept, file_at-same}
-use Rattle.lfs_landing.proofs.SettingLemmas.{waiting_record}
+use Rattle.lfs_landing.proofs.SettingLemmas.{at_way, waiting_record}
+use Rattle.lfs_landing.proofs.ViewLemmas.{code_at-way_to}
 
 -- a block within the size is none past it
 within_apart : (block : FileBlock) (size k : ℕ) → code_of block ≢ 0 → IsWithin block size → block_count size ≤ k → 131 + k ≢ code_of block
 within_apart Record size k other within past e = other refl
 within_apart Single size k other within past e = omega arith
 within_apart (Data index) size k other within past e = omega arith
+
+-- what holds a block's address is the record or the single indirect block
+above_single : (block : FileBlock) → IsFileBlock block → code_of block ≢ 0 → (i : ℕ) (up : List ℕ) → way_to block ≡ i ∷ up → up ≢ [] → code_at up ≡ 1
+above_single Record can other = absurd (other refl)
+above_single Single can other = at_way (λ i up. up ≢ [] → code_at up ≡ 1) (12 ∷ []) 12 [] refl (λ some. absurd (some refl))
+above_single (Data index) can other =
+    elim (cases_lt index 12) [
+      | inl direct ↦ at_way (λ i up. up ≢ [] → code_at up ≡ 1) (data_way index) index [] (data_way-direct index direct) (λ some. absurd (some refl))
+      | inr past ↦ at_way (λ i up. up ≢ [] → code_at up ≡ 1) (data_way index) (index - 12) (12 ∷ []) (data_way-single index past can) (λ some. code_at-way_to Single)
+    ]
 
 -- blocks that are the same are padded alike
 padded_same : (old new : ℕ → List ℕ) (size : ℕ) → ((n : ℕ) → new n ≡ old n) → IsPadded old size → IsPadded new size
@@ -98,13 +109,6 @@ module _ (p r s q : Parts) (v : Inode) (block : FileBlock) (a i : ℕ) (up : Lis
             file_after number f f (in_volume number f is) was refl (λ k past. inl ne) was.formed
       ]
 
-  above_some : up ≢ [] → 1 ≤ code_at up
-  above_some some =
-      elim (cases_eq (code_at up) 0) [
-        | inl none ↦ absurd (some (sym (known_way_of up (up_known i up (known p r s q v block a i up h))) ∙ ap way_of none ∙ way_of-zero))
-        | inr ne ↦ omega arith
-      ]
-
   -- what is locked was locked, or holds the address
   locked_cases : (key : Key) → IsLocked key q.cache → (IsLocked key p.cache) ⊎ ((up ≢ []) × (key_of v.number v.version (code_at up) ≡ key))
   locked_cases key locked =
@@ -130,7 +134,6 @@ module _ (p r s q : Parts) (v : Inode) (block : FileBlock) (a i : ℕ) (up : Lis
     parts = parts;
     cache = stays.cache;
     readable = record { none_clean = stays.none_clean };
-    root_used = ap (λ (rs : List InodeRow). (row_at rs 2).used) rows ∙ files.root_used;
     reserved = λ number low other. ap (λ (rs : List InodeRow). (row_at rs number).used) rows ∙ files.reserved number low other;
     recorded = λ number used. elim (cases_eq number v.number) [
       | inl e ↦ ap is_some (ap (record_of q) e ∙ record_here)
@@ -146,10 +149,7 @@ module _ (p r s q : Parts) (v : Inode) (block : FileBlock) (a i : ℕ) (up : Lis
     coded = λ key locked. elim (locked_cases key locked) [
       | inl was ↦ files.coded key was
       | inr parent ↦
-          let below = up_code i up (known p r s q v block a i up h).leads in
-          let lbn : key.lbn ≡ code_at up = sym (ap (λ (k : Key). k.lbn) parent.1) in
-          let some = above_some parent.0 in
-          (omega (arith, lbn, some), omega (arith, lbn, below))
+          inl (sym (ap (λ (k : Key). k.lbn) parent.1) ∙ above_single block h.can h.other i up h.way parent.0)
     ];
   }
 

@@ -5,9 +5,9 @@ use Rattle.std.specs.Vec.{vec_capacity}
 use Rattle.std.proofs.lemmas.Option.{same_Some}
 use Rattle.std.proofs.lemmas.Bool.{false≢true, cases_eq, cases_lt}
 use Rattle.std.proofs.lemmas.List.Elements.{All-cons, All-weaker}
-use Rattle.lfs_types.specs.declared.limits.TheConstants.{ROOT_INODE}
 use Rattle.lfs_ifile.specs.Tables.{row_of}
 use Rattle.lfs_inodes.specs.declared.inode.Inode.{Inode}
+use Rattle.lfs_inodes.specs.Facts.{block_count}
 use Rattle.lfs_inodes.specs.Reading.{Fields, fields_of}
 use Rattle.lfs_cache.specs.declared.key.Key.{Key}
 use Rattle.lfs_cache.specs.Changes.{IsContents}
@@ -15,11 +15,11 @@ use Rattle.lfs_cache.specs.Contents.{Contents, IsLocked, block_in}
 use Rattle.lfs_segments.specs.Memory.{block_at, next_address}
 use Rattle.lfs_log.specs.Names.{named_at}
 use Rattle.lfs_log.specs.Parts.{IsParts, LogParts, live_of, record_place, state_of}
-use Rattle.lfs_ways.specs.declared.blocks.TheConstants.{BLOCK_CODES}
+use Rattle.lfs_ways.specs.declared.blocks.TheConstants.{BLOCK_CODES, FIRST_DATA_CODE}
 use Rattle.lfs_ways.specs.declared.blocks.FileBlock.{FileBlock}
-use Rattle.lfs_ways.specs.declared.blocks.FileBlock.TheVariants.{Single, Data}
+use Rattle.lfs_ways.specs.declared.blocks.FileBlock.TheVariants.{Record, Single, Data}
 use Rattle.lfs_ways.specs.Blocks.{code_of, way_to}
-use Rattle.lfs_ways.specs.Log.{IsLog}
+use Rattle.lfs_ways.specs.Log.{IsLog, SameKeys}
 use Rattle.lfs_ways.specs.Pieces.{IsPadded}
 use Rattle.lfs_ways.specs.Reading.{SameReadings, Stages, address, data_block, read}
 use Rattle.lfs_ways.specs.Ways.{IsKnown, code_at, data_way, way_of}
@@ -27,17 +27,28 @@ use Rattle.lfs_ways.specs.Blocks.{IsFileBlock}
 use Rattle.lfs_ways.proofs.BlockLemmas.{code_of-below}
 use Rattle.lfs_ways.proofs.LogLemmas.{written_log}
 use Rattle.lfs_ways.proofs.PlaceLemmas.{data_block-past, data_block-read, data_block-same}
-use Rattle.lfs_ways.proofs.ReadingLemmas.{SameReadings-refl, SameReadings-trans, data_leaf, staged_addresses, staged_bytes, staged_others, staged_same}
+use Rattle.lfs_ways.proofs.ReadingLemmas.{SameReadings-refl, SameReadings-trans, data_leaf, read-waits, staged_addresses, staged_bytes, staged_others, staged_same}
 use Rattle.lfs_ways.proofs.WayLemmas.{same_code, way_of-code_of, way_of-data, way_of-known}
 use Rattle.lfs_landing.specs.declared.parts.Parts.{Parts}
 use Rattle.lfs_landing.specs.Keys.{log_state}
-use Rattle.lfs_landing.specs.Staging.{IsStaged, IsZeroPast, MayStage, ParentsWait, SameFiles, StagesBlock, StagesData, StagesParents, StagesRecord}
-use Rattle.lfs_landing.specs.Store.{AreFiles, IsPresent, IsSettled, IsStore}
+use Rattle.lfs_landing.specs.Staging.{IsStaged, IsZeroPast, MayStage, ParentsWait, SameFiles, StagesBlock, StagesData, StagesOwnRecord, StagesParents, StagesRecord}
+use Rattle.lfs_landing.specs.Store.{AreFiles, IsPresent, IsSettled, IsStore, IsWithin}
 use Rattle.lfs_landing.specs.View.{key_of, record_of, root_in, tree_of, version_of, waiting_in}
 use Rattle.lfs_landing.specs.Waiting.{AreOnce, without}
 use Rattle.lfs_landing.proofs.KeyLemmas.{place-block, place-record}
+use Rattle.lfs_landing.proofs.SettingLemmas.{some_there}
 use Rattle.lfs_landing.proofs.StagingLemmas.{record_of-same, version-same}
-use Rattle.lfs_landing.proofs.WaitingLemmas.{all_without, once_staged, without-staged, waiting-head, waiting-staged}
+use Rattle.lfs_landing.proofs.ViewLemmas.{code_at-way_to}
+use Rattle.lfs_landing.proofs.WaitingLemmas.{all_without, length-rest, once_staged, without-staged, waiting-head, waiting-staged}
+
+-- the code of a block that may wait
+abbrev pub IsWaitingCode : ℕ → Type 0
+IsWaitingCode code = (code ≡ 1) ⊎ ((FIRST_DATA_CODE ≤ code) × (code < BLOCK_CODES))
+
+-- each block that waits lies within the size of its file
+abbrev pub AllWithin : Parts → Type 0
+AllWithin p = (number : ℕ) (block : FileBlock) (f : Fields) → record_of p number ≡ Some f → IsFileBlock block
+    → IsLocked (key_of number (version_of p number) (code_of block)) p.cache → IsWithin block f.attributes.size
 
 -- the way of a data block
 data_known : (n : ℕ) → n < 140 → IsKnown (data_way n)
@@ -47,7 +58,7 @@ single_known : IsKnown (12 ∷ [])
 single_known = subst IsKnown (way_of-code_of Single) (way_of-known 1 (omega arith))
 
 -- the way of a block
-block_known : (block : FileBlock) → IsFileBlock block → IsKnown (way_to block)
+pub block_known : (block : FileBlock) → IsFileBlock block → IsKnown (way_to block)
 block_known block is = subst IsKnown (way_of-code_of block) (way_of-known (code_of block) (code_of-below block is))
 
 -- who is in use at which version, where the log stays
@@ -58,26 +69,29 @@ present_kept old new n version log h = record {
 }
 
 -- ---- the log, where it and the addresses stay
+-- each key has the place that it had
+pub keys_kept : (old new : Parts) → new.log ≡ old.log → ((n : ℕ) (way : List ℕ) → IsKnown way → address (tree_of new n) way ≡ address (tree_of old n) way)
+    → SameKeys (log_state old) (log_state new)
+keys_kept old new log addresses = record {
+  numbers = ap (λ (l : LogParts). length l.tables.rows) log;
+  segments = ap (λ (l : LogParts). l.memory.segments) log;
+  places = λ n code low below. elim (cases_eq code 0) [
+    | inl record_ ↦
+        ap ((log_state new).at n) record_ ∙ place-record new n ∙ ap (λ (l : LogParts). record_place l.tables n) log
+        ∙ sym (ap ((log_state old).at n) record_ ∙ place-record old n)
+    | inr block ↦
+        place-block new n code block ∙ ap (λ a. 4 * a) (addresses n (way_of code) (way_of-known code below)) ∙ sym (place-block old n code block)
+  ];
+  versions = λ n low. version-same old new n log;
+}
+
 pub log_kept : (old new : Parts) (spare : ℕ) → new.log ≡ old.log → ((n : ℕ) (way : List ℕ) → IsKnown way → address (tree_of new n) way ≡ address (tree_of old n) way)
     → IsLog (log_state old) spare → IsLog (log_state new) spare
 log_kept old new spare log addresses h =
-    let places : (n code : ℕ) → code < BLOCK_CODES → (log_state new).at n code ≡ (log_state old).at n code
-    = λ n code below. elim (cases_eq code 0) [
-      | inl record_ ↦
-          ap ((log_state new).at n) record_ ∙ place-record new n ∙ ap (λ (l : LogParts). record_place l.tables n) log
-          ∙ sym (ap ((log_state old).at n) record_ ∙ place-record old n)
-      | inr block ↦
-          place-block new n code block ∙ ap (λ a. 4 * a) (addresses n (way_of code) (way_of-known code below)) ∙ sym (place-block old n code block)
-    ] in
     let to = h.segments.to in
     let next : next_address new.log.memory ≡ next_address old.log.memory = ap (λ (l : LogParts). next_address l.memory) log in
     let written = written_log (log_state old) (log_state new) spare 0 h (record {
-      keys = record {
-        numbers = ap (λ (l : LogParts). length l.tables.rows) log;
-        segments = ap (λ (l : LogParts). l.memory.segments) log;
-        places = λ n code low below. places n code below;
-        versions = λ n low. version-same old new n log;
-      };
+      keys = keys_kept old new log addresses;
       used = record { states = λ s low. ap (λ (l : LogParts). state_of l.tables s) log; clean = ap (λ (l : LogParts). l.clean) log };
       live = λ s low. ap (λ (l : LogParts). live_of l.tables s) log;
       active = ap (λ (l : LogParts). l.memory.active) log;
@@ -114,12 +128,11 @@ pub files_kept : (old new : Parts) → AreFiles old → new.log ≡ old.log → 
     → IsContents new.cache → new.cache.lru ≡ []
     → All (λ (v : Inode). IsPresent old v.number v.version) new.waiting.items → vec_capacity new.waiting ≡ vec_capacity old.waiting
     → ((key : Key) → IsLocked key new.cache → IsPresent old key.ino key.version)
-    → ((key : Key) → IsLocked key new.cache → (1 ≤ key.lbn) × (key.lbn < BLOCK_CODES)) → AreFiles new
+    → ((key : Key) → IsLocked key new.cache → IsWaitingCode key.lbn) → AreFiles new
 files_kept old new h log records addresses padded formed lru waiting room frames coded = record {
   parts = subst IsParts (sym log) h.parts;
   cache = formed;
   readable = record { none_clean = lru };
-  root_used = ap (λ (l : LogParts). (row_of l.tables ROOT_INODE).used) log ∙ h.root_used;
   reserved = λ n low other. ap (λ (l : LogParts). (row_of l.tables n).used) log ∙ h.reserved n low other;
   recorded = λ n used. ap is_some (records n) ∙ h.recorded n (sym (ap (λ (l : LogParts). (row_of l.tables n).used) log) ∙ used);
   files = λ n f is.
@@ -223,11 +236,11 @@ module _ (old new : Parts) (number : ℕ) (block : FileBlock) (bytes : List ℕ)
   block_records n = record_of-same old new n h.log (ap (λ vs. waiting_in vs n) h.waiting)
 
   -- where the files are well formed still, so is the rest
-  pub block_files : AreFiles old → IsPresent old number (version_of old number) → (1 ≤ code_of block) → (code_of block < BLOCK_CODES)
+  pub block_files : AreFiles old → IsPresent old number (version_of old number) → IsWaitingCode (code_of block)
       → ((n : ℕ) (way : List ℕ) → IsKnown way → address (tree_of new n) way ≡ address (tree_of old n) way)
       → ((n : ℕ) (f : Fields) → record_of old n ≡ Some f → IsPadded (data_block (tree_of old n)) f.attributes.size → IsPadded (data_block (tree_of new n)) f.attributes.size)
       → AreFiles new
-  block_files files present some below addresses padded =
+  block_files files present coded addresses padded =
       files_kept old new files h.log block_records addresses padded h.frames.formed h.frames.none_clean
       (subst (λ ws. All (λ (w : Inode). IsPresent old w.number w.version) ws) (sym h.waiting) files.records) h.room
       (λ key locked. elim (h.frames.only key locked) [
@@ -235,7 +248,7 @@ module _ (old new : Parts) (number : ℕ) (block : FileBlock) (bytes : List ℕ)
         | inr was ↦ files.frames key was
       ])
       (λ key locked. elim (h.frames.only key locked) [
-        | inl is ↦ subst (λ (k : Key). (1 ≤ k.lbn) × (k.lbn < BLOCK_CODES)) (sym is) (some, below)
+        | inl is ↦ subst (λ (k : Key). IsWaitingCode k.lbn) (sym is) coded
         | inr was ↦ files.coded key was
       ])
 
@@ -266,6 +279,35 @@ module _ (old new : Parts) (number : ℕ) (h : StagesBlock number Single (read (
       | inr other ↦ subst (λ t. SameReadings (tree_of old n) t) (sym (h.others n other)) (SameReadings-refl (tree_of old n))
     ];
   }
+
+-- where it waits already, nothing changes
+pub single_staged : (p : Parts) (number : ℕ) → IsContents p.cache → p.cache.lru ≡ [] → IsLocked (key_of number (version_of p number) 1) p.cache
+    → StagesBlock number Single (read (tree_of p number) (12 ∷ [])) p p
+single_staged p number formed none locked =
+    let there = some_there (block_in (key_of number (version_of p number) 1) p.cache.locked) locked in
+    let waits : (tree_of p number).waits (12 ∷ []) ≡ Some there.0
+    = ap (λ c. block_in (key_of number (version_of p number) c) p.cache.locked) (code_at-way_to Single) ∙ there.1 in
+    record {
+      log = refl;
+      waiting = refl;
+      room = refl;
+      staged = record {
+        root = refl;
+        waiting = waits ∙ ap Some (sym (read-waits (tree_of p number) (12 ∷ []) there.0 waits));
+        waits = λ other known ne. refl;
+        blocks = λ b. refl;
+      };
+      others = λ n other. refl;
+      frames = record {
+        formed = formed;
+        none_clean = none;
+        here = locked;
+        kept = λ other waiting. waiting;
+        only = λ other waiting. inr waiting;
+        one_more = omega arith;
+        none_more = λ _. refl;
+      };
+    }
 
 -- ---- a data block waits
 module _ (old new : Parts) (number index : ℕ) (bytes : List ℕ) (low : index < 140) (h : StagesBlock number (Data index) bytes old new) where
@@ -320,42 +362,78 @@ module _ (old new : Parts) (number index : ℕ) (bytes : List ℕ) (low : index 
 pub may_present : (p : Parts) (v : Inode) → MayStage p v → IsPresent p v.number v.version
 may_present p v may = record { in_use = may.in_use; at_version = (may.files.files v.number (fields_of v) may.here).own_version }
 
-pub parents_direct : (old new : Parts) (v : Inode) (index : ℕ) → MayStage old v → StagesRecord v old new → index < 12 → StagesParents v.number index old new
-parents_direct old new v index may h low = record {
+-- the record of a file waits, with what it has
+pub own_staged : (old new : Parts) (v : Inode) → MayStage old v → StagesRecord v old new → StagesOwnRecord v.number old new
+own_staged old new v may h = record {
   same = record_same old new v h may.here;
+  cache = h.cache;
   files = record_files old new v h may.here may.files may.in_use;
   parents = record_parents old new v h may.parents;
-  waits = record { record_waits = record_waits old new v h; single_waits = λ high. absurd (omega arith) };
+  waits = record_waits old new v h;
   room = record_room old new v h;
   once = record_once old new v h;
-  frames = let same : length new.cache.locked ≡ length old.cache.locked = ap (λ (s : Contents). length s.locked) h.cache in omega arith;
 }
 
-pub parents_single : (old between new : Parts) (v : Inode) (index : ℕ) → MayStage old v → StagesRecord v old between
-    → StagesBlock v.number Single (read (tree_of between v.number) (12 ∷ [])) between new → StagesParents v.number index old new
-parents_single old between new v index may h b =
+-- where it waits already, nothing changes
+pub own_waits : (p : Parts) (v : Inode) → MayStage p v → IsSome (waiting_in p.waiting.items v.number) → StagesOwnRecord v.number p p
+own_waits p v may waits = record {
+  same = record { log = refl; records = λ n. refl; readings = λ n. SameReadings-refl (tree_of p n) };
+  cache = refl;
+  files = may.files;
+  parents = may.parents;
+  waits = waits;
+  room = refl;
+  once = λ once. once;
+}
+
+pub parents_direct : (old new : Parts) (number index : ℕ) → StagesOwnRecord number old new → index < 12 → StagesParents number index old new
+parents_direct old new number index h low = record {
+  same = h.same;
+  files = h.files;
+  parents = h.parents;
+  waits = record { record_waits = h.waits; single_waits = λ high. absurd (omega arith) };
+  room = h.room;
+  once = h.once;
+  frames = let same : length new.cache.locked ≡ length old.cache.locked = ap (λ (s : Contents). length s.locked) h.cache in omega arith;
+  direct = λ _. h.cache;
+  again = λ _. ap (λ (s : Contents). length s.locked) h.cache;
+  stays = λ key locked. subst (IsLocked key) (sym h.cache) locked;
+  only = λ key locked. inr (subst (IsLocked key) h.cache locked);
+}
+
+pub parents_single : (old between new : Parts) (v : Inode) (index : ℕ) → MayStage old v → StagesOwnRecord v.number old between
+    → StagesBlock v.number Single (read (tree_of between v.number) (12 ∷ [])) between new → 12 ≤ index → StagesParents v.number index old new
+parents_single old between new v index may h b high =
     let bytes = read (tree_of between v.number) (12 ∷ []) in
-    let first = record_same old between v h may.here in
     let second = single_same between new v.number b in
-    let files = record_files old between v h may.here may.files may.in_use in
-    let present = present_kept old between v.number v.version h.log (may_present old v may) in
+    let present = present_kept old between v.number v.version h.same.log (may_present old v may) in
     let at : IsPresent between v.number (version_of between v.number) = record { in_use = present.in_use; at_version = refl } in
-    let waits = record_waits old between v h in
+    let version = version-same old between v.number h.same.log in
     record {
-      same = SameFiles-trans old between new first second;
-      files = block_files between new v.number Single bytes b files at (omega arith) (omega arith)
+      same = SameFiles-trans old between new h.same second;
+      files = block_files between new v.number Single bytes b h.files at (inl refl)
           (λ n way known. (second.readings n).addresses way known) (same_padded between new second);
-      parents = block_parents between new v.number Single bytes b (record_parents old between v h may.parents) waits (λ high. absurd (omega arith));
+      parents = block_parents between new v.number Single bytes b h.parents h.waits (λ high. absurd (omega arith));
       waits = record {
-        record_waits = ap (λ vs. is_some (waiting_in vs v.number)) b.waiting ∙ waits;
+        record_waits = ap (λ vs. is_some (waiting_in vs v.number)) b.waiting ∙ h.waits;
         single_waits = λ high. subst (λ n. IsLocked (key_of v.number n 1) new.cache) (sym (version-same between new v.number b.log)) b.frames.here;
       };
-      room = ap (without v.number) b.waiting ∙ record_room old between v h;
-      once = λ once. subst AreOnce (sym b.waiting) (record_once old between v h once);
+      room = ap (without v.number) b.waiting ∙ h.room;
+      once = λ once. subst AreOnce (sym b.waiting) (h.once once);
       frames =
           let same : length between.cache.locked ≡ length old.cache.locked = ap (λ (s : Contents). length s.locked) h.cache in
           let more = b.frames.one_more in
           omega arith;
+      direct = λ low. absurd (omega arith);
+      again = λ locked.
+          b.frames.none_more (subst (λ version. IsLocked (key_of v.number version 1) between.cache) (sym version)
+          (subst (IsLocked (key_of v.number (version_of old v.number) 1)) (sym h.cache) locked))
+          ∙ ap (λ (s : Contents). length s.locked) h.cache;
+      stays = λ key locked. b.frames.kept key (subst (IsLocked key) (sym h.cache) locked);
+      only = λ key locked. elim (b.frames.only key locked) [
+        | inl is ↦ inl (is ∙ ap (λ version. key_of v.number version 1) version, high)
+        | inr was ↦ inr (subst (IsLocked key) h.cache was)
+      ];
     }
 
 -- ---- and the data block
@@ -370,6 +448,22 @@ staged_data old between new number index bytes low h b = record {
   addresses = λ n way known.
       data_addresses between new number index bytes low b n way known ∙ (h.same.readings n).addresses way known;
   frames = let more = b.frames.one_more in let first = h.frames in omega arith;
+  takes = record {
+    waits = record {
+      record_waits = ap (λ vs. is_some (waiting_in vs number)) b.waiting ∙ h.waits.record_waits;
+      single_waits = λ high. b.frames.kept (key_of number (version_of new number) 1)
+          (subst (λ version. IsLocked (key_of number version 1) between.cache) (sym (version-same between new number b.log)) (h.waits.single_waits high));
+    };
+    stays = λ key locked. b.frames.kept key (h.stays key locked);
+    most = let more = b.frames.one_more in let first = h.frames in omega arith;
+    direct = λ direct.
+        let more = b.frames.one_more in
+        let same : length between.cache.locked ≡ length old.cache.locked = ap (λ (s : Contents). length s.locked) (h.direct direct) in
+        omega arith;
+    again = λ locked. let more = b.frames.one_more in let same = h.again locked in omega arith;
+    records = ap (without number) b.waiting ∙ h.room;
+    block_waits = subst (λ version. IsLocked (key_of number version (131 + index)) new.cache) (sym (version-same between new number b.log)) b.frames.here;
+  };
 }
 
 -- another block of the file may wait
@@ -381,7 +475,7 @@ data_again old between new v index bytes low may h b whole zeros =
     let log = b.log ∙ h.same.log in
     let moved = staged_data old between new v.number index bytes low h b in
     record {
-      files = block_files between new v.number (Data index) bytes b h.files at (omega arith) (omega arith)
+      files = block_files between new v.number (Data index) bytes b h.files at (inr (omega arith, omega arith))
           (data_addresses between new v.number index bytes low b)
           (data_padded between new v.number index bytes low b whole (fields_of v) (h.same.records v.number ∙ may.here) zeros);
       parents = block_parents between new v.number (Data index) bytes b h.parents h.waits.record_waits (λ high. h.waits.single_waits (omega arith));
@@ -396,16 +490,50 @@ data_again old between new v index bytes low may h b whole zeros =
       records = subst (λ (vs : List Inode). length vs < 64) (sym (ap (without v.number) b.waiting ∙ h.room)) may.records;
     }
 
-pub data_kept : (old between new : Parts) (v : Inode) (index : ℕ) (bytes : List ℕ) → index < 140 → StagesParents v.number index old between
-    → StagesBlock v.number (Data index) bytes between new → MayStage new v
+-- the block that waits, or the indirect block that leads to it, lies within the size
+pub within_code : (block : FileBlock) (size index code : ℕ) → index < block_count size → code_of block ≡ code → (code ≡ 131 + index) ⊎ ((code ≡ 1) × (12 ≤ index)) → IsWithin block size
+within_code Record size index code within is cases = tt
+within_code Single size index code within is cases = elim cases [ inl data_ ↦ absurd (omega arith) | inr single ↦ let high = single.1 in omega arith ]
+within_code (Data m) size index code within is cases = elim cases [ inl data_ ↦ omega arith | inr single ↦ let one = single.0 in absurd (omega arith) ]
+
+pub data_within : (old between new : Parts) (v : Inode) (index : ℕ) (bytes : List ℕ) → record_of old v.number ≡ Some (fields_of v) → index < block_count v.size
+    → StagesParents v.number index old between → StagesBlock v.number (Data index) bytes between new → AllWithin old → AllWithin new
+data_within old between new v index bytes has within h b was n block f is can locked =
+    let is_old : record_of old n ≡ Some f = sym (block_records between new v.number (Data index) bytes b n ∙ h.same.records n) ∙ is in
+    let version : version_of new n ≡ version_of old n = version-same between new n b.log ∙ version-same old between n h.same.log in
+    let key = key_of n (version_of new n) (code_of block) in
+    let here : (number code : ℕ) (version : ℕ) → key ≡ key_of number version code → number ≡ v.number → (code ≡ 131 + index) ⊎ ((code ≡ 1) × (12 ≤ index)) → IsWithin block f.attributes.size
+    = λ number code version e own cases.
+    let same : n ≡ v.number = ap (λ (k : Key). k.ino) e ∙ own in
+    let file : fields_of v ≡ f = same_Some (fields_of v) f (sym has ∙ ap (record_of old) (sym same) ∙ is_old) in
+    subst (λ (x : Fields). IsWithin block x.attributes.size) file (within_code block v.size index code within (ap (λ (k : Key). k.lbn) e) cases) in
+    elim (b.frames.only key locked) [
+      | inl data_ ↦ here v.number (131 + index) (version_of between v.number) data_ refl (inl refl)
+      | inr before ↦ elim (h.only key before) [
+        | inl single ↦ here v.number 1 (version_of old v.number) single.0 refl (inr (refl, single.1))
+        | inr earlier ↦ was n block f is_old can (subst (λ version. IsLocked (key_of n version (code_of block)) old.cache) version earlier)
+      ]
+    ]
+
+-- at most one record more waits than those of other numbers
+pub few_records : (new : Parts) (number : ℕ) (others : List Inode) → without number new.waiting.items ≡ others → length others < 64 → length new.waiting.items ≤ 64
+few_records new number others is few =
+    let more = length-rest new.waiting.items number in
+    let same : length (without number new.waiting.items) ≡ length others = ap (λ (vs : List Inode). length vs) is in
+    omega arith
+
+pub data_kept : (old between new : Parts) (v : Inode) (index : ℕ) (bytes : List ℕ) → index < 140 → index < block_count v.size → MayStage old v
+    → StagesParents v.number index old between → StagesBlock v.number (Data index) bytes between new → MayStage new v
     → (spare : ℕ) → IsStaged old spare → IsStaged new spare
-data_kept old between new v index bytes low h b again spare staged =
+data_kept old between new v index bytes low within may h b again spare staged =
     let moved = staged_data old between new v.number index bytes low h b in
     record {
       whole = again.files;
       log = log_kept old new spare moved.log moved.addresses staged.log;
       parents = again.parents;
       once = subst AreOnce (sym b.waiting) (h.once staged.once);
+      few = few_records new v.number (without v.number old.waiting.items) moved.takes.records may.records;
+      within = data_within old between new v index bytes may.here within h b staged.within;
     }
 
 -- ---- between calls
@@ -420,4 +548,6 @@ settled_staged p store settled =
       log = store.log;
       parents = record { records = λ key locked. absurd (none key locked); singles = λ key locked high. absurd (none key locked) };
       once = subst AreOnce (sym settled.no_record) tt;
+      few = let none_waits : length p.waiting.items ≡ 0 = ap (λ (vs : List Inode). length vs) settled.no_record in omega arith;
+      within = λ number block f is can locked. absurd (none _ locked);
     }

@@ -354,6 +354,11 @@ pub parent_kept : (p q : Parts) (v : Inode) (up : List ℕ) → q.cache ≡ p.ca
 parent_kept p q v [] cache waits = tt
 parent_kept p q v (j ∷ above) cache waits = subst (λ (c : Contents). IsSome (block_in (key_of v.number v.version (code_at (j ∷ above))) c.locked)) (sym cache) waits
 
+-- something is there, or nothing is
+pub some_or_none : (o : Option (List ℕ)) → IsSome o ⊎ (o ≡ None)
+some_or_none None = inr refl
+some_or_none (Some b) = inl refl
+
 -- where nothing clean is held, nothing clean is when a key was forgotten
 forgotten_none : (o : Option (List ℕ)) (k : Key) (c : Contents) → c.lru ≡ [] → (forgotten_by o k c).lru ≡ []
 forgotten_none None k c none = none

@@ -248,7 +248,6 @@ module _ (segments inodes : ℕ) (p : Parts) (h : IsOpening segments inodes p) w
     parts = h.parts;
     cache = formed;
     readable = record { none_clean = ap (λ (c : Contents). c.lru) h.cache };
-    root_used = ap (λ (r : InodeRow). r.used) h.tables.root;
     reserved = λ number low other. ap (λ (r : InodeRow). r.used) (h.tables.others number other);
     recorded = λ number used. elim (cases_eq number 2) [
       | inl root ↦ ap (λ n. is_some (record_of p n)) root ∙ ap is_some root_record

@@ -1,16 +1,18 @@
 -- Bytes put into a file, block by block.
-use Rattle.std.proofs.Common.{◌≡◌, ℕ, ◌+◌, ◌*◌, ◌/◌, ◌%◌, ◌<◌, ◌≤◌, List, length, refl, sym, ap, ◌∙◌, subst, inl, inr, arith}
+use Rattle.std.proofs.Common.{◌≡◌, ℕ, ◌+◌, ◌*◌, ◌/◌, ◌%◌, ◌-◌, ◌<◌, ◌≤◌, List, length, refl, sym, ap, ◌∙◌, subst, inl, inr, arith}
 use Rattle.std.specs.Prelude.{slice_index}
 use Rattle.std.proofs.lemmas.Bool.{cases_eq, cases_lt}
 use Rattle.lfs_inodes.specs.declared.inode.Inode.{Inode}
 use Rattle.lfs_inodes.specs.Reading.{fields_of}
+use Rattle.lfs_cache.specs.Contents.{IsLocked}
 use Rattle.lfs_ways.specs.Pieces.{IsPadded, IsPut, Touches}
 use Rattle.lfs_ways.specs.Reading.{data_block}
 use Rattle.lfs_ways.proofs.PieceLemmas.{byte_put-after, untouched_put}
 use Rattle.lfs_landing.specs.declared.parts.Parts.{Parts}
-use Rattle.lfs_landing.specs.Putting.{PutsBelow, PutsBlock, PutsBytes, blocks_of_put}
-use Rattle.lfs_landing.specs.Staging.{IsStaged, IsZeroPast, MayStage, StagesData}
-use Rattle.lfs_landing.specs.View.{tree_of}
+use Rattle.lfs_landing.specs.Putting.{PutsBelow, PutsBlock, PutsBytes, TakesBelow}
+use Rattle.lfs_landing.specs.Staging.{IsStaged, IsZeroPast, MayStage, StagesData, TakesFrames}
+use Rattle.lfs_landing.specs.View.{key_of, tree_of}
+use Rattle.lfs_landing.proofs.StagingLemmas.{version-same}
 
 -- a data block is zero past the size, and so it is with bytes put below it
 pub put_zeros : (blocks : ℕ → List ℕ) (index start size : ℕ) (bytes old new : List ℕ) → IsPadded blocks size → old ≡ blocks index → IsPut index start bytes old new
@@ -35,7 +37,7 @@ put_one old new v index start bytes before after h is put again kept = record {
   addresses = h.addresses;
   again = again;
   kept = kept;
-  frames = h.frames;
+  takes = h.takes;
 }
 
 -- none yet
@@ -73,10 +75,33 @@ put_more a b c v start bytes index p q = record {
   kept = λ spare staged. q.kept spare (p.kept spare staged);
 }
 
+-- the frames that wait: none more yet
+pub takes_none : (p : Parts) (number first : ℕ) → TakesBelow number first first p p
+takes_none p number first = record { frames = inl (omega arith); records = refl }
+
+-- and for one more block
+pub takes_more : (a b c : Parts) (number first index : ℕ) → TakesBelow number first index a b → c.log ≡ b.log → TakesFrames number index b c
+    → TakesBelow number first (index + 1) a c
+takes_more a b c number first index p log q = record {
+  frames = elim p.frames [
+    | inl few ↦ elim (cases_lt index 12) [
+      | inl low ↦ let more = q.direct low in inl (omega arith)
+      | inr high ↦ let more = q.most in inr (omega arith, omega arith, q.waits.single_waits high)
+    ]
+    | inr single ↦
+        let more = q.again single.2 in
+        let past = single.0 in
+        let few = single.1 in
+        inr (omega arith, omega arith, subst (λ version. IsLocked (key_of number version 1) c.cache) (sym (version-same b c number log)) (q.stays _ single.2))
+  ];
+  records = q.records ∙ p.records;
+}
+
 -- all
 pub put_all : (old new : Parts) (v : Inode) (start : ℕ) (bytes : List ℕ) (end : ℕ) → MayStage old v → PutsBelow v start bytes end old new
-    → ((n : ℕ) → Touches start (start + length bytes) n → n < end) → length new.cache.locked ≤ length old.cache.locked + 2 * blocks_of_put start (length bytes) → PutsBytes v start bytes old new
-put_all old new v start bytes end may h last frames =
+    → ((n : ℕ) → Touches start (start + length bytes) n → n < end) → 0 < length bytes → end ≡ (start + length bytes - 1) / 512 + 1 → TakesBelow v.number (start / 512) end old new
+    → PutsBytes v start bytes old new
+put_all old new v start bytes end may h last some is takes =
     let padded = (may.files.files v.number (fields_of v) may.here).padded in
     record {
       log = h.log;
@@ -91,5 +116,9 @@ put_all old new v start bytes end may h last frames =
       addresses = h.addresses;
       again = h.again;
       kept = h.kept;
-      frames = frames;
+      frames = elim takes.frames [
+        | inl few ↦ inl (omega arith)
+        | inr single ↦ let past = single.0 in let few = single.1 in inr (omega arith, omega arith)
+      ];
+      waiting = takes.records;
     }

@@ -179,7 +179,6 @@ module _ (p : Parts) (s : ℕ) (store : IsStore p) (inside : s < p.log.memory.se
     parts = parts;
     cache = store.whole.cache;
     readable = record { none_clean = store.whole.readable.none_clean };
-    root_used = store.whole.root_used;
     reserved = store.whole.reserved;
     recorded = λ n used. ap is_some (record_kept n) ∙ store.whole.recorded n used;
     files = file_kept;
@@ -220,9 +219,11 @@ module _ (p : Parts) (s : ℕ) (store : IsStore p) (inside : s < p.log.memory.se
           keys = keys_kept;
           dirty = StaysDirty-opened (log_state p) (log_state q) 0 s store.log opens;
           blocks = λ a used. apart_kept a (λ here. used (ap (state_of p.log.tables) here ∙ was_clean));
+          end = inr was_clean;
         };
         room = starts s;
         clean = o.clean;
+        was_clean = was_clean;
       }
     where
       starts : (t : ℕ) → 64 ≤ 64 - log_start t + 1
@@ -250,4 +251,5 @@ KeepsFiles-refl p = record {
   keys = record { numbers = refl; segments = refl; places = λ n c low below. refl; versions = λ n low. refl };
   dirty = StaysDirty-refl (log_state p);
   blocks = λ a used. refl;
+  end = inl refl;
 }

@@ -1,5 +1,5 @@
 -- What setting an address makes of a file that waits.
-use Rattle.std.proofs.Common.{◌≡◌, ◌≢◌, ℕ, List, [], ◌∷◌, Option, None, Some, IsSome, false, option_and_then, is_some, refl, sym, ap, ◌∙◌, subst}
+use Rattle.std.proofs.Common.{◌≡◌, ◌≢◌, ℕ, List, length, [], ◌∷◌, Option, None, Some, IsSome, false, option_and_then, is_some, refl, sym, ap, ◌∙◌, subst}
 use Rattle.std.specs.Prelude.{slice_set, All}
 use Rattle.std.proofs.lemmas.Bool.{cond-true}
 use Rattle.std.proofs.lemmas.List.Elements.{All-weaker}
@@ -96,6 +96,7 @@ module _ (p q : Parts) (v w : Inode) (is : IsWaiting p v) (log : q.log ≡ p.log
     records = λ number other. record_same p q number log (replaced_others number other);
     waits = λ key other. ap (λ (s : Contents). block_in key s.locked) cache;
     record_only = λ _. cache;
+    many = ap (λ (s : Contents). length s.locked) cache;
     still = tt;
   }
 
@@ -138,6 +139,7 @@ module _ (p q : Parts) (v : Inode) (i a : ℕ) (b : List ℕ) (is : IsWaiting p 
     records = λ number other. record_same p q number log (ap (λ items. waiting_in items number) waiting);
     waits = λ key other. h.rewritten.others key (subst (λ c. same_key (key_of v.number v.version c) key ≡ false) (code_at-way_to Single) other);
     record_only = λ e. absurd (not_nil 12 [] e);
+    many = h.rewritten.many;
     still = ap (λ c. is_some (block_in (key_of v.number v.version c) q.cache.locked)) (code_at-way_to Single) ∙ ap is_some h.rewritten.here;
   }
 

@@ -56,7 +56,7 @@ once_gone (v ∷ vs) number once = elim (cases_eq v.number number) [
   | inr ne ↦ ap (λ ws. waiting_in ws number) (cond-false _ _ _ (ne_eqb v.number number ne)) ∙ waiting-tail v (without number vs) number ne ∙ once_gone vs number once.1
 ]
 
-once_without : (vs : List Inode) (number : ℕ) → AreOnce vs → AreOnce (without number vs)
+pub once_without : (vs : List Inode) (number : ℕ) → AreOnce vs → AreOnce (without number vs)
 unfolding without AreOnce
 once_without [] number once = once
 once_without (v ∷ vs) number once = elim (cases_eq v.number number) [
@@ -87,6 +87,18 @@ length-without (v ∷ vs) number = elim (cases_eq v.number number) [
   | inr ne ↦
       let e : length (without number (v ∷ vs)) ≡ suc (length (without number vs)) = ap (λ (ws : List Inode). length ws) (cond-false _ _ _ (ne_eqb v.number number ne)) in
       let rest = length-without vs number in
+      omega arith
+]
+
+-- at most one less
+pub length-rest : (vs : List Inode) (number : ℕ) → length vs ≤ length (without number vs) + 1
+unfolding without
+length-rest [] number = omega arith
+length-rest (v ∷ vs) number = elim (cases_eq v.number number) [
+  | inl is ↦ let e : length (without number (v ∷ vs)) ≡ length vs = ap (λ (ws : List Inode). length ws) (cond-true _ _ _ (eq-eqb v.number number is)) in omega arith
+  | inr ne ↦
+      let e : length (without number (v ∷ vs)) ≡ suc (length (without number vs)) = ap (λ (ws : List Inode). length ws) (cond-false _ _ _ (ne_eqb v.number number ne)) in
+      let rest = length-rest vs number in
       omega arith
 ]
 

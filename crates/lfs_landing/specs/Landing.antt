@@ -6,7 +6,6 @@ use Rattle.lfs_ifile.specs.Tables.{row_of}
 use Rattle.lfs_inodes.specs.declared.inode.Inode.{Inode}
 use Rattle.lfs_inodes.specs.Addresses.{cells}
 use Rattle.lfs_inodes.specs.Attributes.{attributes}
-use Rattle.lfs_inodes.specs.Facts.{block_count}
 use Rattle.lfs_cache.specs.declared.key.Key.{Key}
 use Rattle.lfs_cache.specs.Changes.{IsContents}
 use Rattle.lfs_cache.specs.Contents.{Contents, IsLocked, block_in}
@@ -16,15 +15,16 @@ use Rattle.lfs_segments.specs.declared.entry.SummaryEntry.{SummaryEntry}
 use Rattle.lfs_segments.specs.Log.{Expects}
 use Rattle.lfs_segments.specs.Memory.{SegmentMemory, block_at, next_address}
 use Rattle.lfs_types.specs.declared.limits.TheConstants.{SEGMENT_BLOCKS}
+use Rattle.lfs_ways.specs.declared.blocks.TheConstants.{BLOCK_CODES}
+use Rattle.lfs_ways.specs.Counting.{placed}
 use Rattle.lfs_ways.specs.Log.{Writes}
 use Rattle.lfs_ways.specs.Reading.{IsUnread, Lands, SameReadings, data_block, table}
 use Rattle.lfs_ways.specs.Blocks.{IsFileBlock, code_of, logical_of, way_to}
 use Rattle.lfs_ways.specs.Ways.{code_at}
 use Rattle.lfs_ways.specs.declared.blocks.FileBlock.{FileBlock}
-use Rattle.lfs_ways.specs.declared.blocks.FileBlock.TheVariants.{Record, Single, Data}
 use Rattle.lfs_landing.specs.declared.parts.Parts.{Parts}
 use Rattle.lfs_landing.specs.Keys.{log_state}
-use Rattle.lfs_landing.specs.Store.{IsPresent}
+use Rattle.lfs_landing.specs.Store.{IsPresent, IsWithin}
 use Rattle.lfs_landing.specs.View.{key_of, record_of, tree_of, version_of, waiting_in}
 
 -- some records with another one in place of the first of its number
@@ -53,12 +53,7 @@ pub record Rewrites (old new : Contents) (key : Key) (block : List ℕ) : Type 0
   pub others : (other : Key) → same_key key other ≡ false → block_in other new.locked ≡ block_in other old.locked
   pub none_clean : new.lru ≡ []
   pub formed : IsContents new
-
--- a file of this size can have the block: it lies below the size, or is the single indirect block of a file that has one
-abbrev pub IsWithin : FileBlock → ℕ → Type 0
-IsWithin Record size = ⊤
-IsWithin Single size = 12 < block_count size
-IsWithin (Data index) size = index < block_count size
+  pub many : length new.locked ≡ length old.locked
 
 -- what holds the address of a block waits: the record, or the single indirect block
 abbrev pub ParentWaits : Parts → Inode → List ℕ → Type 0
@@ -75,6 +70,7 @@ pub record Sets (old new : Parts) (v : Inode) (i : ℕ) (up : List ℕ) (a : ℕ
   pub waits : (key : Key) → same_key (key_of v.number v.version (code_at up)) key ≡ false
       → block_in key new.cache.locked ≡ block_in key old.cache.locked
   pub record_only : up ≡ [] → new.cache ≡ old.cache
+  pub many : length new.cache.locked ≡ length old.cache.locked
   pub still : ParentWaits new v up
 
 -- What waits is still formed: the record of the number too, which has the attributes that it had.
@@ -143,3 +139,16 @@ pub record LandsBlock (old new : Parts) (v : Inode) (block : FileBlock) (a : ℕ
   pub file_data : (number n : ℕ) → number < length old.log.tables.rows → data_block (tree_of new number) n ≡ data_block (tree_of old number) n
   pub rows : new.log.tables.rows ≡ old.log.tables.rows
   pub settled : block_in (key_of v.number v.version (code_of block)) new.cache.locked ≡ None
+
+-- A key took a place in the block at an address that the log just got, at its end: every other key kept the place that it
+-- had. Live bytes apart, nothing else of the log changed.
+pub record TakesPlace (old new : Parts) (number code a place : ℕ) : Type 0 where
+  pub end : a ≡ next_address old.log.memory
+  pub next : next_address new.log.memory ≡ next_address old.log.memory + 1
+  pub segments : new.log.memory.segments ≡ old.log.memory.segments
+  pub active : new.log.memory.active ≡ old.log.memory.active
+  pub states : new.log.tables.states ≡ old.log.tables.states
+  pub clean : new.log.clean ≡ old.log.clean
+  pub places : (n c : ℕ) → n < length old.log.tables.rows → c < BLOCK_CODES
+      → (log_state new).at n c ≡ placed (log_state old).at number code place n c
+  pub blocks : (b : ℕ) → b ≢ a → block_at new.log.memory b ≡ block_at old.log.memory b

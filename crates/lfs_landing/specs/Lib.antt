@@ -3,6 +3,8 @@ pub mod Files
 pub mod Filling
 pub mod Keys
 pub mod Landing
+pub mod Making
+pub mod Marking
 pub mod Opening
 pub mod Room
 pub mod Store
@@ -10,3 +12,8 @@ pub mod View
 pub mod Staging
 pub mod Waiting
 pub mod Putting
+pub mod Changing
+pub mod Flushing
+pub mod Cutting
+pub mod Recording
+pub mod Applying

@@ -1,5 +1,5 @@
 -- Bytes put into a file.
-use Rattle.std.specs.Prelude.{◌≡◌, ◌≢◌, ℕ, ◌+◌, ◌-◌, ◌*◌, ◌/◌, ◌<◌, ◌≤◌, max, List, length, Some, true}
+use Rattle.std.specs.Prelude.{◌≡◌, ◌≢◌, ℕ, ◌+◌, ◌-◌, ◌*◌, ◌/◌, ◌<◌, ◌≤◌, ◌⊎◌, max, List, length, Some, true}
 use Rattle.std.specs.FinMap as map
 use Rattle.lfs_types.specs.Changes.{changed_at}
 use Rattle.lfs_types.specs.Splicing.{splice}
@@ -7,6 +7,8 @@ use Rattle.lfs_types.specs.Tree.{Content, file_of}
 use Rattle.lfs_types.specs.declared.attrs.Attrs.{Attrs}
 use Rattle.lfs_inodes.specs.declared.inode.Inode.{Inode}
 use Rattle.lfs_inodes.specs.Reading.{Fields, fields_of}
+use Rattle.lfs_cache.specs.Contents.{IsLocked}
+use Rattle.lfs_ways.specs.declared.blocks.TheConstants.{DIRECT_BLOCKS}
 use Rattle.lfs_ways.specs.Pieces.{IsPut}
 use Rattle.lfs_ways.specs.Reading.{address, data_block}
 use Rattle.lfs_ways.specs.Ways.{IsKnown}
@@ -16,10 +18,10 @@ use Rattle.lfs_types.specs.declared.limits.TheConstants.{FILE_BYTES}
 use Rattle.lfs_ifile.specs.Tables.{row_of}
 use Rattle.lfs_inodes.specs.Facts.{IsSizeOf}
 use Rattle.lfs_landing.specs.declared.parts.TheConstants.{WAITING_LIMIT}
-use Rattle.lfs_landing.specs.Staging.{IsStaged, MayStage, ParentsWait}
+use Rattle.lfs_landing.specs.Staging.{IsStaged, MayStage, ParentsWait, TakesFrames}
 use Rattle.lfs_landing.specs.Store.{AreFiles}
 use Rattle.lfs_landing.specs.Waiting.{without}
-use Rattle.lfs_landing.specs.View.{LiesIn, blocks_of, record_of, tree_of}
+use Rattle.lfs_landing.specs.View.{LiesIn, blocks_of, key_of, record_of, tree_of, version_of}
 
 -- how many blocks some bytes at a place of a file fall into, at least one
 abbrev pub blocks_of_put : ℕ → ℕ → ℕ
@@ -35,7 +37,15 @@ pub record PutsBlock (v : Inode) (index start : ℕ) (bytes : List ℕ) (old new
   pub addresses : (n : ℕ) (way : List ℕ) → IsKnown way → address (tree_of new n) way ≡ address (tree_of old n) way
   pub again : MayStage new v
   pub kept : (spare : ℕ) → IsStaged old spare → IsStaged new spare
-  pub frames : length new.cache.locked ≤ length old.cache.locked + 2
+  pub takes : TakesFrames v.number index old new
+
+-- Blocks of a number from one to before another wait: a frame more for each, and one for the single indirect block where
+-- one of them lies past the direct blocks.
+pub record TakesBelow (number first before : ℕ) (old new : Parts) : Type 0 where
+  pub frames : (length new.cache.locked + first ≤ length old.cache.locked + before)
+      ⊎ ((DIRECT_BLOCKS < before) × (length new.cache.locked + first ≤ length old.cache.locked + before + 1)
+      × IsLocked (key_of number (version_of new number) 1) new.cache)
+  pub records : without number new.waiting.items ≡ without number old.waiting.items
 
 -- What falls into the blocks below one of some bytes put at `start` of a file is there, and nothing else changed.
 pub record PutsBelow (v : Inode) (start : ℕ) (bytes : List ℕ) (before : ℕ) (old new : Parts) : Type 0 where
@@ -57,7 +67,10 @@ pub record PutsBytes (v : Inode) (start : ℕ) (bytes : List ℕ) (old new : Par
   pub addresses : (n : ℕ) (way : List ℕ) → IsKnown way → address (tree_of new n) way ≡ address (tree_of old n) way
   pub again : MayStage new v
   pub kept : (spare : ℕ) → IsStaged old spare → IsStaged new spare
-  pub frames : length new.cache.locked ≤ length old.cache.locked + 2 * blocks_of_put start (length bytes)
+  pub frames : (length new.cache.locked ≤ length old.cache.locked + blocks_of_put start (length bytes))
+      ⊎ ((DIRECT_BLOCKS * BLOCK_SIZE < start + length bytes)
+      × (length new.cache.locked ≤ length old.cache.locked + blocks_of_put start (length bytes) + 1))
+  pub waiting : without v.number new.waiting.items ≡ without v.number old.waiting.items
 
 -- The record of a file waits with a size of at least so many bytes. Nothing else changed.
 pub record GrowsTo (v w : Inode) (size : ℕ) (old new : Parts) : Type 0 where
@@ -70,6 +83,7 @@ pub record GrowsTo (v w : Inode) (size : ℕ) (old new : Parts) : Type 0 where
   pub blocks : (n : ℕ) → tree_of new n ≡ tree_of old n
   pub again : MayStage new w
   pub kept : (spare : ℕ) → IsStaged old spare → IsStaged new spare
+  pub room : without v.number new.waiting.items ≡ without v.number old.waiting.items
 
 -- the content with bytes put at a place of a file
 abbrev pub with_put : ℕ → ℕ → List ℕ → Content → Content
@@ -84,6 +98,7 @@ pub record ChangesRecord (v w : Inode) (old new : Parts) : Type 0 where
   pub blocks : (n : ℕ) → tree_of new n ≡ tree_of old n
   pub again : MayStage new w
   pub kept : (spare : ℕ) → IsStaged old spare → IsStaged new spare
+  pub room : without v.number new.waiting.items ≡ without v.number old.waiting.items
 
 -- the content with other attributes of a file, whose bytes stay
 abbrev pub with_attrs : ℕ → Attrs → Content → Content

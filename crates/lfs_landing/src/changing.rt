@@ -7,7 +7,8 @@ ghost use Rattle.lfs_landing.specs.View.{record_of, tree_of};
 ghost use Rattle.lfs_types.specs.declared.limits.TheConstants.{FILE_BLOCKS};
 ghost use Rattle.lfs_cache.specs.declared.cache.TheConstants.{LOCKED_LIMIT};
 ghost use Rattle.lfs_inodes.specs.Reading.{Fields};
-ghost use Rattle.lfs_inodes.specs.Facts.{IsSizeOf};
+ghost use Rattle.lfs_inodes.specs.Facts.{IsSizeOf, block_count};
+ghost use Rattle.lfs_landing.specs.Changing.{frames_of_put};
 ghost use Rattle.lfs_landing.specs.Putting.{GrowsTo, MayChange, MayPut, with_attrs, PutsBlock, PutsBytes, blocks_of_put, with_put};
 ghost use Rattle.lfs_landing.specs.Files.{content_of};
 ghost use Rattle.lfs_landing.specs.Staging.{IsStaged, MayStage};
@@ -32,7 +33,8 @@ impl Parts {
         ensures addresses { (n : ℕ) (way : List ℕ) → IsKnown way
             → address (tree_of self.new n) way ≡ address (tree_of self.old n) way }
         ensures frames { length self.new.cache.locked
-            ≤ length self.old.cache.locked + 2 * blocks_of_put off (length bytes.now) }
+            ≤ length self.old.cache.locked + frames_of_put off (length bytes.now) }
+        ensures waiting { length self.new.waiting.items ≤ length self.old.waiting.items + 1 }
         // What holds in the middle of a call is kept.
         ensures kept { (spare : ℕ) → IsStaged self.old spare → IsStaged self.new spare }
     {
@@ -52,6 +54,7 @@ impl Parts {
         ensures log { self.new.log ≡ self.old.log }
         ensures cache { self.new.cache ≡ self.old.cache }
         ensures addresses { (n : ℕ) → tree_of self.new n ≡ tree_of self.old n }
+        ensures waiting { length self.new.waiting.items ≤ length self.old.waiting.items + 1 }
         // What holds in the middle of a call is kept.
         ensures kept { (spare : ℕ) → IsStaged self.old spare → IsStaged self.new spare }
     {
@@ -68,6 +71,7 @@ impl Parts {
         requires may { MayStage self.old inode.now }
         requires room { length self.old.cache.locked + 2 ≤ LOCKED_LIMIT }
         requires block { index < FILE_BLOCKS }
+        requires within { index < block_count inode.now.size }
         requires below { off + length bytes.now ≤ inode.now.size }
         ensures { PutsBlock inode.now index off bytes.now self.old self.new }
     {

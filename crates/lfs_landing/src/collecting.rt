@@ -106,7 +106,7 @@ fn is_of(key: &Key, of_data: bool) -> bool
 }
 
 /// How many inode blocks so many records take.
-fn inode_blocks(records: usize) -> usize
+pub(crate) fn inode_blocks(records: usize) -> usize
     requires { records ≤ WAITING_LIMIT }
     ensures { result ≡ inode_blocks records }
 {

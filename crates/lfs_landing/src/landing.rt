@@ -1,6 +1,6 @@
 //! Writing what waits into the log.
 
-ghost use Rattle.std.specs.Prelude.{◌≡◌, ◌+◌, ◌<◌, ◌∷◌, [], ℕ, List, Some, IsSome, All, false, vec_capacity};
+ghost use Rattle.std.specs.Prelude.{◌≡◌, ◌+◌, ◌*◌, ◌<◌, ◌≤◌, ◌∷◌, [], ℕ, length, List, Some, IsSome, All, false, vec_capacity};
 ghost use Rattle.lfs_inodes.specs.declared.inode.Inode.{Inode};
 ghost use Rattle.lfs_inodes.specs.declared.inode.TheConstants.{ADDRESS_LIMIT};
 ghost use Rattle.lfs_cache.specs.Changes.{IsContents};
@@ -15,8 +15,8 @@ ghost use Rattle.lfs_ways.specs.Log.{IsLog};
 ghost use Rattle.lfs_landing.specs.Keys.{log_state};
 ghost use Rattle.lfs_ways.specs.Blocks.{IsFileBlock, code_of, way_to};
 ghost use Rattle.lfs_landing.specs.Files.{content_of};
-ghost use Rattle.lfs_landing.specs.Landing.{ExpectsBlock, ExpectsSome, IsWaiting, IsWithin, LandsBlock, MayLand, ParentWaits, AppendsBlock, Replaces, Sets, SetsEntry, StaysWaiting, entry_of, replaced};
-ghost use Rattle.lfs_landing.specs.Store.{AreFiles, IsPresent};
+ghost use Rattle.lfs_landing.specs.Landing.{ExpectsBlock, ExpectsSome, IsWaiting, LandsBlock, MayLand, ParentWaits, AppendsBlock, Replaces, TakesPlace, Sets, SetsEntry, StaysWaiting, entry_of, replaced};
+ghost use Rattle.lfs_landing.specs.Store.{AreFiles, IsPresent, IsWithin};
 ghost use Rattle.lfs_landing.specs.View.{IsReadable, key_of, waiting_in};
 
 use crate::parts::Parts;
@@ -63,7 +63,7 @@ fn set_entry(cache: &mut Cache, key: Key, index: usize, address: u32)
 
 impl Parts {
     /// Writes a block at the log's end, which expects one, and gives its address.
-    fn append_block(&mut self, bytes: &Block) -> u32
+    pub(crate) fn append_block(&mut self, bytes: &Block) -> u32
         requires parts { IsParts self.old.log }
         requires log { IsLog (log_state self.old) 0 }
         requires expected { ExpectsSome self.old.log.memory }
@@ -82,7 +82,7 @@ impl Parts {
 
     /// Sets the address of a block of a file in what holds it, which waits: in the record, or in the
     /// single indirect block.
-    fn set_address(&mut self, inode: &Inode, block: FileBlock, address: u32)
+    pub(crate) fn set_address(&mut self, inode: &Inode, block: FileBlock, address: u32)
         requires record { IsWaiting self.old inode.now }
         requires block { IsFileBlock block }
         requires within { IsWithin block inode.now.size }
@@ -130,6 +130,7 @@ impl Parts {
         requires expected { ExpectsBlock self.old.log.memory (entry_of inode.now block) }
         ensures address { result ≡ next_address self.old.log.memory }
         ensures landed { LandsBlock self.old self.new inode.now block result }
+        ensures place { TakesPlace self.old self.new inode.now.number (code_of block) result (4 * result) }
         ensures log { IsLog (log_state self.new) 0 }
         ensures expects { (rest : List SummaryEntry)
             → Expects self.old.log.memory (entry_of inode.now block ∷ rest)
@@ -141,6 +142,7 @@ impl Parts {
         ensures frames { (key : Key) → same_key (key_of inode.now.number inode.now.version
             (code_of block)) key ≡ false → IsLocked key self.old.cache → IsLocked key self.new.cache }
         ensures only { (key : Key) → IsLocked key self.new.cache → IsLocked key self.old.cache }
+        ensures fewer { length self.new.cache.locked ≤ length self.old.cache.locked }
     {
         let from = self.address_of(inode, block);
         let bytes = *self.block_of(inode, block);

@@ -26,7 +26,7 @@ pub struct Parts {
 
 impl Parts {
     /// The record of a number that waits to be written, if one does.
-    fn waiting(&self, ino: u32) -> Option<Inode>
+    pub(crate) fn waiting(&self, ino: u32) -> Option<Inode>
         ensures { result ≡ waiting_in self.now.waiting.items ino }
     {
         self.waiting

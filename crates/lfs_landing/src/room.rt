@@ -2,6 +2,8 @@
 
 ghost use Rattle.std.specs.Prelude.{◌≡◌, ◌+◌, ◌<◌, ◌≤◌, OnErr, OnOk};
 ghost use Rattle.lfs_types.specs.declared.limits.TheConstants.{SEGMENT_BLOCKS};
+ghost use Rattle.lfs_ifile.specs.declared.segment.SegState.TheVariants.{Clean};
+ghost use Rattle.lfs_log.specs.Parts.{state_of};
 ghost use Rattle.lfs_segments.specs.Memory.{room_of};
 ghost use Rattle.lfs_landing.specs.Room.{KeepsFiles, OpensSegment};
 ghost use Rattle.lfs_landing.specs.Store.{IsStore};
@@ -23,7 +25,8 @@ impl Parts {
         ensures room { OnOk result (blocks ≤ room_of self.new.log.memory) }
         ensures enough { blocks ≤ room_of self.old.log.memory → self.new ≡ self.old }
         ensures opened { OnOk result (room_of self.old.log.memory < blocks
-            → (reserve < self.old.log.clean) × (self.new.log.clean + 1 ≡ self.old.log.clean)) }
+            → (reserve < self.old.log.clean) × (self.new.log.clean + 1 ≡ self.old.log.clean)
+            × (state_of self.old.log.tables self.new.log.memory.active ≡ Clean)) }
         ensures refused { OnErr result (self.new ≡ self.old) }
         ensures short { OnErr result (room_of self.old.log.memory < blocks) }
         ensures reserved { OnErr result (self.old.log.clean ≤ reserve) }

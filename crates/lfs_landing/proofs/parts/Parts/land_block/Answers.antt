@@ -1,8 +1,9 @@
-use Rattle.std.proofs.Common.{◌≡◌, ◌≤◌, ◌+◌, ◌*◌, ◌/◌, ◌∷◌, ℕ, List, None, false, refl, sym, ap, ◌∙◌, subst, arith}
+use Rattle.std.proofs.Common.{◌≡◌, ◌≤◌, ◌+◌, ◌*◌, ◌/◌, ◌∷◌, ℕ, List, length, None, false, refl, sym, ap, ◌∙◌, subst, inl, inr, arith}
 use Rattle.std.specs.Vec.{vec_capacity}
 use Rattle.lfs_inodes.specs.Reading.{fields_of}
 use Rattle.lfs_ifile.specs.Tables.{Tables}
 use Rattle.lfs_segments.specs.Log.{Expects}
+use Rattle.lfs_segments.specs.Memory.{SegmentMemory, next_address}
 use Rattle.lfs_cache.specs.Contents.{Contents, block_in}
 use Rattle.lfs_cache.specs.Keys.{same_key}
 use Rattle.lfs_log.specs.Parts.{LogParts, live_of}
@@ -21,7 +22,7 @@ use Rattle.lfs_landing.specs.View.{LiesIn, blocks_of, key_of, tree_of}
 use Rattle.lfs_landing.proofs.FileLemmas.{tree_from-of}
 use Rattle.lfs_landing.proofs.KeyLemmas.{lies_in, place-block}
 use Rattle.lfs_landing.proofs.KeepingLemmas.{content_kept, files_kept, frames_kept, frames_only}
-use Rattle.lfs_landing.proofs.LandedLemmas.{Steps, data_same, forgotten_clean, lands, live_fits, live_had, log_after, others_same, parent_kept, record_other, stays_landed, used_low, waited_parent, way_some}
+use Rattle.lfs_landing.proofs.LandedLemmas.{Steps, block_other, data_same, forgotten_clean, lands, live_fits, live_had, log_after, others_same, parent_kept, place_after, record_other, some_or_none, stays_landed, used_low, waited_parent, way_some}
 use Rattle.lfs_landing.proofs.SettingLemmas.{waiting_record}
 use Rattle.lfs_landing.proofs.parts.Parts.land_block.Goals as goal
 
@@ -196,3 +197,36 @@ returns-clause-only c =
     let stays = stays_landed p r s q v c.set_address.ensures.waiting c.append_block-to.ensures.put.items (ap vec_capacity c.append_block-to.ensures.put.waiting) refl refl
     c.move_live.ensures.others.rows c.forget.ensures.formed (ap (λ (x : Contents). x.lru) c.forget.ensures.contents ∙ forgotten_clean _ s.cache c.set_address.ensures.waiting.none_clean) in
     frames_only p r s q v b a w.0 w.1 (steps c w.0 w.1 w.2) (waited_parent p v may.is w.1 (may.parent w.0 w.1 w.2)) c.requires.files stays may.within c.move_live.ensures.kept (may.parent w.0 w.1 w.2)
+
+pub returns-clause-place : goal.returns-clause-place
+unfolding after
+returns-clause-place c =
+    let p = c.args.self.now in let v = c.args.inode.now in let may = c.requires.may_land in let b = c.args.block in
+    let r = c.append_block-to.new.self in let s = c.set_address.new.self in let q = after c in let a = c.append_block-to.result in
+    let w = way_some b may.can may.other in
+    let st = steps c w.0 w.1 w.2 in
+    let put = c.append_block-to.ensures in
+    record {
+      end = st.put.end;
+      next = ap next_address st.memory ∙ put.next;
+      segments = ap (λ (m : SegmentMemory). m.segments) st.memory ∙ put.extends.segments;
+      active = ap (λ (m : SegmentMemory). m.active) st.memory ∙ put.extends.active;
+      states = c.move_live.ensures.others.states ∙ ap (λ (l : LogParts). l.tables.states) st.set.log ∙ ap (λ (t : Tables). t.states) st.put.tables;
+      clean = c.move_live.ensures.clean ∙ ap (λ (l : LogParts). l.clean) st.set.log ∙ st.put.step.used.clean;
+      places = place_after p r s q v b a w.0 w.1 st (waited_parent p v may.is w.1 (may.parent w.0 w.1 w.2));
+      blocks = block_other p r s q v b a w.0 w.1 st;
+    }
+
+pub returns-clause-fewer : goal.returns-clause-fewer
+returns-clause-fewer c =
+    let may = c.requires.may_land in
+    let w = way_some c.args.block may.can may.other in
+    let st = steps c w.0 w.1 w.2 in
+    let key = key_of c.args.inode.now.number c.args.inode.now.version c.code.result in
+    let same : length c.set_address.new.self.cache.locked ≡ length c.args.self.now.cache.locked = st.set.many ∙ ap (λ (s : Contents). length s.locked) st.put.cache in
+    elim (some_or_none (block_in key c.set_address.new.self.cache.locked)) [
+      | inl waits ↦ let one = c.forget.ensures.one_less waits in omega arith
+      | inr none ↦
+          let fewer : length c.forget.new.self.locked ≡ length c.set_address.new.self.cache.locked = ap length (c.forget.ensures.none_less none) in
+          omega arith
+    ]

@@ -1,9 +1,11 @@
-use Rattle.std.proofs.Common.{◌≡◌, length, ap, ◌∙◌, arith}
+use Rattle.std.proofs.Common.{◌≡◌, ◌⊎◌, ◌+◌, ◌<◌, ◌≤◌, length, ap, ◌∙◌, subst}
 use Rattle.lfs_cache.specs.Contents.{Contents}
 use Rattle.lfs_ways.specs.Reading.{address}
 use Rattle.lfs_inodes.specs.Reading.{fields_of}
 use Rattle.lfs_landing.proofs.FileLemmas.{given_record}
-use Rattle.lfs_landing.proofs.GrowthLemmas.{may_from, put_shown}
+use Rattle.lfs_landing.specs.Putting.{blocks_of_put}
+use Rattle.lfs_landing.specs.Waiting.{without}
+use Rattle.lfs_landing.proofs.GrowthLemmas.{may_from, one_record, put_frames, put_shown}
 use Rattle.lfs_landing.proofs.parts.Parts.put.Goals as goal
 
 pub grow-inode-requires-clause-may : goal.grow-inode-requires-clause-may
@@ -32,5 +34,14 @@ returns-clause-addresses c = λ n way known. c.put_blocks.ensures.addresses n wa
 pub returns-clause-frames : goal.returns-clause-frames
 returns-clause-frames c =
     let same : length c.grow-inode.new.self.cache.locked ≡ length c.args.self.now.cache.locked = ap (λ (s : Contents). length s.locked) c.grow-inode.ensures.cache in
-    let more = c.put_blocks.ensures.frames in
-    omega arith
+    put_frames c.args.self.now c.put_blocks.new.self c.args.off (length c.args.bytes.now) (subst (λ n.
+    (length c.put_blocks.new.self.cache.locked ≤ n + blocks_of_put c.args.off (length c.args.bytes.now))
+    ⊎ ((6144 < c.args.off + length c.args.bytes.now) × (length c.put_blocks.new.self.cache.locked ≤ n + blocks_of_put c.args.off (length c.args.bytes.now) + 1))) same
+    c.put_blocks.ensures.frames)
+
+pub returns-clause-waiting : goal.returns-clause-waiting
+returns-clause-waiting c =
+    let v = c.in-Some.inode in
+    one_record c.args.self.now c.put_blocks.new.self v.number
+    (subst (λ n. without n c.put_blocks.new.self.waiting.items ≡ without n c.grow-inode.new.self.waiting.items) c.grow-inode.ensures.number c.put_blocks.ensures.waiting
+    ∙ c.grow-inode.ensures.room)

@@ -4,7 +4,8 @@ use Rattle.lfs_inodes.specs.Attributes.{Attributes}
 use Rattle.lfs_inodes.specs.Reading.{fields_of}
 use Rattle.lfs_landing.specs.Waiting.{without}
 use Rattle.lfs_landing.proofs.FileLemmas.{given_record}
-use Rattle.lfs_landing.proofs.GrowthLemmas.{attrs_changed, attrs_shown}
+use Rattle.lfs_landing.proofs.GrowthLemmas.{attrs_changed, attrs_shown, one_record}
+use Rattle.lfs_landing.proofs.KeptLemmas.{record_room}
 use Rattle.lfs_landing.proofs.parts.Parts.set_attrs.Goals as goal
 
 pub with_attrs-changed-requires : goal.with_attrs-changed-requires
@@ -47,3 +48,8 @@ returns-clause-kept c =
     (attrs_changed c.args.self.now c.stage_record.new.self c.in-Some.inode c.with_attrs-changed.result c.args.ino c.args.attrs.now c.requires.may
     (given_record c.args.self.now c.args.ino c.record.result c.in-Some.inode c.record.ensures c.in-Some.is) c.stage_record.ensures
     c.with_attrs-changed.ensures.attributes c.with_attrs-changed.ensures.addresses).kept
+
+pub returns-clause-waiting : goal.returns-clause-waiting
+returns-clause-waiting c =
+    one_record c.args.self.now c.stage_record.new.self c.with_attrs-changed.result.number
+    (record_room c.args.self.now c.stage_record.new.self c.with_attrs-changed.result c.stage_record.ensures)

@@ -19,4 +19,4 @@ returns-clause-again c =
 pub returns-clause-kept : goal.returns-clause-kept
 returns-clause-kept c =
     data_kept c.args.self.now c.stage_parents.new.self c.stage_block.new.self c.args.inode.now c.args.index c.args.bytes.now c.requires.block
-    c.stage_parents.ensures c.stage_block.ensures (returns-clause-again c)
+    c.requires.within c.requires.may c.stage_parents.ensures c.stage_block.ensures (returns-clause-again c)

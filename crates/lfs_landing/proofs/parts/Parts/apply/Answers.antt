@@ -1,0 +1,68 @@
+use Rattle.std.proofs.Common.{◌≡◌, List, [], length, refl, sym, ap, subst, arith}
+use Rattle.lfs_inodes.specs.declared.inode.Inode.{Inode}
+use Rattle.lfs_segments.specs.Log.{Expects}
+use Rattle.lfs_segments.specs.Memory.{SegmentMemory, room_of}
+use Rattle.lfs_landing.proofs.AheadLemmas.{makes_changes, opened_or, room_settled, staged_fits}
+use Rattle.lfs_landing.proofs.BoundLemmas.{all_in_reach, frames_most, needs_most, records_most}
+use Rattle.lfs_landing.proofs.KeptLemmas.{settled_staged}
+use Rattle.lfs_landing.proofs.parts.Parts.apply.Goals as goal
+
+pub needs-requires-clause-reach : goal.needs-requires-clause-reach
+needs-requires-clause-reach c = all_in_reach _ c.args.changes.now _ c.requires.can.few_bytes c.requires.can.each
+
+pub needs-requires-clause-frames : goal.needs-requires-clause-frames
+needs-requires-clause-frames c = frames_most _ c.args.changes.now _ c.requires.can
+
+pub needs-requires-clause-records : goal.needs-requires-clause-records
+needs-requires-clause-records c = let most = records_most c.args.changes.now in omega (arith, c.requires.can.few)
+
+pub make_room-requires-clause-at_most : goal.make_room-requires-clause-at_most
+make_room-requires-clause-at_most c =
+    let frames = frames_most _ c.args.changes.now _ c.requires.can in
+    let records = records_most c.args.changes.now in
+    let most = needs_most c.args.changes.now frames (omega (arith, c.requires.can.few)) in
+    omega (arith, c.needs.ensures)
+
+pub change_all-requires-clause-staged : goal.change_all-requires-clause-staged
+change_all-requires-clause-staged c =
+    let kept = c.in_ok-make_room.ensures.files in
+    settled_staged c.make_room.new.self c.in_ok-make_room.ensures.store (room_settled c.args.self.now c.make_room.new.self kept c.requires.settled)
+
+pub change_all-requires-clause-reach : goal.change_all-requires-clause-reach
+change_all-requires-clause-reach c = all_in_reach _ c.args.changes.now _ c.requires.can.few_bytes c.requires.can.each
+
+pub change_all-requires-clause-frames : goal.change_all-requires-clause-frames
+change_all-requires-clause-frames c =
+    let settled = room_settled c.args.self.now c.make_room.new.self c.in_ok-make_room.ensures.files c.requires.settled in
+    let none : length c.make_room.new.self.cache.locked ≡ 0 = rw settled.no_frame refl in
+    let most = frames_most _ c.args.changes.now _ c.requires.can in
+    omega arith
+
+pub change_all-requires-clause-records : goal.change_all-requires-clause-records
+change_all-requires-clause-records c =
+    let settled = room_settled c.args.self.now c.make_room.new.self c.in_ok-make_room.ensures.files c.requires.settled in
+    let none : length c.make_room.new.self.waiting.items ≡ 0 = ap (λ (vs : List Inode). length vs) settled.no_record in
+    let most = records_most c.args.changes.now in
+    omega (arith, c.requires.can.few)
+
+pub flush-requires-clause-room : goal.flush-requires-clause-room
+flush-requires-clause-room c =
+    let settled = room_settled c.args.self.now c.make_room.new.self c.in_ok-make_room.ensures.files c.requires.settled in
+    let no_frame : length c.make_room.new.self.cache.locked ≡ 0 = rw settled.no_frame refl in
+    let no_record : length c.make_room.new.self.waiting.items ≡ 0 = ap (λ (vs : List Inode). length vs) settled.no_record in
+    let frames = c.change_all.ensures.frames_more in
+    let records = c.change_all.ensures.records_more in
+    let fits = staged_fits c.change_all.new.self c.args.changes.now (omega arith) (omega arith) in
+    let same : room_of c.change_all.new.self.log.memory ≡ room_of c.make_room.new.self.log.memory
+    = ap (λ (m : SegmentMemory). room_of m) c.change_all.ensures.log.memory in
+    omega (arith, c.needs.ensures, c.in_ok-make_room.ensures.room)
+
+pub flush-requires-clause-ready : goal.flush-requires-clause-ready
+flush-requires-clause-ready c =
+    subst (λ (m : SegmentMemory). Expects m []) (sym c.change_all.ensures.log.memory) c.in_ok-make_room.ensures.store.ready
+
+pub returns-clause-made : goal.returns-clause-made
+returns-clause-made c =
+    let e = c.in_ok-make_room.ensures in
+    makes_changes c.args.changes.now c.reserve_of-reserve.result c.args.self.now c.make_room.new.self c.change_all.new.self c.flush.new.self e.files
+    (opened_or c.args.self.now c.make_room.new.self c.needs.result c.reserve_of-reserve.result e.enough e.opened) c.change_all.ensures c.flush.ensures c.reserve_of-reserve.ensures

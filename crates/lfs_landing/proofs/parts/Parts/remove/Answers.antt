@@ -1,0 +1,9 @@
+use Rattle.std.proofs.Common.{◌∙◌}
+use Rattle.lfs_landing.specs.Files.{content_of}
+use Rattle.lfs_landing.proofs.TakingLemmas.{removed_content}
+use Rattle.lfs_landing.proofs.parts.Parts.remove.Goals as goal
+
+pub returns-clause-content : goal.returns-clause-content
+returns-clause-content c =
+    c.give_back.ensures.content
+    ∙ removed_content c.args.ino (content_of c.args.self.now) (content_of c.set_length.new.self) c.set_length.ensures.content

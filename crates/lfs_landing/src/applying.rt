@@ -1,0 +1,229 @@
+//! Changes of a store's content: room is made for all of them, each waits, and then they are written
+//! together.
+
+ghost use Rattle.std.specs.Prelude.{◌≡◌, ◌+◌, ◌<◌, ◌≤◌, All, OnErr, OnOk, length};
+ghost use Rattle.lfs_types.specs.Changes.{CanApply, CanChange, CanChangeAll};
+ghost use Rattle.lfs_types.specs.declared.store.Change.TheVariants.{Put};
+ghost use Rattle.lfs_types.specs.declared.limits.TheConstants.{FILE_BYTES};
+ghost use Rattle.lfs_landing.specs.Applying.{IsInReach, LacksRoom, MakesChanges, StagesAll, StagesChange, frames_of_all, gives_back, needs_of, records_of_all, reserve_of};
+ghost use Rattle.lfs_landing.specs.Changing.{frames_of, frames_of_length, frames_of_put, frames_of_single, records_of};
+ghost use Rattle.lfs_landing.specs.Files.{content_of};
+ghost use Rattle.lfs_landing.specs.Staging.{IsStaged};
+ghost use Rattle.lfs_landing.specs.Store.{IsSettled, IsStore};
+ghost use Rattle.lfs_landing.specs.declared.applying.TheConstants.{APPLIED_FRAMES, APPLIED_RECORDS};
+
+use crate::collecting::inode_blocks;
+use crate::parts::Parts;
+use crate::room::NoRoom;
+use lfs_types::attrs::Attrs;
+use lfs_types::block::BLOCK_SIZE;
+use lfs_types::store::Change;
+use lfs_ways::blocks::DIRECT_BLOCKS;
+use lfs_ways::pieces::blocks_touched;
+
+/// The greatest number of frames that the changes of one call take.
+pub const APPLIED_FRAMES: usize = 15;
+
+/// The greatest number of records that they have wait: one for each change.
+pub const APPLIED_RECORDS: usize = 4;
+
+/// How many segments stay clean when a call that gives blocks back opens one.
+const LEAST_RESERVE: u32 = 1;
+
+/// How many stay clean when another call opens one.
+const RESERVE: u32 = 2;
+
+/// How many frames the single indirect block takes of a file that is changed up to before this byte:
+/// one where that lies past the direct blocks.
+fn frames_of_single(end: u64) -> usize
+    ensures { result ≡ frames_of_single end }
+{
+    let direct = u64::from(DIRECT_BLOCKS) * BLOCK_SIZE as u64;
+    if direct < end { 1 } else { 0 }
+}
+
+/// How many frames so many bytes put at byte `off` of a file take at most.
+fn frames_of_put(off: u64, count: usize) -> usize
+    requires some { 0 < count }
+    requires within { off + count ≤ FILE_BYTES }
+    ensures { result ≡ frames_of_put off count }
+{
+    let end = off + count as u64;
+    let touched = blocks_touched(off, end);
+    (touched.end - touched.start) as usize + frames_of_single(end)
+}
+
+/// How many frames a length of a file takes at most.
+fn frames_of_length(len: u64) -> usize
+    ensures { result ≡ frames_of_length len }
+{
+    let last = if len % BLOCK_SIZE as u64 == 0 { 0 } else { 1 };
+    last + frames_of_single(len)
+}
+
+/// How many frames a change takes at most.
+fn frames_of(change: &Change<'_>) -> usize
+    requires { IsInReach change.now }
+    ensures { result ≡ frames_of change.now }
+{
+    match *change {
+        Change::Make { .. } | Change::Remove { .. } | Change::SetAttrs { .. } => 0,
+        Change::Put { off, bytes, .. } => {
+            if bytes.is_empty() {
+                0
+            } else {
+                frames_of_put(off, bytes.len())
+            }
+        }
+        Change::SetLength { len, .. } => frames_of_length(len),
+    }
+}
+
+/// How many records a change has wait at most.
+fn records_of(change: &Change<'_>) -> usize
+    ensures { result ≡ records_of change.now }
+{
+    match *change {
+        Change::Remove { .. } => 0,
+        Change::Put { bytes, .. } => usize::from(!bytes.is_empty()),
+        Change::Make { .. } | Change::SetAttrs { .. } | Change::SetLength { .. } => 1,
+    }
+}
+
+/// How many frames changes take at most.
+fn frames_of_all(changes: &[Change<'_>]) -> usize
+    requires reach { All IsInReach changes.now }
+    requires few { frames_of_all changes.now ≤ APPLIED_FRAMES }
+    ensures { result ≡ frames_of_all changes.now }
+{
+    let mut frames = 0;
+    for change in changes {
+        frames += frames_of(change);
+    }
+    frames
+}
+
+/// How many records changes have wait at most.
+fn records_of_all(changes: &[Change<'_>]) -> usize
+    requires { records_of_all changes.now ≤ APPLIED_RECORDS }
+    ensures { result ≡ records_of_all changes.now }
+{
+    let mut records = 0;
+    for change in changes {
+        records += records_of(change);
+    }
+    records
+}
+
+/// How many blocks of the log changes take at most, with the summary before them: none where nothing
+/// is to be written.
+fn needs(changes: &[Change<'_>]) -> u32
+    requires reach { All IsInReach changes.now }
+    requires frames { frames_of_all changes.now ≤ APPLIED_FRAMES }
+    requires records { records_of_all changes.now ≤ APPLIED_RECORDS }
+    ensures { result ≡ needs_of changes.now }
+{
+    let blocks = frames_of_all(changes) + inode_blocks(records_of_all(changes));
+    if blocks == 0 { 0 } else { blocks as u32 + 1 }
+}
+
+impl Parts {
+    /// Whether a change gives blocks back: it removes a file, or cuts one.
+    fn gives_back(&self, change: &Change<'_>) -> bool
+        requires { IsStore self.now }
+        ensures { result ≡ gives_back (content_of self.now) change.now }
+    {
+        match *change {
+            Change::Remove { .. } => true,
+            Change::SetLength { ino, len } => match self.attrs(ino) {
+                Some(attrs) => len < attrs.size,
+                None => false,
+            },
+            Change::Make { .. } | Change::SetAttrs { .. } | Change::Put { .. } => false,
+        }
+    }
+
+    /// How many segments stay clean when these changes open one.
+    fn reserve_of(&self, changes: &[Change<'_>]) -> u32
+        requires { IsStore self.now }
+        ensures { result ≡ reserve_of (content_of self.now) changes.now }
+    {
+        for change in changes {
+            if self.gives_back(change) {
+                return LEAST_RESERVE;
+            }
+        }
+        RESERVE
+    }
+
+    /// Has bytes wait that are put into a file in use; no bytes change nothing.
+    fn put_some(&mut self, ino: u32, off: u64, bytes: &[u8])
+        requires staged { IsStaged self.old 0 }
+        requires can { CanChange (length self.old.log.tables.rows) (Put ino off bytes)
+            (content_of self.old) }
+        requires reach { IsInReach (Put ino off bytes) }
+        requires frames { length self.old.cache.locked + frames_of (Put ino off bytes)
+            ≤ APPLIED_FRAMES }
+        requires records { length self.old.waiting.items ≤ APPLIED_RECORDS }
+        ensures { StagesChange (Put ino off bytes.entry) self.old self.new }
+    {
+        if !bytes.is_empty() {
+            self.put(ino, off, bytes);
+        }
+    }
+
+    /// Has a change wait.
+    fn change(&mut self, change: &Change<'_>)
+        requires staged { IsStaged self.old 0 }
+        requires can { CanChange (length self.old.log.tables.rows) change.now
+            (content_of self.old) }
+        requires reach { IsInReach change.now }
+        requires frames { length self.old.cache.locked + frames_of change.now ≤ APPLIED_FRAMES }
+        requires records { length self.old.waiting.items ≤ APPLIED_RECORDS }
+        ensures { StagesChange change.now self.old self.new }
+    {
+        match *change {
+            Change::Make { ino, attrs } => self.make(ino, &attrs),
+            Change::Remove { ino } => self.remove(ino),
+            Change::SetAttrs { ino, attrs } => self.set_attrs(ino, &attrs),
+            Change::Put { ino, off, bytes } => self.put_some(ino, off, bytes),
+            Change::SetLength { ino, len } => self.set_length(ino, len),
+        }
+    }
+
+    /// Has changes wait, in order.
+    fn change_all(&mut self, changes: &[Change<'_>])
+        requires staged { IsStaged self.old 0 }
+        requires can { CanChangeAll (length self.old.log.tables.rows) changes.now
+            (content_of self.old) }
+        requires reach { All IsInReach changes.now }
+        requires frames { length self.old.cache.locked + frames_of_all changes.now
+            ≤ APPLIED_FRAMES }
+        requires records { length self.old.waiting.items + records_of_all changes.now
+            ≤ APPLIED_RECORDS }
+        ensures { StagesAll changes.now self.old self.new }
+    {
+        for change in changes {
+            self.change(change);
+        }
+    }
+
+    /// Makes changes, in order, and writes them: all of them, or none where there is no room.
+    pub fn apply(&mut self, changes: &[Change<'_>]) -> Result<(), NoRoom>
+        requires store { IsStore self.old }
+        requires settled { IsSettled self.old }
+        requires can { CanApply (length self.old.log.tables.rows) changes.now
+            (content_of self.old) }
+        ensures made { OnOk result (MakesChanges changes.now self.old self.new) }
+        ensures refused { OnErr result (self.new ≡ self.old) }
+        ensures lacking { OnErr result (LacksRoom changes.now self.old) }
+        // Which is never so with more than two clean segments.
+        ensures short { OnErr result (self.old.log.clean ≤ 2) }
+    {
+        let reserve = self.reserve_of(changes);
+        self.make_room(needs(changes), reserve)?;
+        self.change_all(changes);
+        self.flush();
+        Ok(())
+    }
+}
