@@ -1,0 +1,3 @@
+pub mod AccountLemmas
+pub mod AddressLemmas
+pub mod ReclaimLemmas

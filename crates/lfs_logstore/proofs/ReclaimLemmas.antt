@@ -1,0 +1,134 @@
+-- Making a dirty segment without live bytes clean keeps all else.
+use Rattle.std.proofs.Common.{◌≡◌, ℕ, ◌+◌, Some, refl, sym, ◌∙◌, subst}
+use Rattle.lfs_ifile.specs.declared.segment.SegState.TheVariants.{Clean}
+use Rattle.lfs_ifile.specs.Tables.{with_state}
+use Rattle.lfs_ways.specs.Log.{Cleans, SameKeys}
+use Rattle.lfs_ways.proofs.MoveLemmas.{present_address-same}
+use Rattle.lfs_ways.proofs.SegmentLemmas.{cleaned_log, empty_has_none}
+use Rattle.lfs_log.specs.Parts.{IsParts, LogParts, record_place}
+use Rattle.lfs_log.specs.Parts as log
+use Rattle.lfs_inodes.specs.Reading.{Fields}
+use Rattle.lfs_landing.specs.declared.parts.Parts.{Parts}
+use Rattle.lfs_landing.specs.Files.{content_of, file_at}
+use Rattle.lfs_landing.specs.Keys.{log_state}
+use Rattle.lfs_landing.specs.Store.{AreFiles, IsFile, IsSettled, IsStore}
+use Rattle.lfs_landing.specs.View.{record_of}
+use Rattle.lfs_logstore.specs.Cleaning.{HasLive, IsReclaimed}
+use Rattle.lfs_logstore.proofs.AccountLemmas.{has_key, segment_is}
+
+-- the parts with another log
+abbrev pub with_log : Parts → LogParts → Parts
+with_log p l = record p { log = l }
+
+-- the log with a segment made clean
+abbrev pub cleaned_parts : LogParts → ℕ → LogParts
+cleaned_parts l segment = record { memory = l.memory; tables = with_state l.tables segment Clean; clean = l.clean + 1 }
+
+module _ (p : Parts) (s : ℕ) (store : IsStore p) (settled : IsSettled p) (has : HasLive p s 0) where
+  -- the parts with the segment clean
+  abbrev q : Parts
+  q = with_log p (cleaned_parts p.log s)
+
+  record_same : (n : ℕ) → record_of q n ≡ record_of p n
+  unfolding record_of
+  record_same n = refl
+
+  content_same : content_of q ≡ content_of p
+  unfolding content_of file_at record_of
+  content_same = refl
+
+  place_same : (n c : ℕ) → (log_state q).at n c ≡ (log_state p).at n c
+  unfolding record_of record_place
+  place_same n c = refl
+
+  keys_same : SameKeys (log_state p) (log_state q)
+  keys_same = record { numbers = refl; segments = refl; places = λ n c low below. place_same n c; versions = λ n low. refl }
+
+  file_same : (n : ℕ) (f : Fields) → record_of q n ≡ Some f → IsFile q n f
+  unfolding record_of
+  file_same n f is =
+      let file = store.whole.files n f is in
+      record {
+        formed = file.formed;
+        own_number = file.own_number;
+        own_version = file.own_version;
+        none_past = file.none_past;
+        padded = file.padded;
+      }
+
+  files_same : IsParts (cleaned_parts p.log s) → AreFiles q
+  unfolding record_of
+  files_same parts = record {
+    parts = parts;
+    cache = store.whole.cache;
+    readable = record { none_clean = store.whole.readable.none_clean };
+    reserved = store.whole.reserved;
+    recorded = store.whole.recorded;
+    files = file_same;
+    records = λ k d low. let there = store.whole.records k d low in record { in_use = there.in_use; at_version = there.at_version };
+    frames = λ key locked. let there = store.whole.frames key locked in record { in_use = there.in_use; at_version = there.at_version };
+    room = store.whole.room;
+    coded = store.whole.coded;
+  }
+
+  cleans : ((at : ℕ → ℕ → ℕ) → Cleans (log.log_state p.log at) (log.log_state (cleaned_parts p.log s) at) s) → Cleans (log_state p) (log_state q) s
+  cleans step =
+      let c = step (log_state p).at in
+      record {
+        keys = keys_same;
+        end = record { active = refl; next = refl };
+        inside = c.inside;
+        was_dirty = c.was_dirty;
+        empty = c.empty;
+        is_clean = c.is_clean;
+        states = c.states;
+        clean = c.clean;
+        live = c.live;
+        owners = c.owners;
+      }
+
+  empty : (log_state p).live s ≡ 0
+  empty = store.log.counted s has.inside ∙ sym has.bytes
+
+  is_reclaimed : IsReclaimed p s q
+  is_reclaimed = record {
+    inside = has.inside;
+    was_dirty = has.dirty;
+    empty = sym has.bytes;
+    none_there = λ number version code some here.
+        let key = has_key (log_state p) number version code some in
+        empty_has_none (log_state p) 0 s store.log has.inside empty number code key.there (sym (segment_is (log_state p) number version code key) ∙ here);
+    tables = refl;
+    clean = refl;
+    memory = refl;
+    cache = refl;
+    waiting = refl;
+    content = content_same;
+    addresses = present_address-same (log_state p) (log_state q) keys_same;
+  }
+
+  is_store : IsParts (cleaned_parts p.log s) → ((at : ℕ → ℕ → ℕ) → Cleans (log.log_state p.log at) (log.log_state (cleaned_parts p.log s) at) s) → IsStore q
+  is_store parts step = record { whole = files_same parts; log = cleaned_log (log_state p) (log_state q) 0 s store.log (cleans step); ready = store.ready }
+
+  is_settled : IsSettled q
+  is_settled = record { no_record = settled.no_record; no_frame = settled.no_frame }
+
+-- a log with these fields
+log_is : (l k : LogParts) → l.memory ≡ k.memory → l.tables ≡ k.tables → l.clean ≡ k.clean → l ≡ k
+log_is l k memory tables clean = λ i. record { memory = memory i; tables = tables i; clean = clean i }
+
+-- What making a segment clean left: the store, settled, and what was reclaimed.
+pub record Cleaned (p : Parts) (s : ℕ) (q : Parts) : Type 0 where
+  pub store : IsStore q
+  pub settled : IsSettled q
+  pub reclaimed : IsReclaimed p s q
+
+pub cleaned : (p : Parts) (l : LogParts) (s : ℕ) → IsStore p → IsSettled p → HasLive p s 0 → l.tables ≡ with_state p.log.tables s Clean → l.memory ≡ p.log.memory
+    → l.clean ≡ p.log.clean + 1 → ((at : ℕ → ℕ → ℕ) → Cleans (log.log_state p.log at) (log.log_state l at) s) → IsParts l → Cleaned p s (with_log p l)
+cleaned p l s store settled has tables memory clean step parts =
+    let is : l ≡ cleaned_parts p.log s = log_is l (cleaned_parts p.log s) memory tables clean in
+    subst (λ m. Cleaned p s (with_log p m)) (sym is) (record {
+      store = is_store p s store settled has (subst IsParts is parts) (λ at. subst (λ m. Cleans (log.log_state p.log at) (log.log_state m at) s) is (step at));
+      settled = is_settled p s store settled has;
+      reclaimed = is_reclaimed p s store settled has;
+    })

@@ -1,0 +1,3 @@
+pub mod Cleaning
+pub mod Marking
+pub mod States

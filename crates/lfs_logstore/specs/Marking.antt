@@ -1,0 +1,13 @@
+-- Blocks written again at the end of the log.
+use Rattle.std.specs.Prelude.{◌≡◌, ℕ, ◌≤◌, List, Result, IfOk, OnErr}
+use Rattle.lfs_types.specs.declared.cleaner.BlockInfo.{BlockInfo}
+use Rattle.lfs_types.specs.declared.cleaner.CleanFault.{CleanFault}
+use Rattle.lfs_landing.specs.declared.parts.Parts.{Parts}
+use Rattle.lfs_landing.specs.Marking.{MarksAgain}
+
+-- Blocks may be written again with this result, from one state of the store to another: all that are named with their
+-- present address, which are counted; none where there is no room, which comes with at most one clean segment.
+pub record WritesAgain (old : Parts) (marks : List BlockInfo) (result : Result ℕ CleanFault) (new : Parts) : Type 0 where
+  pub marked : IfOk result (λ count. MarksAgain marks count old new)
+  pub refused : OnErr result (new ≡ old)
+  pub short : OnErr result (old.log.clean ≤ 1)

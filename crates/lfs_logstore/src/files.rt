@@ -1,0 +1,62 @@
+//! The store's files.
+
+ghost use Rattle.std.specs.Prelude.{◌≡◌, [], length, IsSome, OnErr, OnOk};
+ghost use Rattle.std.specs.FinMap.{get};
+ghost use Rattle.lfs_types.specs.Changes.{CanApply};
+ghost use Rattle.lfs_types.specs.StoreStates.{Applies};
+ghost use Rattle.lfs_types.specs.Stored.{Reads, bytes_of, slice_of};
+ghost use Rattle.lfs_landing.specs.Applying.{LacksRoom, MakesChanges};
+ghost use Rattle.lfs_logstore.specs.States.{state_of};
+
+use crate::store::LogStore;
+use lfs_types::attrs::Attrs;
+use lfs_types::store::{Change, FileStore, StoreRefusal};
+
+impl FileStore for LogStore {
+    ghost use Rattle.lfs_logstore.specs.States.{state_of};
+
+    ghost state = { state_of };
+
+    fn attrs(&self, ino: u32) -> Option<Attrs> {
+        self.parts.attrs(ino)
+    }
+
+    fn read(&mut self, ino: u32, off: u64, into: &mut [u8]) -> usize
+        requires { IsSome (get (state_of self.old).content ino) }
+        ensures reads { Reads (slice_of (bytes_of (state_of self.old).content ino) off (length into.old))
+            result into.old into.new }
+        ensures state { state_of self.new ≡ state_of self.old }
+        // Nothing of the log moves.
+        ensures same { self.new ≡ self.old }
+    {
+        self.parts.read(ino, off, into)
+    }
+
+    fn least_free(&self) -> Option<u32> {
+        self.parts.least_free()
+    }
+
+    fn clean_segments(&self) -> u32 {
+        self.parts.log.clean()
+    }
+
+    /// Makes changes and writes them; nothing is left waiting.
+    fn apply(&mut self, changes: &[Change<'_>]) -> Result<(), StoreRefusal>
+        requires { CanApply (state_of self.old).shape.numbers changes.now (state_of self.old).content }
+        ensures applies { Applies (state_of self.old) changes.now result (state_of self.new) }
+        ensures made { OnOk result (MakesChanges changes.now self.old self.new) }
+        ensures refused { OnErr result (self.new ≡ self.old) }
+        // There is no room, as the log stands.
+        ensures lacking { OnErr result (LacksRoom changes.now self.old) }
+    {
+        self.parts.apply(changes).map_err(|_| StoreRefusal::NoSpace)
+    }
+
+    /// Nothing waits between calls.
+    fn sync(&mut self) -> Result<(), StoreRefusal>
+        ensures applies { Applies (state_of self.old) [] result (state_of self.new) }
+        ensures same { self.new ≡ self.old }
+    {
+        Ok(())
+    }
+}
