@@ -45,7 +45,7 @@ end_within old off (b ∷ bs) h =
     let all = simp (length-append, length-take, length-replicate) at h in
     omega arith
 
-end_of_file : (o : Option File) (off : ℕ) (bytes : List ℕ) → IsSomeAnd o (λ f. IsLength f.kind (length (splice f.bytes off bytes))) → end_of off bytes ≤ 71680
+pub end_of_file : (o : Option File) (off : ℕ) (bytes : List ℕ) → IsSomeAnd o (λ f. IsLength f.kind (length (splice f.bytes off bytes))) → end_of off bytes ≤ 71680
 end_of_file None off bytes h = absurd h
 end_of_file (Some f) off bytes h = end_within f.bytes off bytes (length_limit f.kind _ h)
 

@@ -1,9 +1,9 @@
 -- The plain store: a list of places, one for each inode number, seen as a finite map.
-use Rattle.std.specs.Prelude.{ℕ, true, zero, suc, ◌+◌, ◌<◌, ◌≤◌, List, [], ◌∷◌, length, Option, None, Some, option_map}
+use Rattle.std.specs.Prelude.{ℕ, true, zero, suc, ◌+◌, ◌<◌, ◌≤◌, List, [], ◌∷◌, length, Option, None, Some, IsSome, option_map}
 use Rattle.std.specs.FinMap as map
 use Rattle.lfs_types.specs.Tree.{File, Content, file_of, opening_content}
 use Rattle.lfs_types.specs.StoreStates.{Shape, StoreState}
-use Rattle.lfs_types.specs.declared.limits.TheConstants.{MOST_SEGMENTS}
+use Rattle.lfs_types.specs.declared.limits.TheConstants.{FILE_BYTES, MOST_SEGMENTS}
 use Rattle.lfs_types.specs.Splicing.{splice, resized}
 use Rattle.lfs_types.specs.declared.attrs.Attrs.{Attrs}
 use Rattle.lfs_types.specs.declared.store.Change.{Change}
@@ -84,6 +84,18 @@ HasRoom ps (Remove ino) = Unit {0}
 HasRoom ps (SetAttrs ino attrs) = Unit {0}
 HasRoom ps (Put ino off bytes) = end_of off bytes.now ≤ room_in ps ino
 HasRoom ps (SetLength ino len) = len ≤ room_in ps ino
+
+-- a number among so many has a file
+pub record HasFile (numbers : ℕ) (ps : List Place) (ino : ℕ) : Type 0 where
+  pub within : ino < numbers
+  pub used : IsSome (file_in ps ino)
+
+-- a number among so many has a file that may have so many bytes, and there is room for them
+pub record CanHold (numbers : ℕ) (ps : List Place) (ino : ℕ) (count : ℕ) : Type 0 where
+  pub within : ino < numbers
+  pub used : IsSome (file_in ps ino)
+  pub reach : count ≤ FILE_BYTES
+  pub room : count ≤ room_in ps ino
 
 -- no place loses room
 abbrev pub Grows : List Place → List Place → Type 0

@@ -5,8 +5,7 @@ ghost use Rattle.std.specs.FinMap as map;
 ghost use Rattle.std.specs.Vec.{vec_len};
 ghost use Rattle.lfs_types.specs.Changes.{CanChange, CanChangeAll, changed, changed_at, applied};
 ghost use Rattle.lfs_types.specs.Tree.{attrs_of, fresh_root, file_of};
-ghost use Rattle.lfs_types.specs.declared.limits.TheConstants.{FILE_BYTES};
-ghost use Rattle.lfs_flatfiles.specs.FlatFiles.{content_of, file_in, room_in, end_of, with_attrs, with_bytes, with_length, opening_state, IsInReach, HasRoom, Grows};
+ghost use Rattle.lfs_flatfiles.specs.FlatFiles.{content_of, file_in, room_in, end_of, with_attrs, with_bytes, with_length, opening_state, IsInReach, HasRoom, Grows, CanHold, HasFile};
 
 mod place;
 #[cfg(test)]
@@ -154,8 +153,7 @@ impl FlatFiles {
 
     /// Takes away the file of a number, which becomes free.
     fn remove(&mut self, ino: usize)
-        requires within { ino < vec_len self.old.places }
-        requires used { IsSome (file_in self.old.places.items ino) }
+        requires { HasFile (vec_len self.old.places) self.old.places.items ino }
         ensures content { content_of self.new.places.items
             ≡ map.remove (content_of self.old.places.items) ino }
         ensures numbers { vec_len self.new.places ≡ vec_len self.old.places }
@@ -169,10 +167,7 @@ impl FlatFiles {
 
     /// Gives the file of a number so many bytes, for which there is room.
     fn set_length(&mut self, ino: usize, len: usize)
-        requires within { ino < vec_len self.old.places }
-        requires used { IsSome (file_in self.old.places.items ino) }
-        requires reach { len ≤ FILE_BYTES }
-        requires room { len ≤ room_in self.old.places.items ino }
+        requires { CanHold (vec_len self.old.places) self.old.places.items ino len }
         ensures content { let old = content_of self.old.places.items in
             content_of self.new.places.items ≡ changed_at (map.get old ino) ino (with_length len) old }
         ensures numbers { vec_len self.new.places ≡ vec_len self.old.places }
@@ -183,8 +178,7 @@ impl FlatFiles {
 
     /// Gives the file of a number these attributes.
     fn set_attrs(&mut self, ino: usize, attrs: Attrs)
-        requires within { ino < vec_len self.old.places }
-        requires used { IsSome (file_in self.old.places.items ino) }
+        requires { HasFile (vec_len self.old.places) self.old.places.items ino }
         ensures content { let old = content_of self.old.places.items in
             content_of self.new.places.items ≡ changed_at (map.get old ino) ino (with_attrs attrs) old }
         ensures numbers { vec_len self.new.places ≡ vec_len self.old.places }
@@ -195,10 +189,7 @@ impl FlatFiles {
 
     /// Puts bytes into the file of a number, where there is room for them.
     fn put(&mut self, ino: usize, off: u64, bytes: &[u8])
-        requires within { ino < vec_len self.old.places }
-        requires used { IsSome (file_in self.old.places.items ino) }
-        requires reach { end_of off bytes.now ≤ FILE_BYTES }
-        requires room { end_of off bytes.now ≤ room_in self.old.places.items ino }
+        requires { CanHold (vec_len self.old.places) self.old.places.items ino (end_of off bytes.now) }
         ensures content { let old = content_of self.old.places.items in
             content_of self.new.places.items ≡ changed_at (map.get old ino) ino (with_bytes off bytes.now) old }
         ensures numbers { vec_len self.new.places ≡ vec_len self.old.places }
