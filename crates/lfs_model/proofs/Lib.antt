@@ -1,5 +1,6 @@
 mod EqualityLemmas
 pub mod Allowed
+pub mod AnswerLemmas
 pub mod BetweenLemmas
 pub mod BroughtLemmas
 pub mod ByteOrder

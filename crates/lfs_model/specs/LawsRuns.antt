@@ -7,7 +7,7 @@ use Rattle.lfs_types.specs.declared.request.Request.{Request}
 use Rattle.lfs_model.specs.declared.journal.Entry.{Entry}
 use Rattle.lfs_model.specs.declared.journal.Event.{Event}
 use Rattle.lfs_model.specs.declared.journal.Event.TheVariants.{User, Cleaner}
-use Rattle.lfs_model.specs.Runs.{users_alone}
+use Rattle.lfs_model.specs.Runs.{calls_of, users_alone}
 use Rattle.lfs_model.specs.Steps.{IsLegal, after_event, world_after}
 
 -- an event is a user's call of a kind, and was served
@@ -31,3 +31,13 @@ UsersAlone =
     → IsLegal numbers segments entries w
     → IsLegal numbers segments (users_alone entries) w
     × (world_after numbers (users_alone entries) w ≡ world_after numbers entries w)
+
+-- two lists of entries that are legal from one world, and whose users' entries alone make the same calls, have the same
+-- answers to them and lead to the same world
+abbrev pub SameAnswers : Type 0
+SameAnswers =
+    (numbers segments : ℕ) (es fs : List Entry) (w : World)
+    → IsLegal numbers segments es w
+    → IsLegal numbers segments fs w
+    → calls_of (users_alone es) ≡ calls_of (users_alone fs)
+    → (users_alone es ≡ users_alone fs) × (world_after numbers es w ≡ world_after numbers fs w)

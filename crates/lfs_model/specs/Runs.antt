@@ -1,23 +1,64 @@
 -- What calls and runs of calls leave of the journal.
-use Rattle.std.specs.Prelude.{◌≡◌, ℕ, ◌+◌, ◌≤◌, List, [], ◌∷◌, ◌++◌, Option, None, Some}
+use Rattle.std.specs.Prelude.{◌≡◌, ℕ, ◌+◌, ◌≤◌, List, [], ◌∷◌, ◌++◌, length, Option, None, Some, option_map}
 use Rattle.lfs_types.specs.Caller.{Caller}
 use Rattle.lfs_types.specs.declared.answer.Answer.{Answer}
 use Rattle.lfs_types.specs.declared.answer.Answer.TheVariants.{Served, Denied, Refused}
 use Rattle.lfs_types.specs.declared.answer.Resource.TheVariants.{NoMemory, NoSpace, JournalFull}
+use Rattle.lfs_types.specs.declared.cleaner.CleanerCall.{CleanerCall}
+use Rattle.lfs_types.specs.declared.cleaner.CleanerCall.TheVariants as calls
 use Rattle.lfs_types.specs.declared.request.Request.{Request}
 use Rattle.lfs_types.specs.declared.request.Request.TheVariants.{Sync}
 use Rattle.lfs_model.specs.declared.journal.Call.{Call}
 use Rattle.lfs_model.specs.declared.journal.Entry.{Entry}
-use Rattle.lfs_model.specs.declared.journal.CleanerKind.TheVariants.{Segclean}
+use Rattle.lfs_model.specs.declared.journal.CleanerAnswer.{CleanerAnswer}
+use Rattle.lfs_model.specs.declared.journal.CleanerAnswer.TheVariants as cleaner
+use Rattle.lfs_model.specs.declared.journal.CleanerKind.{CleanerKind}
+use Rattle.lfs_model.specs.declared.journal.CleanerKind.TheVariants.{Ifile, Infos, Bmapv, Markv, Segclean}
+use Rattle.lfs_model.specs.declared.journal.CleanerOutcome.{CleanerOutcome}
 use Rattle.lfs_model.specs.declared.journal.CleanerOutcome.TheVariants as outcomes
 use Rattle.lfs_model.specs.declared.journal.Event.{Event}
 use Rattle.lfs_model.specs.declared.journal.Event.TheVariants.{User, Cleaner}
+use Rattle.lfs_model.specs.declared.steps.Act.{Act}
+use Rattle.lfs_model.specs.declared.steps.Act.TheVariants as acts
+use Rattle.lfs_model.specs.declared.steps.Step.{Step}
+use Rattle.lfs_model.specs.declared.steps.StepAnswer.{StepAnswer}
+use Rattle.lfs_model.specs.declared.steps.StepAnswer.TheVariants as answers
 
 -- the event of a user's call that was answered so: none where memory or the journal's room ran out
 abbrev pub user_event : Request → Answer → Option Event
 user_event request (Refused NoMemory) = None
 user_event request (Refused JournalFull) = None
 user_event request answer = Some (User request answer)
+
+-- which call of the cleaner it is
+abbrev pub kind_of : CleanerCall → CleanerKind
+kind_of calls.Ifile = Ifile
+kind_of (calls.Infos segment) = Infos
+kind_of (calls.Bmapv infos) = Bmapv
+kind_of (calls.Markv marks) = Markv
+kind_of (calls.Segclean segment) = Segclean
+
+-- what the journal tells of a cleaner's answer: nothing where memory or the journal's room ran out
+abbrev pub outcome_of : CleanerAnswer → Option CleanerOutcome
+outcome_of (cleaner.Refused resource) = None
+outcome_of (cleaner.Denied denial) = Some outcomes.Denied
+outcome_of (cleaner.Fault fault) = Some (outcomes.Fault fault)
+outcome_of (cleaner.Ifile bytes) = Some (outcomes.Done (length bytes))
+outcome_of (cleaner.Infos infos) = Some (outcomes.Done (length infos))
+outcome_of (cleaner.Bmapv infos) = Some (outcomes.Done (length infos))
+outcome_of (cleaner.Marked count) = Some (outcomes.Done count)
+outcome_of cleaner.Cleaned = Some (outcomes.Done 0)
+
+-- the event of a cleaner's call that was answered so
+abbrev pub cleaner_event : CleanerCall → CleanerAnswer → Option Event
+cleaner_event call answer = option_map (Cleaner (kind_of call)) (outcome_of answer)
+
+-- the event of a step that was answered so: none where the answer is one to a call of another sort
+abbrev pub step_event : Act → StepAnswer → Option Event
+step_event (acts.User request) (answers.User answer) = user_event request answer
+step_event (acts.User request) (answers.Cleaner answer) = None
+step_event (acts.Cleaner call) (answers.User answer) = None
+step_event (acts.Cleaner call) (answers.Cleaner answer) = cleaner_event call answer
 
 -- the entry of an event of a session, if there is one
 abbrev pub entry_of : ℕ → Caller → Option Event → List Entry
@@ -33,6 +74,20 @@ abbrev pub kept : List Call → List Answer → List Entry
 kept [] answers = []
 kept (call ∷ calls) [] = []
 kept (call ∷ calls) (answer ∷ answers) = kept_entry call.session call.cred call.request answer ++ kept calls answers
+
+-- the entry of a cleaner's call that was answered so
+abbrev pub kept_cleaning : ℕ → Caller → CleanerCall → CleanerAnswer → List Entry
+kept_cleaning session caller call answer = entry_of session caller (cleaner_event call answer)
+
+-- the entry of a step that was answered so
+abbrev pub kept_step : Step → StepAnswer → List Entry
+kept_step step answer = entry_of step.session step.cred (step_event step.act answer)
+
+-- the entries of steps with their answers, in order
+abbrev pub kept_steps : List Step → List StepAnswer → List Entry
+kept_steps [] answers = []
+kept_steps (step ∷ steps) [] = []
+kept_steps (step ∷ steps) (answer ∷ answers) = kept_step step answer ++ kept_steps steps answers
 
 -- a call wasn't served
 abbrev pub IsUnserved : Answer → Type 0
@@ -53,6 +108,16 @@ users_event (Cleaner kind outcome) = None
 abbrev pub users_alone : List Entry → List Entry
 users_alone [] = []
 users_alone (entry ∷ entries) = entry_of entry.session entry.cred (users_event entry.event) ++ users_alone entries
+
+-- the user's call of an event of a session, if it is one
+abbrev pub call_of : ℕ → Caller → Event → List Call
+call_of session caller (User request answer) = record { session = session; cred = caller; request = request } ∷ []
+call_of session caller (Cleaner kind outcome) = []
+
+-- the users' calls of entries, in order
+abbrev pub calls_of : List Entry → List Call
+calls_of [] = []
+calls_of (entry ∷ entries) = call_of entry.session entry.cred entry.event ++ calls_of entries
 
 -- ---- clean segments
 

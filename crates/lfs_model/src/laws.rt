@@ -22,7 +22,7 @@ ghost use Rattle.lfs_model.specs.LawUnread.{NobodyReads};
 ghost use Rattle.lfs_model.specs.LawView.{View};
 ghost use Rattle.lfs_model.specs.LawsBytes.{LastWritten};
 ghost use Rattle.lfs_model.specs.LawsFlags.{ImmutableStays, AppendOnlyGrows, SystemImmutableStays, SystemAppendOnlyGrows};
-ghost use Rattle.lfs_model.specs.LawsRuns.{UsersAlone};
+ghost use Rattle.lfs_model.specs.LawsRuns.{SameAnswers, UsersAlone};
 ghost use Rattle.lfs_model.specs.Rights.{EachCall};
 
 /// A file or a directory is gone only by the Unlink of a file or the Rmdir of an empty directory, at the call's path, of
@@ -148,6 +148,13 @@ pub fn changed_between()
 /// calls that leads to the same tree: neither the cleaner nor a refusal makes a difference to any answer.
 pub fn users_alone()
     ensures { UsersAlone }
+{}
+
+/// Leaving out the cleaner's calls changes no answer. Two legal lists of entries from one tree whose users' entries alone
+/// make the same calls, by the same sessions and credentials and in the same order, have the same answers to them and lead
+/// to the same tree, whatever the cleaner did in between.
+pub fn same_answers()
+    ensures { SameAnswers }
 {}
 
 /// Whoever isn't granted to read a file learns nothing of its bytes but how many they are: with other bytes in it, each
