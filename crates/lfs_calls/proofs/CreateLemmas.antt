@@ -1,6 +1,5 @@
 -- The tree and the store after a new name was put into a directory.
 use Rattle.std.proofs.Common.{◌≡◌, ◌≢◌, ℕ, ◌+◌, ◌*◌, ◌%◌, ◌<◌, ◌≤◌, List, [], ◌∷◌, length, None, Some, refl, sym, ap, subst, ◌∙◌, arith}
-use Rattle.std.specs.Prelude.{IsSomeAnd}
 use Rattle.std.specs.FinMap as map
 use Rattle.lfs_types.specs.Caller.{Caller}
 use Rattle.lfs_types.specs.Changes.{IsLength}
@@ -20,11 +19,11 @@ use Rattle.lfs_model.specs.World.{children, IsTree, file_at}
 use Rattle.lfs_model.specs.Rules.{front, last, reached}
 use Rattle.lfs_model.specs.Effects.{new_file, with_new, least_unused}
 use Rattle.lfs_calls.specs.Content.{Shows, IsListing, FitsNowhere, block_at, listed}
-use Rattle.lfs_calls.specs.Makes.{EntersFirst, IsParent, IsRoom, ListsFirst, MakesFile}
+use Rattle.lfs_calls.specs.Makes.{CanEnter, EntersFirst, IsBlockOf, IsParent, IsRoom, ListsFirst, MakesFile}
 use Rattle.lfs_model.specs.Steps.{AllUsed}
 use Rattle.lfs_model.proofs.Children.{child-new, child-new_other}
 use Rattle.lfs_calls.proofs.Crowded.{crowded}
-use Rattle.lfs_calls.proofs.Directories.{dir_file, file_kind, file_length, file_bytes, bytes_listing}
+use Rattle.lfs_calls.proofs.Directories.{dir_file, dir_stored, file_kind, file_length, file_bytes, size_bounded, bytes_listing}
 use Rattle.lfs_model.proofs.Grown.{IsTree-grown}
 use Rattle.lfs_calls.proofs.GrownStore.{Shows-grown}
 use Rattle.lfs_calls.proofs.Listings.{IsListing-added}
@@ -51,6 +50,17 @@ module _ {c : Content} {w : World} (shows : Shows c w) {path : List (List ℕ)} 
   -- the directory doesn't list the name
   pub dir_free : number_in (last path) (listed (bytes_of c dir.number)) ≡ None
   dir_free = child_listed c w shows dir.number dir.attrs is.shown is.directory (last path) ∙ is.free
+
+  -- the name may get an entry
+  pub can_enter : (number : ℕ) → 0 < number → (name : List ℕ) → name ≡ last path → CanEnter c dir.number dir.attrs.size None name number
+  can_enter number above name same = record {
+    stored = dir_stored shows dir.number dir.attrs is.shown is.directory;
+    bounded = size_bounded shows dir.number dir.attrs is.shown is.directory;
+    stands = tt;
+    blocks = (bytes_listing shows dir.number dir.attrs is.shown is.directory).blocks;
+    above = above;
+    free = ap (λ n. number_in n (listed (bytes_of c dir.number))) same ∙ dir_free;
+  }
 
   -- a new row of an unused number
   module _ (caller : Caller) (tree : IsTree w.rows) (numbers number : ℕ) (least : IsLeastFree numbers c (Some number)) (kind : Kind) (mode : ℕ) where
@@ -168,7 +178,13 @@ module _ {c : Content} {w : World} (shows : Shows c w) {path : List (List ℕ)} 
         subst (λ m. ListsFirst (bytes_of c m) (bytes_of after m) (last path)) (sym is.object) (number, room, k, (fits, bytes))
 
     -- the directory is ready for a block to be written
-    pub room_ready : IsSomeAnd (map.get c dir.number) (λ f. (f.kind ≡ Directory) × (length f.bytes % 512 ≡ 0) × (length f.bytes ≤ 71680) × (room.off ≤ length f.bytes))
+    pub room_ready : IsBlockOf c dir.number room
     room_ready =
         let at_file = subst (λ bs. IsRoom bs number (last path) room k) dir_bytes fits in
-        is_some_and _ f.stored (dir_kind, dir_length.1, dir_length.0, omega (arith, at_file.off, at_file.within, dir_length.1))
+        record {
+          directory = is_some_and (λ (x : File). (x.kind ≡ Directory) × (length x.bytes % 512 ≡ 0) × (length x.bytes ≤ 71680) × (room.off ≤ length x.bytes)) f.stored
+              (dir_kind, dir_length.1, dir_length.0, omega (arith, at_file.off, at_file.within, dir_length.1));
+          aligned = omega (arith, fits.off);
+          fits = omega (arith, fits.off, fits.fits);
+          size = fits.block.size;
+        }

@@ -1,5 +1,5 @@
 -- What a call that makes a row may be answered, and what it leaves.
-use Rattle.std.proofs.Common.{◌≡◌, ◌≢◌, ℕ, zero, suc, ◌+◌, ◌-◌, ◌%◌, ◌<◌, ◌≤◌, ◌==◌, Bool, true, false, List, [], ◌∷◌, ◌++◌, length, Option, None, Some, Ok, Err, refl, sym, ap, subst, ◌∙◌, ⊎_elim, arith}
+use Rattle.std.proofs.Common.{◌≡◌, ◌≢◌, ℕ, zero, suc, ◌+◌, ◌-◌, ◌%◌, ◌<◌, ◌≤◌, ◌==◌, true, false, List, [], ◌∷◌, ◌++◌, length, Option, None, Some, Ok, Err, refl, sym, ap, subst, ◌∙◌, ⊎_elim, arith}
 use Rattle.std.specs.Prelude.{not, is_some, is_none, IsSome}
 use Rattle.std.specs.Borrow.{Bor}
 use Rattle.std.proofs.lemmas.Bool.{cond-true, cond-false, ne_eqb, cases_Bool, cases_eq}
@@ -85,13 +85,6 @@ pub record Way (c : Content) (w : World) (caller : Caller) (path : ℕ) (names p
   pub count : length parents + 1 ≡ length names
   pub leads : walked w.rows caller path 0 root parents ≡ Ok n
   pub shown : Some a ≡ shown_attrs c n
-
--- a value isn't there where it is not that it is
-pub none_of : (o : Option ℕ) (none : Bool) → is_some o ≡ not none → none ≡ is_none o
-none_of None true h = refl
-none_of None false h = absurd (cc)
-none_of (Some n) true h = absurd (cc)
-none_of (Some n) false h = refl
 
 not_there : (o : Option ℕ) → is_none o ≡ true → o ≡ None
 not_there None h = refl

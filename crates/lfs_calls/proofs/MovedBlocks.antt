@@ -12,7 +12,8 @@ use Rattle.lfs_types.specs.Tree.{File, Content}
 use Rattle.lfs_types.specs.declared.attrs.Kind.TheVariants.{Directory}
 use Rattle.lfs_types.specs.declared.store.Change.TheVariants.{Put}
 use Rattle.lfs_calls.specs.declared.making.Room.{Room}
-use Rattle.lfs_calls.specs.Renames.{block_put, IsBlockOf, WritesBlocks}
+use Rattle.lfs_calls.specs.Makes.{IsBlockOf}
+use Rattle.lfs_calls.specs.Renames.{block_put, WritesBlocks}
 use Rattle.lfs_calls.proofs.MakeLemmas.{grown_length}
 use Rattle.lfs_calls.proofs.MovedStore.{block_there, block_others}
 use Rattle.lfs_types.proofs.Pieces.{put_over, splice-put_over, length-put_over, front_length, piece-before}

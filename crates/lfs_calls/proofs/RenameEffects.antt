@@ -20,7 +20,8 @@ use Rattle.lfs_calls.specs.Makes.{IsRoom, ListsFirst}
 use Rattle.lfs_calls.specs.Removes.{IsTaking}
 use Rattle.lfs_calls.specs.Outcomes.{FillsDirectory, taken_from}
 use Rattle.lfs_model.specs.Walks.{is_on_way}
-use Rattle.lfs_calls.specs.Renames.{IsMove, GoesTo, ArePlaces, IsBlockOf, MovesFirst, WritesBlocks, block_put, name_left}
+use Rattle.lfs_calls.specs.Makes.{IsBlockOf}
+use Rattle.lfs_calls.specs.Renames.{IsMove, GoesTo, ArePlaces, MovesFirst, WritesBlocks, block_put, name_left}
 use Rattle.lfs_model.proofs.Allowed.{may_make}
 use Rattle.lfs_model.proofs.Deciding.{passes-append}
 use Rattle.lfs_calls.proofs.Crowded.{crowded}

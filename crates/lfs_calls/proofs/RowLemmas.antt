@@ -54,9 +54,6 @@ module _ (c : Content) (w : World) (shows : Shows c w) (n : ℕ) (a : Attrs) (sh
   pub file_childless : IsTree w.rows → is_directory_kind a.kind ≡ false → (name : List ℕ) → child w.rows n name ≡ None
   file_childless tree regular name = child-answer w.rows tree.unique n name None (no_parent w.rows tree n (directory_reads c w shows n a shown ∙ regular) name)
 
-  pub file_empty : IsTree w.rows → is_directory_kind a.kind ≡ false → (length (children w.rows n) == 0) ≡ true
-  file_empty tree regular = ap (λ (ms : List ℕ). length ms == 0) (no_children w.rows n (file_childless tree regular))
-
   module _ (directory : is_directory_kind a.kind ≡ true) where
     listed_childless : listed (bytes_of c n) ≡ [] → (name : List ℕ) → child w.rows n name ≡ None
     listed_childless none name = sym (child_listed c w shows n a shown directory name) ∙ ap (number_in name) none ∙ number_in-nil name

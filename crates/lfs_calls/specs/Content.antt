@@ -1,9 +1,10 @@
 -- What a store's content shows as a world.
-use Rattle.std.specs.Prelude.{◌≡◌, ℕ, zero, suc, ◌+◌, ◌*◌, ◌/◌, ◌<◌, List, [], ◌++◌, length, take, drop, Option, None, Some, option_map}
+use Rattle.std.specs.Prelude.{◌≡◌, ℕ, zero, suc, ◌+◌, ◌*◌, ◌/◌, ◌%◌, ◌<◌, List, [], ◌++◌, length, take, drop, Option, None, Some, IsSome, option_map}
 use Rattle.std.specs.FinMap as map
 use Rattle.lfs_types.specs.declared.limits.TheConstants.{FILE_BLOCKS, FILE_BYTES}
 use Rattle.lfs_types.specs.declared.block.TheConstants.{BLOCK_SIZE}
 use Rattle.lfs_types.specs.Changes.{IsLength}
+use Rattle.lfs_types.specs.Stored.{bytes_of}
 use Rattle.lfs_types.specs.Tree.{File, Row, World, Content}
 use Rattle.lfs_types.specs.declared.attrs.Kind.{Kind}
 use Rattle.lfs_types.specs.declared.attrs.Kind.TheVariants.{File as Regular, Directory}
@@ -27,6 +28,12 @@ listed bytes = entries_below bytes (length bytes / BLOCK_SIZE)
 -- each block of a directory's bytes is a directory block
 abbrev pub AreBlocks : List ℕ → Type 0
 AreBlocks bytes = (k : ℕ) → k < length bytes / BLOCK_SIZE → IsDirectoryBlock (block_at bytes k) (entries_of (block_at bytes k))
+
+-- a number is used by a file of this size, in whole blocks
+pub record HasBlocks (c : Content) (n size : ℕ) : Type 0 where
+  pub used : IsSome (map.get c n)
+  pub sized : size ≡ length (bytes_of c n)
+  pub whole : size % BLOCK_SIZE ≡ 0
 
 -- A directory's bytes list the rows that hang in it: each block is a directory block, no name stands twice, and
 -- a name's entry has the number of the row that hangs there under that name.

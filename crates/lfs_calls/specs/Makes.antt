@@ -1,24 +1,25 @@
 -- What judging and making a new row come to, over a store.
-use Rattle.std.specs.Prelude.{◌≡◌, ◌≢◌, ℕ, ◌+◌, ◌*◌, ◌/◌, ◌%◌, ◌<◌, ◌≤◌, true, List, [], ◌∷◌, ◌++◌, length, Option, None, Some}
+use Rattle.std.specs.Prelude.{◌≡◌, ◌≢◌, ℕ, ◌+◌, ◌*◌, ◌/◌, ◌%◌, ◌<◌, ◌≤◌, true, List, [], ◌∷◌, ◌++◌, length, Option, None, Some, IsSomeAnd, IfSome}
 use Rattle.std.specs.Borrow.{Bor}
 use Rattle.std.specs.FinMap as map
-use Rattle.lfs_types.specs.declared.limits.TheConstants.{FILE_BLOCKS}
+use Rattle.lfs_types.specs.declared.limits.TheConstants.{FILE_BLOCKS, FILE_BYTES}
 use Rattle.lfs_types.specs.declared.block.TheConstants.{BLOCK_SIZE}
 use Rattle.lfs_types.specs.Kinds.{is_directory_kind}
 use Rattle.lfs_types.specs.Splicing.{splice}
+use Rattle.lfs_types.specs.StoreStates.{StoreState}
 use Rattle.lfs_types.specs.Stored.{bytes_of, shown_attrs}
 use Rattle.lfs_types.specs.Tree.{File, Content, root}
 use Rattle.lfs_types.specs.declared.attrs.Kind.{Kind}
 use Rattle.lfs_types.specs.declared.attrs.Kind.TheVariants.{File as Regular, Directory}
 use Rattle.lfs_types.specs.declared.request.Request.{Request}
 use Rattle.lfs_types.specs.declared.request.Request.TheVariants.{Create, Mkdir}
-use Rattle.lfs_dirs.specs.Directory.{IsDirectoryBlock, used_of}
+use Rattle.lfs_dirs.specs.Directory.{IsDirectoryBlock, number_in, used_of}
 use Rattle.lfs_dirs.specs.Reading.{entries_of}
 use Rattle.lfs_calls.specs.declared.making.Room.{Room}
 use Rattle.lfs_calls.specs.declared.walking.Reached.{Reached}
 use Rattle.lfs_model.specs.World.{Rows, child}
 use Rattle.lfs_model.specs.Rules.{front, last, reached}
-use Rattle.lfs_calls.specs.Content.{block_at}
+use Rattle.lfs_calls.specs.Content.{AreBlocks, HasBlocks, block_at, listed}
 
 -- a directory that a path's names before the last lead to, and that hasn't the last name, as the store shows it
 pub record IsParent (c : Content) (rows : Rows) (path : List (List ℕ)) (dir : Reached) : Type 0 where
@@ -52,6 +53,29 @@ pub record StandsIn (bytes : List ℕ) (room : Room) : Type 0 where
 abbrev pub with_block : List ℕ → Option (Bor Room) → List ℕ
 with_block bytes None = bytes
 with_block bytes (Some room) = splice bytes room.now.off room.now.block
+
+-- a directory of this size, in one of whose blocks another may be read, may get a name that it doesn't list, for a number
+pub record CanEnter (c : Content) (dir size : ℕ) (taken : Option (Bor Room)) (name : List ℕ) (number : ℕ) : Type 0 where
+  pub stored : HasBlocks c dir size
+  pub bounded : size ≤ FILE_BYTES
+  pub stands : IfSome taken (λ room. StandsIn (bytes_of c dir) room.now)
+  pub blocks : AreBlocks (with_block (bytes_of c dir) taken)
+  pub above : 0 < number
+  pub free : number_in name (listed (with_block (bytes_of c dir) taken)) ≡ None
+
+-- a block of a directory's bytes, or one at their end
+pub record IsBlockOf (c : Content) (dir : ℕ) (room : Room) : Type 0 where
+  pub directory : IsSomeAnd (map.get c dir) (λ f. (f.kind ≡ Directory) × (length f.bytes % BLOCK_SIZE ≡ 0) × (length f.bytes ≤ FILE_BYTES) × (room.off ≤ length f.bytes))
+  pub aligned : room.off % BLOCK_SIZE ≡ 0
+  pub fits : room.off < FILE_BYTES
+  pub size : length room.block ≡ BLOCK_SIZE
+
+-- a file may be made under a number, and a block be written that lists it in a directory
+pub record CanMake (s : StoreState) (number dir : ℕ) (room : Room) : Type 0 where
+  pub above : 4 ≤ number
+  pub within : number < s.shape.numbers
+  pub unused : map.get s.content number ≡ None
+  pub block : IsBlockOf s.content dir room
 
 -- the content after a file was made and a block of its directory was written; all other files stay
 pub record MakesFile (old new : Content) (number : ℕ) (file : File) (dir : ℕ) (off : ℕ) (block : List ℕ) : Type 0 where

@@ -1,7 +1,8 @@
 -- What judging and taking away a name come to, over a store.
-use Rattle.std.specs.Prelude.{◌≡◌, ◌≢◌, ℕ, ◌*◌, ◌/◌, ◌<◌, true, List, length, None, Some, IsSome}
+use Rattle.std.specs.Prelude.{◌≡◌, ◌≢◌, ℕ, ◌*◌, ◌/◌, ◌<◌, ◌≤◌, true, List, length, None, Some, IsSome}
 use Rattle.std.specs.FinMap as map
 use Rattle.lfs_types.specs.declared.block.TheConstants.{BLOCK_SIZE}
+use Rattle.lfs_types.specs.declared.limits.TheConstants.{FILE_BYTES}
 use Rattle.lfs_types.specs.Kinds.{is_directory_kind}
 use Rattle.lfs_types.specs.Splicing.{splice}
 use Rattle.lfs_types.specs.Stored.{shown_attrs, bytes_of}
@@ -12,7 +13,7 @@ use Rattle.lfs_calls.specs.declared.making.Room.{Room}
 use Rattle.lfs_calls.specs.declared.removing.Removal.{Removal}
 use Rattle.lfs_model.specs.World.{Rows, child}
 use Rattle.lfs_model.specs.Rules.{front, last, reached}
-use Rattle.lfs_calls.specs.Content.{block_at}
+use Rattle.lfs_calls.specs.Content.{AreBlocks, HasBlocks, block_at, listed}
 
 -- the row that a path leads to, and its directory, as the store shows them
 pub record IsRemoval (c : Content) (rows : Rows) (path : List (List ℕ)) (removal : Removal) : Type 0 where
@@ -35,6 +36,13 @@ pub record HangsAs (c : Content) (rows : Rows) (removal : Removal) (name : List 
   pub shown_dir : Some removal.dir.attrs ≡ shown_attrs c removal.dir.number
   pub shown_file : Some removal.file.attrs ≡ shown_attrs c removal.file.number
   pub directory : is_directory_kind removal.dir.attrs.kind ≡ true
+
+-- a directory of this size lists a name in one of its blocks
+pub record ListsName (c : Content) (dir size : ℕ) (name : List ℕ) : Type 0 where
+  pub stored : HasBlocks c dir size
+  pub bounded : size ≤ FILE_BYTES
+  pub blocks : AreBlocks (bytes_of c dir)
+  pub listed : IsSome (number_in name (listed (bytes_of c dir)))
 
 -- the block of a directory's bytes that lists a name, without it
 pub record IsTaking (bytes : List ℕ) (name : List ℕ) (room : Room) (k : ℕ) : Type 0 where

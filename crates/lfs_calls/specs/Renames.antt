@@ -1,14 +1,11 @@
 -- What judging and making a Rename come to, over a store.
-use Rattle.std.specs.Prelude.{◌≡◌, ◌==◌, ℕ, ◌%◌, ◌<◌, ◌≤◌, true, List, length, Option, None, Some, IsSomeAnd, if◌then◌else◌}
+use Rattle.std.specs.Prelude.{◌≡◌, ◌==◌, ℕ, true, List, Option, None, Some, if◌then◌else◌}
 use Rattle.std.specs.FinMap as map
-use Rattle.lfs_types.specs.declared.limits.TheConstants.{FILE_BYTES}
-use Rattle.lfs_types.specs.declared.block.TheConstants.{BLOCK_SIZE}
 use Rattle.lfs_types.specs.Changes.{changed_at}
 use Rattle.lfs_types.specs.Kinds.{is_directory_kind}
 use Rattle.lfs_types.specs.Splicing.{splice}
 use Rattle.lfs_types.specs.Stored.{shown_attrs, bytes_of}
 use Rattle.lfs_types.specs.Tree.{Content, root}
-use Rattle.lfs_types.specs.declared.attrs.Kind.TheVariants.{Directory}
 use Rattle.lfs_calls.specs.declared.making.Room.{Room}
 use Rattle.lfs_calls.specs.declared.renaming.Move.{Move}
 use Rattle.lfs_calls.specs.declared.renaming.Places.{Places}
@@ -25,13 +22,6 @@ pub record IsMove (c : Content) (rows : Rows) (from to : List (List ℕ)) (move 
 -- the content after a block of a directory was written
 abbrev pub block_put : ℕ → Room → Content → Content
 block_put dir room c = changed_at (map.get c dir) dir (λ f. record f { bytes = splice f.bytes room.off room.block }) c
-
--- a block of a directory's bytes, or one at their end
-pub record IsBlockOf (c : Content) (dir : ℕ) (room : Room) : Type 0 where
-  pub directory : IsSomeAnd (map.get c dir) (λ f. (f.kind ≡ Directory) × (length f.bytes % BLOCK_SIZE ≡ 0) × (length f.bytes ≤ FILE_BYTES) × (room.off ≤ length f.bytes))
-  pub aligned : room.off % BLOCK_SIZE ≡ 0
-  pub fits : room.off < FILE_BYTES
-  pub size : length room.block ≡ BLOCK_SIZE
 
 -- the content after blocks of two directories, or of one, were written, one after the other
 abbrev pub WritesBlocks : Content → Content → ℕ → Room → ℕ → Room → Type 0

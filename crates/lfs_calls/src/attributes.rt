@@ -42,12 +42,12 @@ pub fn chmod<F: FileStore>(
 }
 
 /// Whether a caller may set the mode of a file, which stands at component `at`, or the first rule that fails.
-fn may_chmod(attrs: &Attrs, cred: &Cred, at: u32) -> Result<(), Denial>
-    ensures { result ≡ judged (chmod_tests cred.now attrs.now at) }
+fn may_chmod(file: &Attrs, cred: &Cred, at: u32) -> Result<(), Denial>
+    ensures { result ≡ judged (chmod_tests cred.now file.now at) }
 {
-    ask(!immutable(attrs), Rule::IsMutable, 0, at)?;
-    ask(!append_only(attrs), Rule::IsNotAppendOnly, 0, at)?;
-    ask(is_owner(attrs, cred), Rule::IsOwner, 0, at)
+    ask(!immutable(file), Rule::IsMutable, 0, at)?;
+    ask(!append_only(file), Rule::IsNotAppendOnly, 0, at)?;
+    ask(is_owner(file, cred), Rule::IsOwner, 0, at)
 }
 
 /// Sets the owner and the group; a caller who is not the superuser clears the set-id bits.

@@ -1,18 +1,16 @@
 //! The call that lists a directory.
 
-ghost use Rattle.std.specs.Prelude.{◌≡◌, ◌++◌, ◌%◌, IsSome, IfOk, None, map, length};
+ghost use Rattle.std.specs.Prelude.{◌≡◌, ◌++◌, IfOk, None, map};
 ghost use Rattle.std.specs.Cmp.Lexicographic.{slice_cmp};
-ghost use Rattle.std.specs.FinMap.{get};
 ghost use Rattle.std.specs.List.Sorted.{IsPermutation, IsSorted};
 ghost use Rattle.std.specs.Ordering.{nat_cmp};
-ghost use Rattle.lfs_types.specs.declared.block.TheConstants.{BLOCK_SIZE};
 ghost use Rattle.lfs_types.specs.Naming.{name_fault};
 ghost use Rattle.lfs_types.specs.Stored.{bytes_of};
 ghost use Rattle.lfs_dirs.specs.Directory.{IsDirectoryBlock};
 ghost use Rattle.lfs_dirs.specs.Reading.{entries_of};
 ghost use Rattle.lfs_model.specs.Rules.{judged, list_tests};
 ghost use Rattle.lfs_calls.specs.Calls.{IsCall};
-ghost use Rattle.lfs_calls.specs.Content.{AreBlocks, listed};
+ghost use Rattle.lfs_calls.specs.Content.{AreBlocks, HasBlocks, listed};
 ghost use Rattle.lfs_calls.specs.Volumes.{HasWorld};
 
 use crate::directory::read_block;
@@ -67,9 +65,7 @@ fn names_of_directory<F: FileStore>(
     dir: u32,
     size: u64,
 ) -> Result<Vec<Name>, AllocError>
-    requires used { IsSome (get (F.state store.old).content dir) }
-    requires size { size ≡ length (bytes_of (F.state store.old).content dir) }
-    requires whole { size % BLOCK_SIZE ≡ 0 }
+    requires stored { HasBlocks (F.state store.old).content dir size }
     requires blocks { AreBlocks (bytes_of (F.state store.old).content dir) }
     ensures names { IfOk result (λ names. names.items
         ≡ map (λ e. e.1) (listed (bytes_of (F.state store.old).content dir))) }

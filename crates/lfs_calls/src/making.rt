@@ -1,22 +1,21 @@
 //! The calls that make a row.
 
-ghost use Rattle.std.specs.Prelude.{◌≡◌, ℕ, [], ◌∷◌, IsSomeAnd, ◌≤◌, ◌+◌, ◌%◌, ◌<◌, IsSome, IfSome, Some, None, length, take, drop, MatchOption, OnOk};
+ghost use Rattle.std.specs.Prelude.{◌≡◌, ℕ, [], ◌∷◌, ◌≤◌, ◌+◌, ◌%◌, ◌<◌, IsSome, IfSome, Some, None, is_none, length, take, drop, MatchOption, OnOk};
 ghost use Rattle.std.specs.FinMap.{get};
 ghost use Rattle.lfs_types.specs.declared.path.TheConstants.{PATH_MAX};
-ghost use Rattle.lfs_types.specs.declared.limits.TheConstants.{FILE_BYTES};
 ghost use Rattle.lfs_types.specs.declared.block.TheConstants.{BLOCK_SIZE};
-ghost use Rattle.lfs_types.specs.declared.attrs.Kind.TheVariants.{Directory};
-ghost use Rattle.lfs_types.specs.Stored.{bytes_of};
+ghost use Rattle.lfs_types.specs.Stored.{bytes_of, shown_attrs};
 ghost use Rattle.lfs_types.specs.Tree.{file_of};
-ghost use Rattle.lfs_dirs.specs.Directory.{IsDirectoryBlock, number_in};
+ghost use Rattle.lfs_dirs.specs.Directory.{IsDirectoryBlock};
 ghost use Rattle.lfs_dirs.specs.Reading.{entries_of};
+ghost use Rattle.lfs_model.specs.World.{child};
 ghost use Rattle.lfs_model.specs.Rules.{Judges, judged, making, making_tests};
 ghost use Rattle.lfs_calls.specs.Calls.{ChangesTo, IsCall};
 ghost use Rattle.lfs_calls.specs.Volumes.{HasWorld, InWorld};
-ghost use Rattle.lfs_calls.specs.Content.{listed, FitsNowhere, AreBlocks};
-ghost use Rattle.lfs_calls.specs.Makes.{EntersFirst, IsParent, request_for, IsRoom, StandsIn, with_block, MakesFile};
+ghost use Rattle.lfs_calls.specs.Content.{FitsNowhere};
+ghost use Rattle.lfs_calls.specs.Makes.{CanEnter, CanMake, EntersFirst, IsParent, request_for, IsRoom, StandsIn, with_block, MakesFile};
 
-use crate::directory::{child_of, read_block};
+use crate::directory::{look_up, read_block};
 use crate::halt::Halt;
 use crate::walking::{Reached, ask, component, denial, last_name, reach};
 use lfs_dirs::added;
@@ -62,22 +61,45 @@ pub(crate) fn judge_make<F: FileStore>(
     };
     let at = component(parents);
     let dir = reach(store, cred, path, parents)?;
-    let free = child_of(store, &dir, name).is_none();
-    may_make(&dir.attrs, cred, free, path, at)?;
+    may_make(store, cred, &dir, name, path, at)?;
     Ok(dir)
 }
 
-/// Whether a caller may put a name, which may be free, into a directory, which stands at component `at` of the path of
-/// this index, or the first rule that fails.
-fn may_make(dir: &Attrs, cred: &Cred, free: bool, path: u8, at: u32) -> Result<(), Denial>
-    requires { at < PATH_MAX }
-    ensures { result ≡ judged (making_tests cred.now free path dir.now at) }
+/// Whether a caller may put a name into a directory, which stands at component `at` of the path of this index, or the
+/// first rule that fails. The name is looked up only where search in the directory is granted.
+fn may_make<F: FileStore>(
+    store: &mut F,
+    cred: &Cred,
+    dir: &Reached,
+    name: &Name,
+    path: u8,
+    at: u32,
+) -> Result<(), Denial>
+    requires world { HasWorld (F.state store.old) }
+    requires shown { Some dir.now.attrs ≡ shown_attrs (F.state store.old).content dir.now.number }
+    requires short { at < PATH_MAX }
+    ensures judge { InWorld (F.state store.old) (λ w. result
+        ≡ judged (making_tests cred.now (is_none (child w.rows dir.now.number name.now)) path
+        dir.now.attrs at)) }
+    ensures state { F.state store.new ≡ F.state store.old }
 {
-    ask(dir.kind.is_directory(), Rule::IsDirectory, path, at)?;
-    ask(grants(dir, cred, Bit::Search), Rule::GrantsSearch, path, at)?;
+    let Reached { number, attrs } = *dir;
+    ask(attrs.kind.is_directory(), Rule::IsDirectory, path, at)?;
+    ask(
+        grants(&attrs, cred, Bit::Search),
+        Rule::GrantsSearch,
+        path,
+        at,
+    )?;
+    let free = look_up(store, number, attrs.size, name).is_none();
     ask(free, Rule::NameFree, path, at + 1)?;
-    ask(!immutable(dir), Rule::IsMutable, path, at)?;
-    ask(grants(dir, cred, Bit::Write), Rule::GrantsWrite, path, at)
+    ask(!immutable(&attrs), Rule::IsMutable, path, at)?;
+    ask(
+        grants(&attrs, cred, Bit::Write),
+        Rule::GrantsWrite,
+        path,
+        at,
+    )
 }
 
 /// The first block of a directory that has room for a new entry, with that entry, else a new block at the end; None
@@ -91,17 +113,7 @@ pub(crate) fn find_room<F: FileStore>(
     name: &Name,
     number: u32,
 ) -> Option<Room>
-    requires used { IsSome (get (F.state store.old).content dir) }
-    requires size { size ≡ length (bytes_of (F.state store.old).content dir) }
-    requires whole { size % BLOCK_SIZE ≡ 0 }
-    requires bounded { size ≤ FILE_BYTES }
-    requires taken { IfSome taken
-        (λ room. StandsIn (bytes_of (F.state store.old).content dir) room.now) }
-    requires blocks { AreBlocks (with_block (bytes_of (F.state store.old).content dir) taken) }
-    requires above { 0 < number }
-    requires free { number_in name.now (listed (with_block
-        (bytes_of (F.state store.old).content dir) taken))
-        ≡ None }
+    requires { CanEnter (F.state store.old).content dir size taken name.now number }
     ensures room { MatchOption result
         (FitsNowhere (with_block (bytes_of (F.state store.old).content dir) taken.entry)
         None name.now)
@@ -164,15 +176,7 @@ fn put_new<F: FileStore>(
     dir: u32,
     room: &Room,
 ) -> Result<(), StoreRefusal>
-    requires above { 4 ≤ number }
-    requires within { number < (F.state store.old).shape.numbers }
-    requires unused { get (F.state store.old).content number ≡ None }
-    requires directory { IsSomeAnd (get (F.state store.old).content dir)
-        (λ f. (f.kind ≡ Directory) × (length f.bytes % BLOCK_SIZE ≡ 0) × (length f.bytes ≤ FILE_BYTES)
-        × (room.now.off ≤ length f.bytes)) }
-    requires aligned { room.now.off % BLOCK_SIZE ≡ 0 }
-    requires fits { room.now.off < FILE_BYTES }
-    requires block { length room.now.block ≡ BLOCK_SIZE }
+    requires { CanMake (F.state store.old) number dir room.now }
     ensures { ChangesTo (F.state store.old)
         (λ after. MakesFile (F.state store.old).content after
         number (file_of attrs []) dir room.now.off room.now.block)

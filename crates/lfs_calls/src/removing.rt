@@ -1,19 +1,15 @@
 //! The calls that take away a name.
 
-ghost use Rattle.std.specs.Prelude.{◌≡◌, ◌==◌, Some, ◌↔◌, ℕ, ◌<◌, ◌≤◌, ◌%◌, [], length, IsSome, IsTrue};
-ghost use Rattle.std.specs.FinMap.{get};
+ghost use Rattle.std.specs.Prelude.{◌≡◌, ◌==◌, Some, ◌↔◌, ℕ, ◌<◌, ◌≤◌, [], length, IsTrue};
 ghost use Rattle.lfs_types.specs.declared.path.TheConstants.{PATH_MAX};
-ghost use Rattle.lfs_types.specs.declared.limits.TheConstants.{FILE_BYTES};
-ghost use Rattle.lfs_types.specs.declared.block.TheConstants.{BLOCK_SIZE};
 ghost use Rattle.lfs_types.specs.Stored.{bytes_of, shown_attrs};
 ghost use Rattle.lfs_types.specs.Tree.{World};
-ghost use Rattle.lfs_dirs.specs.Directory.{number_in};
 ghost use Rattle.lfs_model.specs.Rules.{Judges, judged, removing, removing_tests, rmdir_tests, rule_table, unlink_tests};
 ghost use Rattle.lfs_model.specs.World.{children};
 ghost use Rattle.lfs_calls.specs.Calls.{ChangesTo, IsCall};
 ghost use Rattle.lfs_calls.specs.Volumes.{HasWorld, InWorld, IsVolume};
-ghost use Rattle.lfs_calls.specs.Content.{AreBlocks, listed};
-ghost use Rattle.lfs_calls.specs.Removes.{HangsAs, IsRemovable, IsRemoval, IsTaking, TakesRow};
+ghost use Rattle.lfs_calls.specs.Content.{HasBlocks, listed};
+ghost use Rattle.lfs_calls.specs.Removes.{HangsAs, IsRemovable, IsRemoval, IsTaking, ListsName, TakesRow};
 
 use crate::directory::read_block;
 use crate::halt::Halt;
@@ -83,13 +79,7 @@ fn may_remove(dir: &Attrs, file: &Attrs, cred: &Cred, at: u32) -> Result<(), Den
 
 /// The block of a directory that lists a name, without the name, and where it goes.
 pub(crate) fn take_name<F: FileStore>(store: &mut F, dir: u32, size: u64, name: &Name) -> Room
-    requires used { IsSome (get (F.state store.old).content dir) }
-    requires size { size ≡ length (bytes_of (F.state store.old).content dir) }
-    requires whole { size % BLOCK_SIZE ≡ 0 }
-    requires bounded { size ≤ FILE_BYTES }
-    requires blocks { AreBlocks (bytes_of (F.state store.old).content dir) }
-    requires listed { IsSome (number_in name.now (listed
-        (bytes_of (F.state store.old).content dir))) }
+    requires { ListsName (F.state store.old).content dir size name.now }
     ensures room { (k : ℕ) × IsTaking (bytes_of (F.state store.old).content dir) name.now result k }
     ensures state { F.state store.new ≡ F.state store.old }
 {
@@ -182,39 +172,27 @@ fn judge_rmdir<F: FileStore>(store: &mut F, cred: &Cred, names: &[Name]) -> Resu
     ensures state { F.state store.new ≡ F.state store.old }
 {
     let removal = judge_remove(store, cred, names)?;
-    let empty = is_childless(store, &removal.file);
-    may_rmdir(&removal.file.attrs, empty, component(names))?;
+    may_rmdir(store, &removal.file, component(names))?;
     Ok(removal)
 }
 
-/// Whether a directory, which stands at component `at` and may be empty, may be removed, or the first rule that fails.
-fn may_rmdir(dir: &Attrs, empty: bool, at: u32) -> Result<(), Denial>
-    ensures { result ≡ judged (rmdir_tests empty dir.now at) }
-{
-    ask(dir.kind.is_directory(), Rule::IsDirectory, 0, at)?;
-    ask(empty, Rule::IsEmpty, 0, at)
-}
-
-/// Whether nothing hangs in a row; nothing hangs in a file.
-fn is_childless<F: FileStore>(store: &mut F, row: &Reached) -> bool
+/// Whether what a Rmdir names, which stands at component `at`, may be removed, or the first rule that fails. Only a
+/// directory is searched for names.
+fn may_rmdir<F: FileStore>(store: &mut F, row: &Reached, at: u32) -> Result<(), Denial>
     requires world { HasWorld (F.state store.old) }
     requires shown { Some row.now.attrs ≡ shown_attrs (F.state store.old).content row.now.number }
-    ensures childless { InWorld (F.state store.old)
-        (λ w. result ≡ (length (children w.rows row.now.number) == 0)) }
+    ensures judge { InWorld (F.state store.old) (λ w. result
+        ≡ judged (rmdir_tests (length (children w.rows row.now.number) == 0) row.now.attrs at)) }
     ensures state { F.state store.new ≡ F.state store.old }
 {
-    if row.attrs.kind.is_directory() {
-        is_empty_directory(store, row.number, row.attrs.size)
-    } else {
-        true
-    }
+    ask(row.attrs.kind.is_directory(), Rule::IsDirectory, 0, at)?;
+    let empty = is_empty_directory(store, row.number, row.attrs.size);
+    ask(empty, Rule::IsEmpty, 0, at)
 }
 
 /// Whether a directory of this size lists no name.
 fn is_empty_directory<F: FileStore>(store: &mut F, dir: u32, size: u64) -> bool
-    requires used { IsSome (get (F.state store.old).content dir) }
-    requires size { size ≡ length (bytes_of (F.state store.old).content dir) }
-    requires whole { size % BLOCK_SIZE ≡ 0 }
+    requires { HasBlocks (F.state store.old).content dir size }
     ensures empty { IsTrue result ↔ (listed (bytes_of (F.state store.old).content dir) ≡ []) }
     ensures state { F.state store.new ≡ F.state store.old }
 {

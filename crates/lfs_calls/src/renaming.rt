@@ -11,7 +11,8 @@ ghost use Rattle.lfs_calls.specs.Calls.{ChangesTo, IsCall};
 ghost use Rattle.lfs_calls.specs.Volumes.{HasWorld, InWorld, IsVolume};
 ghost use Rattle.lfs_calls.specs.Content.{FitsNowhere};
 ghost use Rattle.lfs_model.specs.Walks.{is_on_way};
-ghost use Rattle.lfs_calls.specs.Renames.{IsMove, GoesTo, MovesFirst, name_left, ArePlaces, IsBlockOf, WritesBlocks};
+ghost use Rattle.lfs_calls.specs.Makes.{IsBlockOf};
+ghost use Rattle.lfs_calls.specs.Renames.{IsMove, GoesTo, MovesFirst, name_left, ArePlaces, WritesBlocks};
 ghost use Rattle.lfs_model.specs.Walks.{walked};
 
 use crate::halt::Halt;

@@ -1,6 +1,6 @@
 //! The call that puts bytes into a file.
 
-ghost use Rattle.std.specs.Prelude.{◌≡◌, ◌≤◌, ◌+◌, ◌<◌, Some, false, nat_le, length};
+ghost use Rattle.std.specs.Prelude.{◌≡◌, ◌≤◌, ◌+◌, Some, false, nat_le, length};
 ghost use Rattle.lfs_types.specs.declared.limits.TheConstants.{FILE_BYTES, TRANSFER_BYTES};
 ghost use Rattle.lfs_types.specs.Kinds.{is_directory_kind};
 ghost use Rattle.lfs_types.specs.Splicing.{splice};

@@ -8,9 +8,9 @@ use Rattle.lfs_types.specs.Tree.{root}
 use Rattle.lfs_dirs.specs.Directory.{Entry}
 use Rattle.lfs_model.specs.Rules.{list_tests}
 use Rattle.lfs_model.proofs.Deciding.{judged_all, met_first, walked-reached}
-use Rattle.lfs_calls.specs.Content.{AreBlocks, listed}
+use Rattle.lfs_calls.specs.Content.{AreBlocks, HasBlocks, listed}
 use Rattle.lfs_calls.proofs.CallLemmas.{lacking, shown}
-use Rattle.lfs_calls.proofs.Directories.{size_whole, bytes_listing}
+use Rattle.lfs_calls.proofs.Directories.{dir_stored, bytes_listing}
 use Rattle.lfs_calls.proofs.ListLemmas.{list_answer}
 use Rattle.lfs_calls.proofs.PathLemmas.{list_path, barred, not_reached, serves}
 use Rattle.lfs_calls.proofs.StateLemmas.{same_content}
@@ -26,12 +26,13 @@ returns-in_err-may_list-clause-call g c level =
     let p = err_from_is_err_and c.from_residual-in_err-may_list.result c.from_residual-in_err-may_list.ensures.1 in
     rw (p.1, p.2) (barred (list_path level c.args.cred.now c.args.path.now) c.in_ok-dir.dir c.in_ok-dir.ensures.reach c.find.ensures.state c.depth.result c.depth.ensures c.in_err-may_list.field-0.0 c.in_err-may_list.ensures)
 
-pub names_of_directory-requires-clause-whole : goal.names_of_directory-requires-clause-whole
-names_of_directory-requires-clause-whole g c =
+pub names_of_directory-requires-clause-stored : goal.names_of_directory-requires-clause-stored
+names_of_directory-requires-clause-stored g c =
     let t = c.requires in
     let dir = c.in_ok-dir.dir in
     let directory = (met_first _ _ _ (judged_all (list_tests c.args.cred.now dir.attrs c.depth.result) (sym c.in_ok-may_list.ensures))).0 in
-    size_whole t.1.shows dir.number dir.attrs (c.in_ok-dir.ensures.reach t.0 t.1).1 directory
+    subst (λ x. HasBlocks x dir.number dir.attrs.size) (sym (same_content c.find.ensures.state))
+    (dir_stored t.1.shows dir.number dir.attrs (c.in_ok-dir.ensures.reach t.0 t.1).1 directory)
 
 pub names_of_directory-requires-clause-blocks : goal.names_of_directory-requires-clause-blocks
 names_of_directory-requires-clause-blocks g c =

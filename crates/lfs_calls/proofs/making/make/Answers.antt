@@ -1,23 +1,19 @@
-use Rattle.std.proofs.Common.{◌≡◌, ◌≤◌, ◌%◌, ℕ, List, [], length, None, Some, Ok, sym, ap, subst, ◌∙◌}
+use Rattle.std.proofs.Common.{◌≡◌, ◌≤◌, ℕ, List, [], length, None, Some, Ok, sym, ap, subst, ◌∙◌, arith}
 use Rattle.lfs_calls.specs.Volumes.{IsVolume}
 use Rattle.lfs_calls.proofs.StateLemmas.{same_content, same_numbers}
-use Rattle.std.specs.Prelude.{IsSomeAnd}
-use Rattle.std.specs.FinMap.{get}
+use Rattle.lfs_types.specs.StoreStates.{StoreState}
 use Rattle.lfs_types.specs.Stored.{bytes_of, IsUsedBelow, IsLeastFree, MayRefuse}
 use Rattle.lfs_types.specs.declared.answer.Resource.TheVariants.{NoInodes, DirectoryFull}
 use Rattle.std.proofs.lemmas.Result.{err_from_is_err_and}
 use Rattle.lfs_calls.proofs.CallLemmas.{denied, lacking, refused_so, done_so}
 use Rattle.lfs_types.specs.Tree.{World, Content}
-use Rattle.lfs_types.specs.declared.attrs.Kind.TheVariants.{Directory}
-use Rattle.lfs_dirs.specs.Directory.{number_in}
 use Rattle.lfs_model.specs.World.{IsTree}
 use Rattle.lfs_model.specs.Rules.{Judges, first_failing, last, making}
-use Rattle.lfs_calls.specs.Content.{Shows, AreBlocks, FitsNowhere, listed}
+use Rattle.lfs_calls.specs.Content.{Shows, FitsNowhere}
 use Rattle.lfs_calls.specs.declared.making.Room.{Room}
-use Rattle.lfs_calls.specs.Makes.{IsParent, IsRoom}
+use Rattle.lfs_calls.specs.Makes.{CanEnter, CanMake, IsParent, IsRoom}
 use Rattle.lfs_model.specs.Steps.{AllUsed}
-use Rattle.lfs_calls.proofs.CreateLemmas.{enters_first, dir_free, room_ready, crowded_in, not_all_used, roomy, shows_after, tree_after}
-use Rattle.lfs_calls.proofs.Directories.{size_whole, size_bounded, bytes_listing}
+use Rattle.lfs_calls.proofs.CreateLemmas.{can_enter, enters_first, room_ready, crowded_in, not_all_used, roomy, shows_after, tree_after}
 use Rattle.lfs_calls.proofs.MakeLemmas.{all_used}
 use Rattle.lfs_calls.proofs.MakeOutcomes.{make_changing, make_looks, make_denial, make_after, make_no_inodes, make_full, make_done, make_refused}
 use Rattle.lfs_calls.proofs.making.make.Goals as goal
@@ -45,35 +41,13 @@ least : (g : _) (c : In-Some g) → IsLeastFree (g.F.FileStore.state c.args.stor
 least g c = subst (λ x. IsLeastFree (g.F.FileStore.state c.args.store.now).shape.numbers x (Some c.in-Some.number)) (same_content c.judge_make.ensures.state)
     (subst (λ n. IsLeastFree n (g.F.FileStore.state c.judge_make.new.store).content (Some c.in-Some.number)) (same_numbers c.judge_make.ensures.state) c.in-Some.ensures)
 
-pub find_room-requires-clause-whole : goal.find_room-requires-clause-whole
-find_room-requires-clause-whole g c =
-    let k = (goal.at.find_room-requires-clause-whole g c).In-Some in
+pub find_room-requires : goal.find_room-requires
+find_room-requires g c =
+    let k = (goal.at.find_room-requires g c).In-Some in
     let t = c.requires in
-    let is = parent g k t.0 t.1 in
-    size_whole t.1.shows c.in_ok-dir.dir.number c.in_ok-dir.dir.attrs is.shown is.directory
-
-pub find_room-requires-clause-bounded : goal.find_room-requires-clause-bounded
-find_room-requires-clause-bounded g c =
-    let k = (goal.at.find_room-requires-clause-bounded g c).In-Some in
-    let t = c.requires in
-    let is = parent g k t.0 t.1 in
-    size_bounded t.1.shows c.in_ok-dir.dir.number c.in_ok-dir.dir.attrs is.shown is.directory
-
-pub find_room-requires-clause-blocks : goal.find_room-requires-clause-blocks
-find_room-requires-clause-blocks g c =
-    let k = (goal.at.find_room-requires-clause-blocks g c).In-Some in
-    let t = c.requires in
-    let is = parent g k t.0 t.1 in
-    subst (λ x. AreBlocks (bytes_of x c.in_ok-dir.dir.number)) (sym (same_content c.judge_make.ensures.state))
-    (bytes_listing t.1.shows c.in_ok-dir.dir.number c.in_ok-dir.dir.attrs is.shown is.directory).blocks
-
-pub find_room-requires-clause-free : goal.find_room-requires-clause-free
-find_room-requires-clause-free g c =
-    let k = (goal.at.find_room-requires-clause-free g c).In-Some in
-    let t = c.requires in
-    ap (λ n. number_in n (listed (bytes_of (g.F.FileStore.state c.judge_make.new.store).content c.in_ok-dir.dir.number))) (name_is g k)
-    ∙ ap (λ x. number_in (last c.args.path.now) (listed (bytes_of x c.in_ok-dir.dir.number))) (same_content c.judge_make.ensures.state)
-    ∙ dir_free t.1.shows (parent g k t.0 t.1)
+    let l = least g k in
+    subst (λ x. CanEnter x c.in_ok-dir.dir.number c.in_ok-dir.dir.attrs.size None c.last_name-name.result.now c.in-Some.number) (sym (same_content c.judge_make.ensures.state))
+    (can_enter t.1.shows (parent g k t.0 t.1) c.in-Some.number (omega (arith, l.0)) c.last_name-name.result.now (name_is g k))
 
 short : (g : _) (c : In-Some g) → length (last c.args.path.now) ≤ 255
 short g c = subst (λ (n : List ℕ). length n ≤ 255) (name_is g c) c.as_bytes.ensures.bounded
@@ -89,14 +63,14 @@ room_is g c room n h =
     subst (λ x. IsRoom (bytes_of x c.in_ok-dir.dir.number) c.in-Some.number (last c.args.path.now) room n) (same_content c.judge_make.ensures.state)
     (subst (λ name. IsRoom (bytes_of (g.F.FileStore.state c.judge_make.new.store).content c.in_ok-dir.dir.number) c.in-Some.number name room n) (name_is g c) h)
 
-pub put_new-requires-clause-directory : goal.put_new-requires-clause-directory
-put_new-requires-clause-directory g c =
-    let k = (goal.at.put_new-requires-clause-directory g c).In-Some in
+pub put_new-requires : goal.put_new-requires
+put_new-requires g c =
+    let k = (goal.at.put_new-requires g c).In-Some in
     let t = c.requires in
+    let l = least g k in
     let found = c.in-Some-find_room.ensures.room in
-    subst (λ x. IsSomeAnd (get x c.in_ok-dir.dir.number) (λ f. (f.kind ≡ Directory) × (length f.bytes % 512 ≡ 0) × (length f.bytes ≤ 71680) × (c.in-Some-find_room.room.off ≤ length f.bytes)))
-    (sym ((same_content c.find_room.ensures.state) ∙ (same_content c.judge_make.ensures.state)))
-    (room_ready t.1.shows (parent g k t.0 t.1) (room_is g k c.in-Some-find_room.room found.0 found.1))
+    subst (λ (s : StoreState). CanMake s c.in-Some.number c.in_ok-dir.dir.number c.in-Some-find_room.room) (sym (c.find_room.ensures.state ∙ c.judge_make.ensures.state))
+    (record { above = l.0; within = l.1; unused = l.2; block = room_ready t.1.shows (parent g k t.0 t.1) (room_is g k c.in-Some-find_room.room found.0 found.1) })
 
 pub returns-in_err-dir-clause-call : goal.returns-in_err-dir-clause-call
 returns-in_err-dir-clause-call g c level =

@@ -6,14 +6,14 @@ use Rattle.lfs_calls.proofs.making.put_new.Goals as goal
 
 pub apply-requires : goal.apply-requires
 apply-requires g c =
-    let d = some_and _ _ c.requires.directory in
+    let d = some_and _ _ c.requires.block.directory in
     can_make (g.F.FileStore.state c.args.store.now).content c.args.number c.args.attrs c.args.dir c.args.room.now.off c.args.room.now.block d.value c.requires.unused d.is
-    (g.F.FileStore.state c.args.store.now).shape.numbers _ refl c.requires.above c.requires.within c.requires.block
-    (grown_length d.value.kind d.value.bytes c.args.room.now.off c.args.room.now.block d.holds.0 d.holds.1 d.holds.3 c.requires.aligned c.requires.fits c.requires.block d.holds.2)
+    (g.F.FileStore.state c.args.store.now).shape.numbers _ refl c.requires.above c.requires.within c.requires.block.size
+    (grown_length d.value.kind d.value.bytes c.args.room.now.off c.args.room.now.block d.holds.0 d.holds.1 d.holds.3 c.requires.block.aligned c.requires.block.fits c.requires.block.size d.holds.2)
 
 pub returns : goal.returns
 returns g c =
-    let d = some_and _ _ c.requires.directory in
+    let d = some_and _ _ c.requires.block.directory in
     record {
       ok = IfOk-weaker c.apply.result _ _ (λ _ h. makes_file (g.F.FileStore.state c.args.store.now).content c.args.number c.args.attrs c.args.dir c.args.room.now.off c.args.room.now.block d.value c.requires.unused d.is
           (g.F.FileStore.state c.apply.new.self).content h) c.apply.ensures.ok;

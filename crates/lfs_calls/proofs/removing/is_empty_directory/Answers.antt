@@ -28,7 +28,7 @@ pub returns-then-is_some-clause-empty : goal.returns-then-is_some-clause-empty
 returns-then-is_some-clause-empty g c =
     let bytes = bytes_of (g.F.FileStore.state c.args.store.now).content c.args.dir in
     let block : c.read_block-block.result ≡ block_at bytes c.loop-k.k = c.read_block-block.ensures.block ∙ ap (λ x. block_at (bytes_of x c.args.dir) c.loop-k.k) (same_content c.loop-k.invariant.state) in
-    let within : c.loop-k.k < length bytes / 512 = subst (λ n. c.loop-k.k < n / 512) c.requires.size c.loop-k-test.true in (
+    let within : c.loop-k.k < length bytes / 512 = subst (λ n. c.loop-k.k < n / 512) c.requires.sized c.loop-k-test.true in (
       λ h. absurd (cc),
       λ none. absurd (some_first c.next.result c.entries.result c.next.new.self c.next.ensures.steps (sym c.is_some.ensures ∙ c.if-is_some.true)
           (c.entries.ensures.value ∙ ap entries_of block ∙ nothing_in_block bytes c.loop-k.k within none)),

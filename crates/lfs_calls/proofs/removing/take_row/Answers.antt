@@ -6,7 +6,7 @@ use Rattle.std.proofs.lemmas.Result.{IfOk-weaker}
 use Rattle.lfs_types.specs.Stored.{bytes_of, MayRefuse}
 use Rattle.lfs_types.specs.Tree.{Content, World}
 use Rattle.lfs_calls.specs.Removes.{HangsAs, IsTaking, TakesFile}
-use Rattle.lfs_calls.proofs.Directories.{size_whole, size_bounded, bytes_listing}
+use Rattle.lfs_calls.proofs.Directories.{lists_name}
 use Rattle.lfs_calls.specs.Volumes.{IsVolume}
 use Rattle.lfs_calls.proofs.CallLemmas.{still}
 use Rattle.lfs_calls.proofs.TakeLemmas.{taking_listed, can_take, takes_file}
@@ -23,25 +23,11 @@ at_take g c =
 taken : (g : _) (c : After-take_name-room g) → IsTaking (bytes_of (g.F.FileStore.state c.take_name-room.new.store).content c.args.removal.now.dir.number) c.args.name.now c.take_name-room.result c.take_name-room.ensures.room.0
 taken g c = subst (λ x. IsTaking (bytes_of x c.args.removal.now.dir.number) c.args.name.now c.take_name-room.result c.take_name-room.ensures.room.0) (sym (same_content c.take_name-room.ensures.state)) c.take_name-room.ensures.room.1
 
-pub take_name-room-requires-clause-whole : goal.take_name-room-requires-clause-whole
-take_name-room-requires-clause-whole g c =
+pub take_name-room-requires : goal.take_name-room-requires
+take_name-room-requires g c =
     let t = c.requires.world in
-    size_whole t.1.0.shows c.args.removal.now.dir.number c.args.removal.now.dir.attrs t.1.1.shown_dir t.1.1.directory
-
-pub take_name-room-requires-clause-bounded : goal.take_name-room-requires-clause-bounded
-take_name-room-requires-clause-bounded g c =
-    let t = c.requires.world in
-    size_bounded t.1.0.shows c.args.removal.now.dir.number c.args.removal.now.dir.attrs t.1.1.shown_dir t.1.1.directory
-
-pub take_name-room-requires-clause-blocks : goal.take_name-room-requires-clause-blocks
-take_name-room-requires-clause-blocks g c =
-    let t = c.requires.world in
-    (bytes_listing t.1.0.shows c.args.removal.now.dir.number c.args.removal.now.dir.attrs t.1.1.shown_dir t.1.1.directory).blocks
-
-pub take_name-room-requires-clause-listed : goal.take_name-room-requires-clause-listed
-take_name-room-requires-clause-listed g c =
-    let t = c.requires.world in
-    taking_listed (g.F.FileStore.state c.args.store.now).content t.0 t.1.0.shows t.1.0.tree c.args.removal.now c.args.name.now t.1.1
+    lists_name t.1.0.shows c.args.removal.now.dir.number c.args.removal.now.dir.attrs t.1.1.shown_dir t.1.1.directory c.args.name.now
+    (taking_listed (g.F.FileStore.state c.args.store.now).content t.0 t.1.0.shows t.1.0.tree c.args.removal.now c.args.name.now t.1.1)
 
 pub apply-requires : goal.apply-requires
 apply-requires g c =

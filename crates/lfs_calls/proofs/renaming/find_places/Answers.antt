@@ -1,61 +1,37 @@
-use Rattle.std.proofs.Common.{None, refl, sym, ap, subst, ◌∙◌}
+use Rattle.std.proofs.Common.{None, refl, sym, ap, subst, ◌∙◌, rules}
 use Rattle.lfs_calls.proofs.StateLemmas.{same_content}
 use Rattle.std.specs.Prelude.{MatchOption}
 use Rattle.lfs_types.specs.Stored.{bytes_of}
 use Rattle.lfs_dirs.specs.Directory.{number_in}
-use Rattle.lfs_calls.specs.Content.{AreBlocks, FitsNowhere, listed}
+use Rattle.lfs_calls.specs.Content.{AreBlocks, HasBlocks, FitsNowhere, listed}
 use Rattle.lfs_calls.specs.Makes.{IsRoom}
 use Rattle.lfs_calls.specs.Renames.{name_left, ArePlaces}
-use Rattle.lfs_calls.proofs.Directories.{size_whole, size_bounded, bytes_listing}
-use Rattle.lfs_calls.proofs.MovedPlaces.{above, seen_listing, seen_through, seen_free, nowhere}
+use Rattle.lfs_calls.proofs.Directories.{lists_name, dir_stored, size_bounded}
+use Rattle.lfs_types.proofs.Somewhere.{present}
+use Rattle.lfs_calls.proofs.MovedPlaces.{above, old_is_listed, seen_listing, seen_through, seen_free, nowhere}
 use Rattle.lfs_calls.proofs.renaming.find_places.Goals as goal
 
-pub take_name-taken-requires-clause-whole : goal.take_name-taken-requires-clause-whole
-take_name-taken-requires-clause-whole g c =
+pub take_name-taken-requires : goal.take_name-taken-requires
+take_name-taken-requires g c =
     let t = c.requires.goes in
     let m = c.args.planned.now.removal in
-    size_whole t.1.0.shows m.dir.number m.dir.attrs t.1.1.hangs.shown_dir t.1.1.hangs.directory
+    lists_name t.1.0.shows m.dir.number m.dir.attrs t.1.1.hangs.shown_dir t.1.1.hangs.directory c.args.old.now (present (old_is_listed t.1.0.shows t.1.0.tree t.1.1))
 
-pub take_name-taken-requires-clause-bounded : goal.take_name-taken-requires-clause-bounded
-take_name-taken-requires-clause-bounded g c =
-    let t = c.requires.goes in
-    let m = c.args.planned.now.removal in
-    size_bounded t.1.0.shows m.dir.number m.dir.attrs t.1.1.hangs.shown_dir t.1.1.hangs.directory
-
-pub take_name-taken-requires-clause-blocks : goal.take_name-taken-requires-clause-blocks
-take_name-taken-requires-clause-blocks g c =
-    let t = c.requires.goes in
-    let m = c.args.planned.now.removal in
-    (bytes_listing t.1.0.shows m.dir.number m.dir.attrs t.1.1.hangs.shown_dir t.1.1.hangs.directory).blocks
-
-pub find_room-requires-clause-whole : goal.find_room-requires-clause-whole
-find_room-requires-clause-whole g c =
+pub find_room-requires : goal.find_room-requires
+find_room-requires g c =
     let t = c.requires.goes in
     let m = c.args.planned.now in
-    size_whole t.1.0.shows m.dir.number m.dir.attrs t.1.1.shown t.1.1.directory
-
-pub find_room-requires-clause-bounded : goal.find_room-requires-clause-bounded
-find_room-requires-clause-bounded g c =
-    let t = c.requires.goes in
-    let m = c.args.planned.now in
-    size_bounded t.1.0.shows m.dir.number m.dir.attrs t.1.1.shown t.1.1.directory
-
-pub find_room-requires-clause-above : goal.find_room-requires-clause-above
-find_room-requires-clause-above g c = let t = c.requires.goes in above t.1.0.shows t.1.0.tree t.1.1
-
-pub find_room-requires-clause-blocks : goal.find_room-requires-clause-blocks
-find_room-requires-clause-blocks g c =
-    let t = c.requires.goes in
     let taking = c.take_name-taken.ensures.room.1 in
-    subst AreBlocks (sym (seen_through t.1.0.shows t.1.0.tree t.1.1 taking _ (same_content c.take_name-taken.ensures.state) c.then_some-seen.result _ refl c.then_some-seen.ensures))
-    (seen_listing t.1.0.shows t.1.0.tree t.1.1 taking).blocks
-
-pub find_room-requires-clause-free : goal.find_room-requires-clause-free
-find_room-requires-clause-free g c =
-    let t = c.requires.goes in
-    let taking = c.take_name-taken.ensures.room.1 in
-    ap (λ bs. number_in c.args.new.now (listed bs)) (seen_through t.1.0.shows t.1.0.tree t.1.1 taking _ (same_content c.take_name-taken.ensures.state) c.then_some-seen.result _ refl c.then_some-seen.ensures)
-    ∙ seen_free t.1.0.shows t.1.0.tree t.1.1 taking
+    let same = same_content c.take_name-taken.ensures.state in
+    let seen = seen_through t.1.0.shows t.1.0.tree t.1.1 taking _ same c.then_some-seen.result _ refl c.then_some-seen.ensures in
+    record {
+      stored = subst (λ x. HasBlocks x m.dir.number m.dir.attrs.size) (sym same) (dir_stored t.1.0.shows m.dir.number m.dir.attrs t.1.1.shown t.1.1.directory);
+      bounded = size_bounded t.1.0.shows m.dir.number m.dir.attrs t.1.1.shown t.1.1.directory;
+      stands = search rules;
+      blocks = subst AreBlocks (sym seen) (seen_listing t.1.0.shows t.1.0.tree t.1.1 taking).blocks;
+      above = above t.1.0.shows t.1.0.tree t.1.1;
+      free = ap (λ bs. number_in c.args.new.now (listed bs)) seen ∙ seen_free t.1.0.shows t.1.0.tree t.1.1 taking;
+    }
 
 pub returns-in_err-room-clause-places : goal.returns-in_err-room-clause-places
 returns-in_err-room-clause-places g c =

@@ -11,7 +11,8 @@ use Rattle.lfs_types.specs.declared.request.Request.TheVariants.{Rename}
 use Rattle.lfs_calls.specs.declared.renaming.Places.{Places}
 use Rattle.lfs_model.specs.Rules.{Judges, decide, last, rule_table}
 use Rattle.lfs_calls.specs.Content.{FitsNowhere}
-use Rattle.lfs_calls.specs.Renames.{IsMove, GoesTo, ArePlaces, IsBlockOf, name_left}
+use Rattle.lfs_calls.specs.Makes.{IsBlockOf}
+use Rattle.lfs_calls.specs.Renames.{IsMove, GoesTo, ArePlaces, name_left}
 use Rattle.lfs_calls.proofs.RenameEffects.{moves_first, goes, fills, crowds, not_full, old_block, new_block, shows_after, tree_after}
 use Rattle.lfs_calls.proofs.WriteLemmas.{refused_outcome}
 use Rattle.lfs_calls.proofs.renaming.rename.Goals as goal

@@ -2,7 +2,7 @@ use Rattle.std.proofs.Common.{Err, sym, ap, ◌∙◌}
 use Rattle.std.specs.Prelude.{ok_or}
 use Rattle.std.proofs.lemmas.Result.{err_from_is_err_and}
 use Rattle.lfs_model.proofs.Deciding.{ask_met, ask_unmet}
-use Rattle.lfs_calls.proofs.Directories.{size_whole}
+use Rattle.lfs_calls.proofs.Directories.{dir_stored}
 use Rattle.lfs_calls.proofs.StepLemmas.{steps_no_search, steps_on}
 use Rattle.lfs_calls.proofs.walking.step.Goals as goal
 
@@ -15,9 +15,9 @@ returns-in_err-ask-2-clause-step g c w v =
     ∙ sym (steps_no_search (g.F.FileStore.state c.args.store.now).content w v.shows c.args.cred.now c.args.path c.args.at c.args.dir c.args.name.now c.in-Some.attrs c.in-Some.ensures
     (sym c.is_directory.ensures ∙ dir) (sym c.grants.ensures ∙ search.0))
 
-pub look_up-requires-clause-whole : goal.look_up-requires-clause-whole
-look_up-requires-clause-whole g c =
-    size_whole c.requires.world.1.shows c.args.dir c.in-Some.attrs c.in-Some.ensures (sym c.is_directory.ensures ∙ ask_met c.is_directory.result _ _ c.in_ok-ask.ensures)
+pub look_up-requires : goal.look_up-requires
+look_up-requires g c =
+    dir_stored c.requires.world.1.shows c.args.dir c.in-Some.attrs c.in-Some.ensures (sym c.is_directory.ensures ∙ ask_met c.is_directory.result _ _ c.in_ok-ask.ensures)
 
 pub returns-clause-step : goal.returns-clause-step
 returns-clause-step g c w v =
