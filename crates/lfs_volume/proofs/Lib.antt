@@ -1,1 +1,3 @@
+pub mod CleaningLemmas
 pub mod JournalLemmas
+pub mod StepLemmas

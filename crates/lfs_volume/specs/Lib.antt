@@ -1,3 +1,5 @@
+pub mod Cleanings
 pub mod Copies
 pub mod Journals
 pub mod Seen
+pub mod StepRuns

@@ -5,17 +5,23 @@ ghost use Rattle.std.specs.Vec.{vec_capacity};
 ghost use Rattle.lfs_types.specs.StoreStates.{Follows};
 ghost use Rattle.lfs_types.specs.Tree.{opening_content};
 ghost use Rattle.lfs_types.specs.declared.level.Level.TheVariants.{Insecure};
-ghost use Rattle.lfs_model.specs.Runs.{IsUnserved, kept, kept_entry};
+ghost use Rattle.lfs_model.specs.Runs.{IsUnserved, kept, kept_cleaning, kept_entry, kept_step, kept_steps};
 ghost use Rattle.lfs_model.specs.Steps.{world_of};
 ghost use Rattle.lfs_calls.specs.Outcomes.{IsOutcome};
-ghost use Rattle.lfs_calls.specs.Volumes.{HasWorld};
+ghost use Rattle.lfs_calls.specs.Volumes.{HasWorld, IsVolume};
+ghost use Rattle.lfs_volume.specs.Cleanings.{CleansOnly, IsCleanerAnswer, cleaner_of};
 ghost use Rattle.lfs_volume.specs.Copies.{is_lack_of_memory};
 ghost use Rattle.lfs_volume.specs.Journals.{AreAnswers, IsAnswered, IsJournal, Stays, StaysJournal, level_left};
+ghost use Rattle.lfs_volume.specs.StepRuns.{AreLegalAlone, AreSteps, IsActMade};
 
+use crate::cleaning::{cleaned, outcome};
 use lfs_calls::halt::answered;
 use lfs_calls::serving::serve;
-use lfs_model::journal::{Call, Entry, Event};
+use lfs_model::journal::{Call, CleanerAnswer, CleanerKind, Entry, Event};
+use lfs_model::steps::{Act, Step, StepAnswer};
 use lfs_types::answer::{Answer, Resource};
+use lfs_types::cleaned::CleanedStore;
+use lfs_types::cleaner::CleanerCall;
 use lfs_types::cred::Cred;
 use lfs_types::level::Level;
 use lfs_types::request::Request;
@@ -68,6 +74,8 @@ impl<F: FileStore + Drop> Volume<F> {
         ensures full { (result ≡ Answer.Refused Resource.JournalFull)
             ↔ (length self.old.journal ≡ self.old.limit) }
         ensures at_limit { length self.old.journal ≡ self.old.limit → self.new ≡ self.old }
+        ensures shown { let old = F.state self.old.store in
+            IsVolume old (world_of old.shape.numbers self.old.journal) }
         ensures outcome { length self.old.journal < self.old.limit
             → let old = F.state self.old.store in
             IsOutcome old (world_of old.shape.numbers self.old.journal) cred.now request result }
@@ -151,6 +159,86 @@ impl<F: FileStore + Drop> Volume<F> {
         ensures { result ≡ (F.state self.now.store).clean }
     {
         self.store.clean_segments()
+    }
+}
+
+impl<F: CleanedStore + Drop> Volume<F> {
+    /// Makes a call of the cleaner, and enters what came of it. It is denied to all but the superuser, and changes no
+    /// file; the bytes of the ifile alone may want memory.
+    pub fn clean(&mut self, session: u8, cred: &Cred, call: CleanerCall) -> CleanerAnswer
+        ensures full { (result ≡ CleanerAnswer.Refused Resource.JournalFull)
+            ↔ (length self.old.journal ≡ self.old.limit) }
+        ensures at_limit { length self.old.journal ≡ self.old.limit → self.new ≡ self.old }
+        ensures shown { let old = F.state self.old.store in
+            IsVolume old (world_of old.shape.numbers self.old.journal) }
+        ensures answered { length self.old.journal < self.old.limit → IsCleanerAnswer
+            (cleaner_of F.state F.gives_ifile F.gives_infos F.gives_addresses F.writes_again F.reclaims)
+            self.old.store cred.now call result self.new.store }
+        ensures entered { self.new.journal ≡ self.old.journal
+            ++ kept_cleaning session cred.now call result }
+        ensures legal { IsJournal (F.state self.new.store) self.new.level self.new.journal self.new.limit }
+        ensures stays { Stays (F.state self.old.store) (F.state self.new.store) self.old.level self.new.level }
+        ensures cleans { CleansOnly result (F.state self.old.store) (F.state self.new.store) }
+        ensures limit { self.new.limit ≡ self.old.limit }
+    {
+        if self.journal.len() == self.limit as usize {
+            return CleanerAnswer::Refused(Resource::JournalFull);
+        }
+        let kind = CleanerKind::of(&call);
+        let answer = cleaned(&mut self.store, cred, call);
+        let Some(outcome) = outcome(&answer) else {
+            return answer;
+        };
+        let cleaning = Event::Cleaner(kind, outcome);
+        enter(&mut self.journal, session, cred, cleaning);
+        answer
+    }
+
+    /// Makes steps one after another, each as `call` or `clean` does. Room for the answers is asked for before the
+    /// first. Without the cleaner's steps the users' would have the same answers.
+    pub fn run_steps(&mut self, steps: Vec<Step>) -> Result<Vec<StepAnswer>, RunMemory>
+        ensures each { IfOk result (λ answers. AreSteps
+            (cleaner_of F.state F.gives_ifile F.gives_infos F.gives_addresses F.writes_again F.reclaims)
+            self.old.limit self.old.journal self.old.store steps.items answers.items self.new.store) }
+        ensures entered { IfOk result (λ answers. self.new.journal
+            ≡ self.old.journal ++ kept_steps steps.items answers.items) }
+        ensures legal { IsJournal (F.state self.new.store) self.new.level self.new.journal self.new.limit }
+        ensures users_alone { IfOk result (λ answers. let shape = (F.state self.old.store).shape in
+            AreLegalAlone shape (kept_steps steps.items answers.items)
+            (world_of shape.numbers self.old.journal) (world_of shape.numbers self.new.journal)) }
+        ensures refused { IfErr result (λ _. self.new ≡ self.old) }
+        ensures limit { self.new.limit ≡ self.old.limit }
+        ensures shape { (F.state self.new.store).shape ≡ (F.state self.old.store).shape }
+    {
+        let mut answers = match Vec::with_capacity(*self.journal.allocator(), steps.len()) {
+            Ok(answers) => answers,
+            Err(_) => return Err(RunMemory),
+        };
+        for step in steps {
+            let answered = self.make(step);
+            match answers.push(answered) {
+                Ok(()) => (),
+                Err(_) => unreachable!(),
+            }
+        }
+        Ok(answers)
+    }
+
+    /// Makes one step, as `call` or `clean` does.
+    fn make(&mut self, step: Step) -> StepAnswer
+        ensures made { IsActMade
+            (cleaner_of F.state F.gives_ifile F.gives_infos F.gives_addresses F.writes_again F.reclaims)
+            self.old.limit self.old.journal self.old.store step.cred step.act result self.new.store }
+        ensures entered { self.new.journal ≡ self.old.journal ++ kept_step step result }
+        ensures legal { IsJournal (F.state self.new.store) self.new.level self.new.journal self.new.limit }
+        ensures limit { self.new.limit ≡ self.old.limit }
+        ensures shape { (F.state self.new.store).shape ≡ (F.state self.old.store).shape }
+    {
+        let Step { session, cred, act } = step;
+        match act {
+            Act::User(request) => StepAnswer::User(self.call(session, &cred, request)),
+            Act::Cleaner(call) => StepAnswer::Cleaner(self.clean(session, &cred, call)),
+        }
     }
 }
 

@@ -1,0 +1,41 @@
+-- An answered call of the cleaner is a step.
+use Rattle.std.proofs.Common.{◌≡◌, ℕ, ◌+◌, ◌≤◌, List, Some, sym, subst}
+use Rattle.std.specs.Prelude.{IfSome}
+use Rattle.lfs_types.specs.Caller.{Caller}
+use Rattle.lfs_types.specs.StoreStates.{StoreState}
+use Rattle.lfs_types.specs.declared.cleaner.CleanerCall.{CleanerCall}
+use Rattle.lfs_types.specs.declared.level.Level.{Level}
+use Rattle.lfs_model.specs.declared.journal.CleanerAnswer.{CleanerAnswer}
+use Rattle.lfs_model.specs.declared.journal.CleanerAnswer.TheVariants.{Refused, Denied, Fault, Ifile, Infos, Bmapv, Marked, Cleaned}
+use Rattle.lfs_model.specs.declared.journal.CleanerOutcome.{CleanerOutcome}
+use Rattle.lfs_model.specs.declared.journal.Entry.{Entry}
+use Rattle.lfs_model.specs.declared.journal.Event.TheVariants.{Cleaner}
+use Rattle.lfs_model.specs.Cleaning.{IsCleaning}
+use Rattle.lfs_model.specs.Runs.{cleans, kind_of, outcome_of}
+use Rattle.lfs_model.specs.Steps.{world_of}
+use Rattle.lfs_calls.specs.Content.{Shows}
+use Rattle.lfs_volume.specs.Cleanings.{CleansOnly, IsCleaned}
+use Rattle.lfs_volume.specs.Journals.{IsJournal, IsStep}
+
+-- the shape stays, whatever the answer
+pub shape_stays : (answer : CleanerAnswer) (old new : StoreState) → CleansOnly answer old new → new.shape ≡ old.shape
+shape_stays (Refused resource) old new h = h.shape
+shape_stays (Denied denial) old new h = h.shape
+shape_stays (Fault fault) old new h = h.shape
+shape_stays (Ifile bytes) old new h = h.shape
+shape_stays (Infos infos) old new h = h.shape
+shape_stays (Bmapv infos) old new h = h.shape
+shape_stays (Marked count) old new h = h.shape
+shape_stays Cleaned old new h = cc
+
+pub IsStep-cleaned : (old new : StoreState) (level : Level) (es : List Entry) (limit : ℕ) (caller : Caller) (call : CleanerCall) (answer : CleanerAnswer)
+    (outcome : CleanerOutcome) → IsJournal old level es limit → IsCleaned old new caller call answer → outcome_of answer ≡ Some outcome
+    → IsStep old new level (world_of old.shape.numbers es) caller (Cleaner (kind_of call) outcome)
+IsStep-cleaned old new level es limit caller call answer outcome j is comes = record {
+  happens = subst (λ o. IfSome o (IsCleaning old.shape.numbers old.shape.segments caller (kind_of call))) comes is.outcome;
+  leaves = record { shows = subst (λ c. Shows c (world_of old.shape.numbers es)) (sym is.content) j.shown.shows; tree = j.shown.tree };
+  leveled = j.at_level;
+  space = λ no. absurd no;
+  clean = subst (λ o. IfSome o (λ (x : CleanerOutcome). new.clean ≤ old.clean + cleans (Cleaner (kind_of call) x))) comes is.told;
+  shape = shape_stays answer old new is.leaves;
+}
