@@ -1,1 +1,3 @@
+pub mod ChoosingLemmas
+pub mod PassLemmas
 pub mod SettleLemmas

@@ -1,2 +1,5 @@
+pub mod Choosing
 pub mod Entering
 pub mod Interleaving
+pub mod Passing
+pub mod Serving

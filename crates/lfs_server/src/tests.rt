@@ -1,5 +1,10 @@
 //! What no clause says of settling: that a run that was really made settles.
 
+mod log;
+mod passing;
+mod running;
+mod serving;
+
 use crate::settle::{Unsettled, settle};
 use lfs_flatfiles::flat_files::FlatFiles;
 use lfs_types::answer::{Answer, Served};

@@ -1,0 +1,26 @@
+-- Why a run is not handed out.
+use Rattle.std.specs.Prelude.{◌≡◌, ℕ, ◌<◌, ◌≤◌, ◌⊎◌}
+use Rattle.lfs_types.specs.declared.fault.FormatFault.TheVariants.{TooFew, TooMany}
+use Rattle.lfs_landing.specs.Opening.{IsTooFew, IsTooMany}
+use Rattle.lfs_server.specs.declared.serving.ServeFault.{ServeFault}
+use Rattle.lfs_server.specs.declared.serving.ServeFault.TheVariants.{Sessions, Format, Memory, Unsettled, Thread}
+
+-- the fault of a run that was begun
+abbrev pub IsRunFault : ServeFault → Type 0
+IsRunFault Sessions = ⊥
+IsRunFault (Format fault) = ⊥
+IsRunFault fault = Unit {0}
+
+-- the fault of a run of so many sessions over a volume: Sessions for none and for more than eight, and then alone
+abbrev pub IsFaultOf : ℕ → ServeFault → Type 0
+IsFaultOf sessions Sessions = (sessions ≡ 0) ⊎ (8 < sessions)
+IsFaultOf sessions fault = IsRunFault fault × (0 < sessions) × (sessions ≤ 8)
+
+-- the fault of a run of so many sessions on a volume that is laid out for it: Sessions as above; Format for numbers of
+-- segments, inode numbers and frames out of their ranges
+abbrev pub IsServeFault : ℕ → ℕ → ℕ → ℕ → ServeFault → Type 0
+IsServeFault sessions segments inodes frames Sessions = (sessions ≡ 0) ⊎ (8 < sessions)
+IsServeFault sessions segments inodes frames (Format TooFew) = IsTooFew segments inodes frames × (0 < sessions) × (sessions ≤ 8)
+IsServeFault sessions segments inodes frames (Format TooMany) = IsTooMany segments inodes frames × (0 < sessions) × (sessions ≤ 8)
+IsServeFault sessions segments inodes frames (Format fault) = ⊥
+IsServeFault sessions segments inodes frames fault = (0 < sessions) × (sessions ≤ 8)

@@ -1,0 +1,274 @@
+//! A run: the setup, then sessions on threads and the cleaner beside them, over one volume; settled before it is handed out.
+
+ghost use Rattle.std.specs.Prelude.{◌≡◌, ◌⊎◌, ◌<◌, ◌≤◌, ◌↔◌, IfErr, IfOk, OnOk, vec_len, length};
+ghost use Rattle.lfs_server.specs.Interleaving.{IsInterleaving, run_of};
+ghost use Rattle.lfs_volume.specs.Journals.{IsJournal};
+ghost use Rattle.lfs_server.specs.Serving.{IsFaultOf, IsRunFault};
+ghost use Rattle.lfs_server.specs.declared.serving.ServeFault.TheVariants.{Memory};
+
+use crate::cleaner::run_cleaner;
+use crate::doorbell::{Button, Rings, doorbell};
+use crate::gate::Gate;
+use crate::session::{Session, run_session};
+use crate::settle::{Unsettled, settle};
+use lfs_types::answer::Answer;
+use lfs_types::cleaned::CleanedStore;
+use lfs_types::fault::FormatFault;
+use lfs_types::script::Script;
+use lfs_types::store::FileStore;
+use lfs_volume::volume::Volume;
+use std::alloc::{AllocError, Global};
+use std::sync::{Mutex, Wait};
+use std::thread;
+use std::thread::{JoinHandle, Scope, Threads};
+use thiserror::Error;
+
+/// The greatest number of sessions.
+const MOST_SESSIONS: usize = 8;
+
+/// The session that only an entry of no session is told by.
+const STRANGER: u8 = 255;
+
+/// The thread of a session, which gives its answers; `None` where it could not be started.
+type SessionThread = Option<JoinHandle<Result<Vec<Answer>, AllocError>>>;
+
+/// What a run leaves: the volume, and the answers in script order.
+#[derive(Drop)]
+pub struct Closed<F: FileStore + Drop> {
+    /// The volume.
+    pub volume: Volume<F>,
+    /// The answers to the setup.
+    pub setup: Vec<Answer>,
+    /// The answers to each session's script, session 1's first.
+    pub transcripts: Vec<Vec<Answer>>,
+}
+
+/// Why a run was not made, or is not handed out.
+#[derive(Clone, Copy, PartialEq, Eq, Debug, Error)]
+pub enum ServeFault {
+    /// There are no sessions, or more than eight.
+    #[error("serve Sessions")]
+    Sessions,
+    /// The volume could not be made.
+    #[error("format {0}")]
+    Format(FormatFault),
+    /// A growth was refused.
+    #[error("no memory")]
+    Memory,
+    /// The journal is not as this session was answered: 0 is the setup; 255 says that an entry is of no session, or that
+    /// the journal has another limit.
+    #[error("serve Unsettled")]
+    Unsettled(u8),
+    /// A thread could not be started.
+    #[error("serve Thread")]
+    Thread,
+}
+
+impl From<AllocError> for ServeFault {
+    ghost from_gives = { λ _ fault. fault ≡ Memory };
+
+    fn from(_error: AllocError) -> ServeFault {
+        ServeFault::Memory
+    }
+}
+
+/// Runs the setup as session 0 and then each script as a session on a thread of its own, session 1 to 8, with the cleaner
+/// on one more, as session 255 and user 0. A call is one holding of the lock on the volume. Faults of memory and threads
+/// come only after all threads have ended.
+pub fn serve_over<R, F, G>(
+    rt: &R,
+    alloc: Global,
+    volume: Volume<F>,
+    setup: Script,
+    sessions: Vec<Script>,
+    gate: &G,
+) -> Result<Closed<F>, ServeFault>
+where
+    R: Threads + Wait + Sync,
+    F: CleanedStore + Send + Drop,
+    G: Gate,
+    ensures settled { IfOk result (λ closed. IsInterleaving (run_of closed.volume.journal closed.volume.limit
+        setup closed.setup.items sessions.items closed.transcripts.items)) }
+    ensures limit { IfOk result (λ closed. closed.volume.limit ≡ volume.limit) }
+    ensures legal { IfOk result (λ closed. IsJournal (F.state closed.volume.store) closed.volume.level
+        closed.volume.journal closed.volume.limit) }
+    ensures sessions { OnOk result ((0 < vec_len sessions) × (vec_len sessions ≤ 8)) }
+    ensures fault { IfErr result (λ fault. IsFaultOf (vec_len sessions) fault) }
+{
+    if sessions.is_empty() || sessions.len() > MOST_SESSIONS {
+        return Err(ServeFault::Sessions);
+    }
+    let limit = volume.journal_limit();
+    let (button, rings) = doorbell(alloc)?;
+    let jobs = jobs(alloc, sessions.as_slice(), &button)?;
+    let mut volume = volume;
+    let answers = run_setup(alloc, &mut volume, &setup, gate)?;
+    button.ring(rt);
+    drop(button);
+    let shared = Mutex::new(volume);
+    let transcripts = run_threads(rt, alloc, &shared, jobs, &rings, gate)?;
+    let volume = shared.into_inner();
+    close(
+        volume,
+        limit,
+        &setup,
+        answers,
+        sessions.as_slice(),
+        transcripts,
+    )
+}
+
+/// The sessions of these scripts, with room for their answers.
+fn jobs<'a>(
+    alloc: Global,
+    scripts: &'a [Script],
+    button: &Button,
+) -> Result<Vec<Session<'a>>, AllocError> {
+    let mut jobs = Vec::with_capacity(alloc, scripts.len())?;
+    let mut number = 0u8;
+    for script in scripts {
+        number = number.saturating_add(1);
+        jobs.push(Session {
+            number,
+            alloc,
+            script,
+            button: button.try_clone()?,
+            answers: Vec::with_capacity(alloc, script.as_slice().len())?,
+        })?;
+    }
+    Ok(jobs)
+}
+
+/// Makes the calls of the setup, each of a copy of what it asks, and gives the answers.
+fn run_setup<F: FileStore + Drop, G: Gate>(
+    alloc: Global,
+    volume: &mut Volume<F>,
+    setup: &Script,
+    gate: &G,
+) -> Result<Vec<Answer>, AllocError> {
+    let mut answers = Vec::with_capacity(alloc, setup.as_slice().len())?;
+    let mut index = 0u32;
+    for (cred, request) in setup.as_slice() {
+        let copy = request.try_clone(alloc)?;
+        gate.before(0, index);
+        let answer = volume.call(0, cred, copy);
+        gate.after(0, index);
+        answers.push(answer)?;
+        index = index.saturating_add(1);
+    }
+    Ok(answers)
+}
+
+/// Runs the sessions and the cleaner, each on a thread of its own, and gives the answers of each session once all threads
+/// have ended.
+fn run_threads<R, F, G>(
+    rt: &R,
+    alloc: Global,
+    volume: &Mutex<Volume<F>>,
+    jobs: Vec<Session<'_>>,
+    rings: &Rings,
+    gate: &G,
+) -> Result<Vec<Vec<Answer>>, ServeFault>
+where
+    R: Threads + Wait + Sync,
+    F: CleanedStore + Send + Drop,
+    G: Gate,
+    ensures { IfErr result IsRunFault }
+{
+    thread::scope(
+        thread::scope_env(),
+        rt,
+        move |scope| -> Result<Vec<Vec<Answer>>, ServeFault>
+            ensures { IfErr result IsRunFault }
+        {
+            let threads = Vec::with_capacity(alloc, jobs.len())?;
+            if scope
+                .spawn(move || run_cleaner(rt, volume, rings, gate))
+                .is_err()
+            {
+                return Err(ServeFault::Thread);
+            }
+            let threads = start(scope, rt, volume, jobs, threads, gate)?;
+            joined(rt, alloc, threads)
+        },
+    )
+}
+
+/// Starts each session on a thread of its own, and puts the threads behind the others.
+fn start<'s, E, R, F, G>(
+    scope: &Scope<'s, E>,
+    rt: &'s R,
+    volume: &'s Mutex<Volume<F>>,
+    jobs: Vec<Session<'s>>,
+    mut threads: Vec<SessionThread>,
+    gate: &'s G,
+) -> Result<Vec<SessionThread>, AllocError>
+where
+    R: Threads + Wait + Sync,
+    F: CleanedStore + Send + Drop,
+    G: Gate,
+{
+    for session in jobs {
+        match scope.spawn(move || run_session(rt, volume, session, gate)) {
+            Ok(thread) => threads.push(Some(thread))?,
+            Err(_unstarted) => threads.push(None)?,
+        }
+    }
+    Ok(threads)
+}
+
+/// What the threads of the sessions gave, in order, if all were started and none lacked memory.
+fn joined<R: Threads>(
+    rt: &R,
+    alloc: Global,
+    threads: Vec<SessionThread>,
+) -> Result<Vec<Vec<Answer>>, ServeFault>
+    ensures { IfErr result IsRunFault }
+{
+    let mut transcripts = Vec::with_capacity(alloc, threads.len())?;
+    for thread in threads {
+        let Some(thread) = thread else {
+            return Err(ServeFault::Thread);
+        };
+        if transcripts.push(thread.join(rt)?).is_err() {
+            return Err(ServeFault::Memory);
+        }
+    }
+    Ok(transcripts)
+}
+
+/// Hands out what a run left, where its journal is an interleaving of what was asked and answered, and has this limit.
+fn close<F: FileStore + Drop>(
+    volume: Volume<F>,
+    limit: u32,
+    setup: &Script,
+    answers: Vec<Answer>,
+    sessions: &[Script],
+    transcripts: Vec<Vec<Answer>>,
+) -> Result<Closed<F>, ServeFault>
+    requires { length sessions.now ≤ 8 }
+    ensures settled { IfOk result (λ closed. IsInterleaving (run_of closed.volume.journal closed.volume.limit
+        setup.now closed.setup.items sessions.now closed.transcripts.items)) }
+    ensures limit { IfOk result (λ closed. closed.volume.limit ≡ limit) }
+    ensures legal { IfOk result (λ closed. IsJournal (F.state closed.volume.store) closed.volume.level
+        closed.volume.journal closed.volume.limit) }
+    ensures fault { IfErr result IsRunFault }
+{
+    if volume.journal_limit() != limit || transcripts.len() > MOST_SESSIONS {
+        return Err(ServeFault::Unsettled(STRANGER));
+    }
+    match settle(
+        &volume,
+        setup,
+        answers.as_slice(),
+        sessions,
+        transcripts.as_slice(),
+    ) {
+        Err(Unsettled(session)) => Err(ServeFault::Unsettled(session)),
+        Ok(()) => Ok(Closed {
+            volume,
+            setup: answers,
+            transcripts,
+        }),
+    }
+}

@@ -1,0 +1,104 @@
+//! What no clause says of a pass: that it goes through to its third round, told what a volume may answer.
+
+use crate::pass::Pass;
+use lfs_model::journal::CleanerAnswer;
+use lfs_types::cleaner::{BlockInfo, CleanFault, CleanerCall, InfoList};
+use lfs_types::payload::Bytes;
+use std::alloc::Global;
+use std::test::Fail;
+
+/// The bytes of an ifile of five segments: 1 is active, 2 and 4 are dirty with 512 live bytes, 3 with 768.
+const IFILE: [u8; 52] = [
+    b'L', b'F', b'I', b'F', 0, 0, 0, 5, 0, 0, 0, 0, // header
+    0, 0, 0, 0, 0, 0, 0, 0, // clean
+    0, 0, 0, 0, 0, 0, 0, 2, // active
+    0, 0, 2, 0, 0, 0, 0, 1, // dirty
+    0, 0, 3, 0, 0, 0, 0, 1, // dirty
+    0, 0, 2, 0, 0, 0, 0, 1, // dirty
+];
+
+/// A block of a file, at an address.
+fn info(lbn: u32, addr: u32) -> BlockInfo {
+    BlockInfo {
+        ino: 4,
+        version: 1,
+        lbn,
+        addr,
+    }
+}
+
+/// Ten blocks of a file, of which the last has this address.
+fn infos(last: u32) -> Result<InfoList, Fail> {
+    let infos = [
+        info(0, 128),
+        info(1, 129),
+        info(2, 130),
+        info(3, 131),
+        info(4, 132),
+        info(5, 133),
+        info(6, 134),
+        info(7, 135),
+        info(8, 136),
+        info(9, last),
+    ];
+    Ok(InfoList::new(&infos).ok_or("infos")?)
+}
+
+/// The answers to the calls of a round but the last.
+fn answers(alloc: Global) -> Result<Vec<CleanerAnswer>, Fail> {
+    let mut answers = Vec::new(alloc);
+    answers.push(CleanerAnswer::Ifile(Bytes::from(Vec::from_slice(alloc, &IFILE)?)))?;
+    answers.push(CleanerAnswer::Infos(infos(137)?))?;
+    answers.push(CleanerAnswer::Bmapv(infos(0)?))?;
+    answers.push(CleanerAnswer::Marked(8))?;
+    answers.push(CleanerAnswer::Marked(1))?;
+    Ok(answers)
+}
+
+/// A call in few words: its kind, and its segment or how many infos it has.
+fn told(call: Option<CleanerCall>) -> (&'static str, u32) {
+    match call {
+        None => ("over", 0),
+        Some(CleanerCall::Ifile) => ("ifile", 0),
+        Some(CleanerCall::Infos(segment)) => ("infos", segment),
+        Some(CleanerCall::Bmapv(infos)) => ("bmapv", infos.items().len() as u32),
+        Some(CleanerCall::Markv(marks)) => ("markv", marks.items().len() as u32),
+        Some(CleanerCall::Segclean(segment)) => ("segclean", segment),
+    }
+}
+
+/// What a round calls behind the ifile, told these answers.
+const CALLS: [(&str, u32); 5] = [
+    ("infos", 2),
+    ("bmapv", 10),
+    ("markv", 8),
+    ("markv", 1),
+    ("segclean", 2),
+];
+
+#[test]
+fn pass_has_three_rounds(rt: HostRuntime) -> Result<(), Fail> {
+    let answers = answers(rt.alloc())?;
+    let mut pass = Pass::new();
+    assert_eq!(rt; told(pass.next(None)), ("ifile", 0));
+    for more in ["ifile", "ifile", "over"] {
+        for (answer, call) in answers.as_slice().iter().zip(&CALLS) {
+            assert_eq!(rt; told(pass.next(Some(answer))), *call);
+        }
+        assert_eq!(rt; told(pass.next(Some(&CleanerAnswer::Cleaned))), (more, 0));
+    }
+    Ok(())
+}
+
+#[test]
+fn fault_ends_a_pass(rt: HostRuntime) -> Result<(), Fail> {
+    let answers = answers(rt.alloc())?;
+    let fault = CleanerAnswer::Fault(CleanFault::NotDirty);
+    let mut pass = Pass::new();
+    pass.next(None);
+    assert_eq!(rt; told(pass.next(Some(&fault))), ("over", 0));
+    for answer in answers.as_slice() {
+        assert_eq!(rt; told(pass.next(Some(answer))), ("over", 0));
+    }
+    Ok(())
+}
