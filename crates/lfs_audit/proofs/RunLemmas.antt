@@ -1,0 +1,343 @@
+-- Runs of steps grow by further steps, passes by further calls, and texts by their lines.
+use Rattle.std.proofs.Common.{◌≡◌, ℕ, suc, ◌+◌, ◌<◌, List, [], ◌∷◌, ◌++◌, length, Option, None, Some, Result, Ok, Err, OnOk, refl, sym, ap, subst, ◌∙◌, arith, append_assoc, append-nil, length-append}
+use Rattle.std.specs.Io.KnownBytes.{Appends, Keeps, append_known}
+use Rattle.std.proofs.KnownBytes.{Appends-kept, Appends-nil}
+use Rattle.lfs_types.specs.Caller.{Caller}
+use Rattle.lfs_types.specs.StoreStates.{Shape}
+use Rattle.lfs_types.specs.Tree.{opening_world}
+use Rattle.lfs_types.specs.declared.level.Level.{Level}
+use Rattle.lfs_types.specs.declared.answer.Answer.{Answer}
+use Rattle.lfs_types.specs.declared.cleaner.CleanerCall.{CleanerCall}
+use Rattle.lfs_types.specs.declared.request.Request.{Request}
+use Rattle.lfs_model.specs.declared.journal.CleanerAnswer.{CleanerAnswer}
+use Rattle.lfs_model.specs.declared.journal.Entry.{Entry}
+use Rattle.lfs_model.specs.declared.steps.Step.{Step as Made}
+use Rattle.lfs_model.specs.declared.steps.StepAnswer.{StepAnswer}
+use Rattle.lfs_model.specs.declared.steps.StepAnswer.TheVariants as told
+use Rattle.lfs_model.specs.Runs.{kept_step, kept_steps, kind_of}
+use Rattle.lfs_model.specs.Steps.{IsLegal, world_of}
+use Rattle.lfs_calls.specs.Volumes.{IsVolume}
+use Rattle.lfs_server.specs.Passing.{Steps, calls_left}
+use Rattle.lfs_server.specs.declared.pass.Pass.{Pass}
+use Rattle.lfs_text.specs.AnswerText.{answer_line}
+use Rattle.lfs_text.specs.CleanerText.{cleaner_line}
+use Rattle.lfs_text.specs.ReportText.{report_text}
+use Rattle.lfs_text.specs.declared.plan.Act.TheVariants as plan
+use Rattle.lfs_text.specs.declared.plan.Step.{Step}
+use Rattle.lfs_volume.specs.Cleanings.{Cleaner}
+use Rattle.lfs_volume.specs.Journals.{IsJournal}
+use Rattle.lfs_volume.specs.Seen.{Seen}
+use Rattle.lfs_volume.specs.StepRuns.{AreSteps, IsActMade}
+use Rattle.lfs_audit.specs.Output.{IsRun}
+use Rattle.lfs_audit.specs.Runs.{AreAsked, Cleans, IsAsked, IsPassing, Passes, Runs, Tells, Writes, call_line, call_step, cleaning_step, first_pass, lines_text}
+
+-- ---- steps
+
+-- there are as many answers as steps
+steps_count : {F : Type 0} (r : Cleaner F) (limit : ℕ) (journal : List Entry) (old new : F) (made : List Made) (answers : List StepAnswer)
+    → AreSteps r limit journal old made answers new → length answers ≡ length made
+steps_count r limit journal old new [] [] are = refl
+steps_count r limit journal old new [] (a ∷ answers) are = absurd are
+steps_count r limit journal old new (s ∷ made) [] are = absurd are
+steps_count r limit journal old new (s ∷ made) (a ∷ answers) are =
+    ap suc (steps_count r limit (journal ++ kept_step s a) are.0 new made answers are.3)
+
+-- what further steps keep
+kept-joined : (made : List Made) (answers : List StepAnswer) (more : List Made) (others : List StepAnswer) → length answers ≡ length made
+    → kept_steps (made ++ more) (answers ++ others) ≡ kept_steps made answers ++ kept_steps more others
+kept-joined [] [] more others h = refl
+kept-joined [] (a ∷ answers) more others h = absurd (omega (arith, h))
+kept-joined (s ∷ made) [] more others h = absurd (omega (arith, h))
+kept-joined (s ∷ made) (a ∷ answers) more others h =
+    ap (λ l. kept_step s a ++ l) (kept-joined made answers more others (omega (arith, h)))
+    ∙ sym (append_assoc (kept_step s a) (kept_steps made answers) (kept_steps more others))
+
+-- the lines of further answers
+lines-joined : (made : List Made) (answers : List StepAnswer) (more : List Made) (others : List StepAnswer) → length answers ≡ length made
+    → lines_text (made ++ more) (answers ++ others) ≡ lines_text made answers ++ lines_text more others
+lines-joined [] [] more others h = refl
+lines-joined [] (a ∷ answers) more others h = absurd (omega (arith, h))
+lines-joined (s ∷ made) [] more others h = absurd (omega (arith, h))
+lines-joined (s ∷ made) (a ∷ answers) more others h =
+    ap (λ (l : List ℕ). call_line s.session s.act a ++ l) (lines-joined made answers more others (omega (arith, h)))
+    ∙ sym (append_assoc (call_line s.session s.act a) (lines_text made answers) (lines_text more others))
+
+-- further steps were answered
+steps-joined : {F : Type 0} (r : Cleaner F) (limit : ℕ) (journal : List Entry) (first middle last : F) (made : List Made) (answers : List StepAnswer)
+    (more : List Made) (others : List StepAnswer) → AreSteps r limit journal first made answers middle
+    → AreSteps r limit (journal ++ kept_steps made answers) middle more others last
+    → AreSteps r limit journal first (made ++ more) (answers ++ others) last
+steps-joined {F} r limit journal first middle last [] [] more others are then =
+    subst (λ (s : F). AreSteps r limit journal s more others last) are
+    (subst (λ (j : List Entry). AreSteps r limit j middle more others last) (append-nil journal) then)
+steps-joined r limit journal first middle last [] (a ∷ answers) more others are then = absurd are
+steps-joined r limit journal first middle last (s ∷ made) [] more others are then = absurd are
+steps-joined r limit journal first middle last (s ∷ made) (a ∷ answers) more others are then = (
+  are.0,
+  are.1,
+  are.2,
+  steps-joined r limit (journal ++ kept_step s a) are.0 middle last made answers more others are.3
+      (subst (λ (j : List Entry). AreSteps r limit j middle more others last) (sym (append_assoc journal (kept_step s a) (kept_steps made answers))) then),
+)
+
+-- ---- a volume
+
+-- a volume as it was
+pub runs_none : {F : Type 0} (r : Cleaner F) (v : Seen F) → Runs r v v [] []
+runs_none r v = record {
+  answered = refl;
+  entered = sym (append-nil v.journal);
+  limit = refl;
+  shape = refl;
+}
+
+-- a volume by one step
+pub runs_one : {F : Type 0} (r : Cleaner F) (old new : Seen F) (step : Made) (answer : StepAnswer)
+    → IsVolume (r.state old.store) (world_of (r.state old.store).shape.numbers old.journal)
+    → IsActMade r old.limit old.journal old.store step.cred step.act answer new.store
+    → new.journal ≡ old.journal ++ kept_step step answer → new.limit ≡ old.limit
+    → (r.state new.store).shape ≡ (r.state old.store).shape → Runs r old new (step ∷ []) (answer ∷ [])
+runs_one r old new step answer shown made entered limit shape = record {
+  answered = (new.store, shown, made, refl);
+  entered = entered ∙ ap (λ (l : List Entry). old.journal ++ l) (sym (append-nil (kept_step step answer)));
+  limit = limit;
+  shape = shape;
+}
+
+-- a volume by further steps
+pub runs_joined : {F : Type 0} (r : Cleaner F) (old middle new : Seen F) (made : List Made) (answers : List StepAnswer) (more : List Made) (others : List StepAnswer)
+    → Runs r old middle made answers → Runs r middle new more others → Runs r old new (made ++ more) (answers ++ others)
+runs_joined r old middle new made answers more others before then =
+    let count = steps_count r old.limit old.journal old.store middle.store made answers before.answered in
+    record {
+      answered = steps-joined r old.limit old.journal old.store middle.store new.store made answers more others before.answered
+          (subst (λ (n : ℕ). AreSteps r n (old.journal ++ kept_steps made answers) middle.store more others new.store) before.limit
+          (subst (λ (j : List Entry). AreSteps r middle.limit j middle.store more others new.store) before.entered then.answered));
+      entered = then.entered
+          ∙ ap (λ (j : List Entry). j ++ kept_steps more others) before.entered
+          ∙ append_assoc old.journal (kept_steps made answers) (kept_steps more others)
+          ∙ ap (λ (l : List Entry). old.journal ++ l) (sym (kept-joined made answers more others count));
+      limit = then.limit ∙ before.limit;
+      shape = then.shape ∙ before.shape;
+    }
+
+-- the lines of what was done and of what was done then
+lines_of_runs : {F : Type 0} (r : Cleaner F) (old middle : Seen F) (made : List Made) (answers : List StepAnswer) (more : List Made) (others : List StepAnswer)
+    → Runs r old middle made answers → lines_text (made ++ more) (answers ++ others) ≡ lines_text made answers ++ lines_text more others
+lines_of_runs r old middle made answers more others before =
+    lines-joined made answers more others (steps_count r old.limit old.journal old.store middle.store made answers before.answered)
+
+-- a text with lines at its end, and with further ones
+text-joined : (before middle after lines more all : List ℕ) → middle ≡ before ++ lines → after ≡ middle ++ more → all ≡ lines ++ more → after ≡ before ++ all
+text-joined before middle after lines more all first then joined =
+    then ∙ ap (λ (l : List ℕ). l ++ more) first ∙ append_assoc before lines more ∙ ap (λ (l : List ℕ). before ++ l) (sym joined)
+
+-- ---- a line of a plan
+
+-- a user's call was made
+pub call_tells : {F : Type 0} (r : Cleaner F) (old new : Seen F) (session : ℕ) (caller : Caller) (request : Request) (answer : Answer) (before after : List ℕ)
+    → Runs r old new (call_step session caller request ∷ []) (told.User answer ∷ []) → after ≡ before ++ answer_line session answer
+    → Tells r old new session caller (plan.User request) before after
+call_tells r old new session caller request answer before after ran printed = record {
+  made = call_step session caller request ∷ [];
+  answers = told.User answer ∷ [];
+  asked = (told.User answer, refl, refl);
+  ran = ran;
+  printed = printed ∙ ap (λ (l : List ℕ). before ++ l) (sym (append-nil (answer_line session answer)));
+}
+
+-- a call of the cleaner was made
+pub cleaning_tells : {F : Type 0} (r : Cleaner F) (old new : Seen F) (session : ℕ) (caller : Caller) (call : CleanerCall) (answer : CleanerAnswer) (before after : List ℕ)
+    → Cleans r old new session caller call answer before after → Tells r old new session caller (plan.Cleaner call) before after
+cleaning_tells r old new session caller call answer before after cleans = record {
+  made = cleaning_step session caller call ∷ [];
+  answers = told.Cleaner answer ∷ [];
+  asked = (told.Cleaner answer, refl, refl);
+  ran = cleans.ran;
+  printed = cleans.printed ∙ ap (λ (l : List ℕ). before ++ l) (sym (append-nil (cleaner_line session (kind_of call) answer)));
+}
+
+-- ---- a pass
+
+-- a pass makes one more call
+passes-more : (session : ℕ) (caller : Caller) (pass : Pass) (last : Option CleanerAnswer) (made : List Made) (answers : List StepAnswer) (then : Pass) (latest : Option CleanerAnswer)
+    (call : CleanerCall) (given : CleanerAnswer) (next : Pass) → Passes session caller pass last made answers then latest → Steps then latest (Some call) next
+    → Passes session caller pass last (made ++ cleaning_step session caller call ∷ []) (answers ++ told.Cleaner given ∷ []) next (Some given)
+passes-more session caller pass last [] [] then latest call given next makes steps = (
+  call,
+  given,
+  next,
+  refl,
+  refl,
+  subst (λ (p : Pass). Steps p last (Some call) next) makes.0 (subst (λ (l : Option CleanerAnswer). Steps then l (Some call) next) makes.1 steps),
+  (refl, refl),
+)
+passes-more session caller pass last [] (a ∷ answers) then latest call given next makes steps = absurd makes
+passes-more session caller pass last (s ∷ made) [] then latest call given next makes steps = absurd makes
+passes-more session caller pass last (s ∷ made) (a ∷ answers) then latest call given next makes steps = (
+  makes.0,
+  makes.1,
+  makes.2,
+  makes.3,
+  makes.4,
+  makes.5,
+  passes-more session caller makes.2 (Some makes.1) made answers then latest call given next makes.6 steps,
+)
+
+-- a pass begins
+pub pass_begins : {F : Type 0} (r : Cleaner F) (v : Seen F) (session : ℕ) (caller : Caller) (pass : Pass) (last : Option CleanerAnswer) (text : List ℕ)
+    → pass ≡ first_pass → last ≡ None → calls_left pass ≡ 105 → IsPassing r v v session caller pass last text text
+pass_begins r v session caller pass last text ready none left = record {
+  made = [];
+  answers = [];
+  makes = (ready, none);
+  ran = runs_none r v;
+  printed = sym (append-nil text);
+  few = omega (arith, left);
+}
+
+-- a pass goes on by one call
+pub pass_goes_on : {F : Type 0} (r : Cleaner F) (old middle new : Seen F) (session : ℕ) (caller : Caller) (pass : Pass) (last : Option CleanerAnswer)
+    (call : CleanerCall) (answer : CleanerAnswer) (next : Pass) (before text after : List ℕ)
+    → IsPassing r old middle session caller pass last before text → Steps pass last (Some call) next → calls_left next < calls_left pass
+    → Cleans r middle new session caller call answer text after → IsPassing r old new session caller next (Some answer) before after
+unfolding cleaning_tells
+pass_goes_on r old middle new session caller pass last call answer next before text after passing steps fewer cleans =
+    let one = cleaning_step session caller call ∷ [] in
+    let given = told.Cleaner answer ∷ [] in
+    let line = cleaning_tells r middle new session caller call answer text after cleans in
+    record {
+      made = passing.made ++ one;
+      answers = passing.answers ++ given;
+      makes = passes-more session caller first_pass None passing.made passing.answers pass last call answer next passing.makes steps;
+      ran = runs_joined r old middle new passing.made passing.answers one given passing.ran cleans.ran;
+      printed = text-joined before text after (lines_text passing.made passing.answers) (lines_text one given) (lines_text (passing.made ++ one) (passing.answers ++ given)) passing.printed line.printed
+          (lines_of_runs r old middle passing.made passing.answers one given passing.ran);
+      few = let count : length (passing.made ++ one) ≡ length passing.made + 1 = length-append passing.made one in omega (arith, count, passing.few, fewer);
+    }
+
+-- a pass makes no call any more
+pub pass_ends : {F : Type 0} (r : Cleaner F) (old new : Seen F) (session : ℕ) (caller : Caller) (pass : Pass) (last : Option CleanerAnswer) (next : Pass) (before after : List ℕ)
+    → IsPassing r old new session caller pass last before after → Steps pass last None next → Tells r old new session caller plan.Pass before after
+pass_ends r old new session caller pass last next before after passing ends = record {
+  made = passing.made;
+  answers = passing.answers;
+  asked = record {
+    pass = pass;
+    last = last;
+    after = next;
+    makes = passing.makes;
+    ends = ends;
+    few = omega (arith, passing.few);
+  };
+  ran = passing.ran;
+  printed = passing.printed;
+}
+
+-- ---- the lines of a plan
+
+-- a further line was asked for
+asked-more : (steps : List Step) (made : List Made) (answers : List StepAnswer) (step : Step) (more : List Made) (others : List StepAnswer)
+    → AreAsked steps made answers → IsAsked step.session step.cred step.act more others → AreAsked (steps ++ step ∷ []) (made ++ more) (answers ++ others)
+asked-more [] made answers step more others are is = (
+  more,
+  [],
+  others,
+  [],
+  ap (λ (l : List Made). l ++ more) are.0 ∙ sym (append-nil more),
+  ap (λ (l : List StepAnswer). l ++ others) are.1 ∙ sym (append-nil others),
+  is,
+  (refl, refl),
+)
+asked-more (s ∷ steps) made answers step more others are is = (
+  are.0,
+  are.1 ++ more,
+  are.2,
+  are.3 ++ others,
+  ap (λ (l : List Made). l ++ more) are.4 ∙ append_assoc are.0 are.1 more,
+  ap (λ (l : List StepAnswer). l ++ others) are.5 ∙ append_assoc are.2 are.3 others,
+  are.6,
+  asked-more steps are.1 are.3 step more others are.7 is,
+)
+
+-- what is known to be written and what is collected grow by what is collected further
+pub collected : (start known : Option (List ℕ)) (old new lines line : List ℕ) → Appends start (append_known known old) lines → new ≡ old ++ line → Appends start (append_known known new) (lines ++ line)
+collected None known old new lines line p grown = tt
+collected (Some x) None old new lines line p grown = absurd p
+collected (Some x) (Some y) old new lines line p grown =
+    rw grown (sym (append_assoc y old line) ∙ ap (λ (xs : List ℕ). xs ++ line) p ∙ append_assoc x lines line)
+
+-- no line was done
+pub writes_none : {F : Type 0} (r : Cleaner F) (v : Seen F) (start : Option (List ℕ)) → Writes r v v [] start start
+writes_none r v start = record {
+  made = [];
+  answers = [];
+  asked = (refl, refl);
+  ran = runs_none r v;
+  printed = Appends-nil start;
+}
+
+-- a further line was done, its answers' lines were collected, and perhaps a piece was written
+pub writes_more : {F : Type 0} (r : Cleaner F) (old middle new : Seen F) (steps : List Step) (step : Step) (start known left : Option (List ℕ)) (text after : List ℕ)
+    → Writes r old middle steps start (append_known known text) → Tells r middle new step.session step.cred step.act text after
+    → Keeps (append_known known after) left → Writes r old new (steps ++ step ∷ []) start left
+writes_more r old middle new steps step start known left text after writes tells keeps =
+    let lines = lines_text writes.made writes.answers in
+    let more = lines_text tells.made tells.answers in
+    let grown : Appends start (append_known known after) (lines ++ more) = collected start known text after lines more writes.printed tells.printed in
+    let joined = lines_of_runs r old middle writes.made writes.answers tells.made tells.answers writes.ran in
+    record {
+      made = writes.made ++ tells.made;
+      answers = writes.answers ++ tells.answers;
+      asked = asked-more steps writes.made writes.answers step tells.made tells.answers writes.asked tells.asked;
+      ran = runs_joined r old middle new writes.made writes.answers tells.made tells.answers writes.ran tells.ran;
+      printed = subst (λ (l : List ℕ). Appends start left l) (sym joined) (Appends-kept start (append_known known after) left (lines ++ more) grown keeps);
+    }
+
+-- ---- results
+
+-- what follows a result that is Ok
+pub on_ok : {A E X Y : Type 0} (result : Result A E) → OnOk result X → (X → Y) → OnOk result Y
+on_ok (Ok a) x next = next x
+on_ok (Err e) x next = tt
+
+-- nothing is collected first, and in the end all is written
+pub all-written : (start known written left : Option (List ℕ)) (text lines more whole : List ℕ) → Appends (append_known start []) (append_known known text) lines → whole ≡ text ++ more → Appends known written whole → Keeps written left → Appends start left (lines ++ more)
+all-written None known written left text lines more whole p grown w k = tt
+all-written (Some x) None written left text lines more whole p grown w k = absurd p
+all-written (Some x) (Some y) None left text lines more whole p grown w k = absurd w
+all-written (Some x) (Some y) (Some z) None text lines more whole p grown w k = k
+all-written (Some x) (Some y) (Some z) (Some v) text lines more whole p grown w k =
+    let first : y ++ text ≡ x ++ lines = p ∙ ap (λ (xs : List ℕ). xs ++ lines) (append-nil x) in
+    k ∙ w ∙ ap (λ (xs : List ℕ). y ++ xs) grown ∙ sym (append_assoc y text more) ∙ ap (λ (xs : List ℕ). xs ++ more) first ∙ append_assoc x lines more
+
+-- the lines of a plan were done on a volume without entries, and all is written
+pub whole_run : {F : Type 0} (r : Cleaner F) (old new : Seen F) (level : Level) (limit : ℕ) (steps : List Step) (shown : List Entry) (empty text whole out : List ℕ) (start known written left : Option (List ℕ))
+    → old.journal ≡ [] → Writes r old new steps (append_known start empty) (append_known known text) → shown ≡ new.journal
+    → IsJournal (r.state new.store) level shown limit → empty ≡ []
+    → whole ≡ text ++ report_text shown → out ≡ whole → Appends known written out → Keeps written left
+    → (all : List ℕ) × IsRun r old.limit old.store steps all × Appends start left all
+whole_run {F} r old new level limit steps shown empty text whole out start known written left none writes shows journal nothing grown is wrote stays =
+    let made = writes.made in
+    let answers = writes.answers in
+    let lines = lines_text made answers in
+    let shape = (r.state old.store).shape in
+    let entries : shown ≡ kept_steps made answers = shows ∙ writes.ran.entered ∙ ap (λ (j : List Entry). j ++ kept_steps made answers) none in
+    let from_empty : Appends (append_known start []) (append_known known text) lines =
+    subst (λ (e : List ℕ). Appends (append_known start e) (append_known known text) lines) nothing writes.printed in
+    let last : out ≡ text ++ report_text (kept_steps made answers) = is ∙ grown ∙ ap (λ (xs : List ℕ). text ++ xs) (ap report_text entries) in
+    let legal : IsLegal shape.numbers shape.segments (kept_steps made answers) opening_world =
+    subst (λ (j : List Entry). IsLegal shape.numbers shape.segments j opening_world) entries
+    (subst (λ (s : Shape). IsLegal s.numbers s.segments shown opening_world) writes.ran.shape journal.legal) in (
+      lines ++ report_text (kept_steps made answers),
+      record {
+        made = made;
+        answers = answers;
+        after = new.store;
+        asked = writes.asked;
+        answered = subst (λ (j : List Entry). AreSteps r old.limit j old.store made answers new.store) none writes.ran.answered;
+        legal = legal;
+        printed = refl;
+      },
+      all-written start known written left text lines (report_text (kept_steps made answers)) out from_empty last wrote stays,
+    )

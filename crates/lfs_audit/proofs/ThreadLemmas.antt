@@ -1,0 +1,162 @@
+-- What a run on threads prints, line by line and session by session.
+use Rattle.std.proofs.Common.{Result, Err, IfErr, OnOk, ◌≡◌, ℕ, zero, suc, ◌+◌, ◌-◌, ◌<◌, ◌≤◌, Bool, List, [], ◌∷◌, ◌++◌, length, map, take, get_or, Option, None, Some, IfSome, Ok, refl, sym, ap, subst, ◌∙◌, arith, append_assoc, append-nil, false}
+use Rattle.std.proofs.lemmas.Grind.{flat_map-append}
+use Rattle.std.proofs.lemmas.List.{length-map, take_more}
+use Rattle.std.specs.Io.KnownBytes.{Appends, Keeps, append_known}
+use Rattle.std.specs.Global.{Vec}
+use Rattle.std.specs.List.{list_any, slice_get}
+use Rattle.std.proofs.KnownBytes.{Appends-kept, Appends-trans}
+use Rattle.lfs_types.specs.Caller.{Caller}
+use Rattle.lfs_types.specs.StoreStates.{Shape}
+use Rattle.lfs_types.specs.declared.answer.Answer.{Answer}
+use Rattle.lfs_types.specs.declared.request.Request.{Request}
+use Rattle.lfs_model.specs.declared.journal.Entry.{Entry}
+use Rattle.lfs_server.specs.Interleaving.{Agrees, IsInterleaving, Run, is_full, later_entries, run_of}
+use Rattle.lfs_text.specs.AnswerText.{answer_line}
+use Rattle.lfs_text.specs.PlanTypes.{Planned}
+use Rattle.lfs_text.specs.Plans.{plan_of}
+use Rattle.lfs_text.specs.ReportText.{report_text}
+use Rattle.lfs_text.specs.Splitting.{Sorts, is_of_cleaner}
+use Rattle.lfs_audit.specs.declared.fault.ThreadsFault.{ThreadsFault}
+use Rattle.lfs_audit.specs.Threads.{IsClosedText, IsThreadsOutput, MayHaveWrittenThreads, closed_text, transcript_text, transcripts_text}
+use Rattle.lfs_audit.proofs.RunLemmas.{all-written, collected}
+
+-- the lines of one more answer
+transcript-more : (session : ℕ) (answers : List Answer) (k : ℕ) (d : Answer) → k < length answers
+    → transcript_text session (take (k + 1) answers) ≡ transcript_text session (take k answers) ++ answer_line session (get_or answers k d)
+transcript-more session answers k d lt =
+    let line = answer_line session (get_or answers k d) in
+    ap (transcript_text session) (take_more answers k d lt)
+    ∙ flat_map-append (answer_line session) (take k answers) (get_or answers k d ∷ [])
+    ∙ ap (λ (l : List ℕ). transcript_text session (take k answers) ++ l) (append-nil line)
+
+-- the line of one more answer is collected, and perhaps a piece is written
+pub transcript_grows : (session : ℕ) (answers : List Answer) (k : ℕ) (answer : Answer) (start known left : Option (List ℕ)) (text after : List ℕ) → k < length answers → get_or answers k answer ≡ answer
+    → Appends start (append_known known text) (transcript_text session (take k answers)) → after ≡ text ++ answer_line session answer
+    → Keeps (append_known known after) left → Appends start left (transcript_text session (take (k + 1) answers))
+transcript_grows session answers k answer start known left text after lt here printed grown keeps =
+    let lines = transcript_text session (take k answers) in
+    let more : transcript_text session (take (k + 1) answers) ≡ lines ++ answer_line session answer =
+    transcript-more session answers k answer lt ∙ ap (λ (a : Answer). lines ++ answer_line session a) here in
+    subst (λ (l : List ℕ). Appends start left l) (sym more)
+    (Appends-kept start (append_known known after) left (lines ++ answer_line session answer) (collected start known text after lines (answer_line session answer) printed grown) keeps)
+
+-- the lines of one more session
+transcripts-more : (session : ℕ) (transcripts : List (List Answer)) (k : ℕ) (d : List Answer) → k < length transcripts
+    → transcripts_text session (take (suc k) transcripts) ≡ transcripts_text session (take k transcripts) ++ transcript_text (session + k) (get_or transcripts k d)
+transcripts-more session [] k d lt = absurd (omega (arith, lt))
+transcripts-more session (t ∷ ts) zero d lt =
+    let same : session + 0 ≡ session = omega arith in
+    append-nil (transcript_text session t) ∙ ap (λ (n : ℕ). transcript_text n t) (sym same)
+transcripts-more session (t ∷ ts) (suc k) d lt =
+    let same : session + 1 + k ≡ session + suc k = omega arith in
+    ap (λ (l : List ℕ). transcript_text session t ++ l) (transcripts-more (session + 1) ts k d (omega (arith, lt)) ∙ ap (λ (n : ℕ). transcripts_text (session + 1) (take k ts) ++ transcript_text n (get_or ts k d)) same)
+    ∙ sym (append_assoc (transcript_text session t) (transcripts_text (session + 1) (take k ts)) (transcript_text (session + suc k) (get_or ts k d)))
+
+-- a further session's lines are collected or written
+transcripts_grow : (transcripts : List (List Answer)) (k : ℕ) (answers : List Answer) (start known left : Option (List ℕ)) → k < length transcripts → get_or transcripts k [] ≡ answers
+    → Appends start known (transcripts_text 1 (take k transcripts)) → Appends known left (transcript_text (k + 1) answers)
+    → Appends start left (transcripts_text 1 (take (k + 1) transcripts))
+transcripts_grow transcripts k answers start known left lt here printed then =
+    let lines = transcripts_text 1 (take k transcripts) in
+    let one : k + 1 ≡ suc k = omega arith in
+    let number : 1 + k ≡ k + 1 = omega arith in
+    let more : transcripts_text 1 (take (k + 1) transcripts) ≡ lines ++ transcript_text (k + 1) answers =
+    ap (λ (n : ℕ). transcripts_text 1 (take n transcripts)) one
+    ∙ transcripts-more 1 transcripts k [] lt
+    ∙ ap (λ (n : ℕ). lines ++ transcript_text n (get_or transcripts k [])) number
+    ∙ ap (λ (a : List Answer). lines ++ transcript_text (k + 1) a) here in
+    subst (λ (l : List ℕ). Appends start left l) (sym more)
+    (Appends-trans start known left lines (transcript_text (k + 1) answers) printed then)
+
+-- the answers of a vector in a list of them
+item-answers : (transcripts : List (Vec Answer)) (k : ℕ) (transcript : Vec Answer) → k < length transcripts → get_or transcripts k transcript ≡ transcript
+    → get_or (map (λ (t : Vec Answer). t.items) transcripts) k [] ≡ transcript.items
+item-answers [] k transcript lt here = absurd (omega (arith, lt))
+item-answers (t ∷ ts) zero transcript lt here = ap (λ (v : Vec Answer). v.items) here
+item-answers (t ∷ ts) (suc k) transcript lt here = item-answers ts k transcript (omega (arith, lt)) here
+
+-- the same, of a vector's answers
+pub vectors_grow : (transcripts : List (Vec Answer)) (k : ℕ) (transcript : Vec Answer) (told : List Answer) (start known left : Option (List ℕ)) → k < length transcripts → get_or transcripts k transcript ≡ transcript
+    → told ≡ transcript.items → Appends start known (transcripts_text 1 (take k (map (λ (t : Vec Answer). t.items) transcripts))) → Appends known left (transcript_text (k + 1) told)
+    → Appends start left (transcripts_text 1 (take (k + 1) (map (λ (t : Vec Answer). t.items) transcripts)))
+vectors_grow transcripts k transcript told start known left lt here tells printed then =
+    let lists = map (λ (t : Vec Answer). t.items) transcripts in
+    let within : k < length lists = subst (λ (n : ℕ). k < n) (sym (length-map transcripts (λ (t : Vec Answer). t.items))) lt in
+    transcripts_grow lists k told start known left within (item-answers transcripts k transcript lt here ∙ sym tells) printed then
+
+-- the setup's lines, those of the sessions and the report are all written
+pub closed_written : (journal shown : List Entry) (setup told : List Answer) (transcripts : List (List Answer)) (start known more written left : Option (List ℕ)) (empty text after whole out : List ℕ)
+    → shown ≡ journal → told ≡ setup → empty ≡ [] → Appends (append_known start empty) (append_known known text) (transcript_text 0 told)
+    → Appends (append_known known text) (append_known more after) (transcripts_text 1 transcripts)
+    → whole ≡ after ++ report_text shown → out ≡ whole → Appends more written out → Keeps written left
+    → Appends start left (closed_text journal setup transcripts)
+closed_written journal shown setup told transcripts start known more written left empty text after whole out shows tells nothing first then grown is wrote stays =
+    let a = transcript_text 0 setup in
+    let b = transcripts_text 1 transcripts in
+    let report = report_text journal in
+    let from_empty : Appends (append_known start []) (append_known known text) a =
+    subst (λ (t : List Answer). Appends (append_known start []) (append_known known text) (transcript_text 0 t)) tells
+    (subst (λ (e : List ℕ). Appends (append_known start e) (append_known known text) (transcript_text 0 told)) nothing first) in
+    let both : Appends (append_known start []) (append_known more after) (a ++ b) = Appends-trans (append_known start []) (append_known known text) (append_known more after) a b from_empty then in
+    let last : out ≡ after ++ report = is ∙ grown ∙ ap (λ (j : List Entry). after ++ report_text j) shows in
+    all-written start more written left after (a ++ b) report out both last wrote stays
+
+-- there are no more lists of answers than of calls where each agrees with its partner
+few-lists : (is_full : Bool) (entries : List Entry) (scripts : List (List (Caller × Request))) (transcripts : List (List Answer))
+    → ((k : ℕ) → (session : ℕ) × Agrees is_full entries session (slice_get scripts k) (slice_get transcripts k)) → length transcripts ≤ length scripts
+few-lists is_full entries [] [] agree = omega arith
+few-lists is_full entries [] (t ∷ ts) agree = absurd (agree 0).1
+few-lists is_full entries (s ∷ ss) [] agree = omega arith
+few-lists is_full entries (s ∷ ss) (t ∷ ts) agree =
+    let few = few-lists is_full entries ss ts (λ k. agree (suc k)) in omega (arith, few)
+
+-- a run that is an interleaving has no more lists of answers than scripts
+pub transcripts_few : (run : Run) → IsInterleaving run → length run.transcripts ≤ length run.scripts
+transcripts_few run interleaved =
+    few-lists (is_full run) (later_entries run) run.scripts run.transcripts (λ k.
+    let back : suc k - 1 ≡ k = omega arith in
+    (suc k, subst (λ (n : ℕ). Agrees (is_full run) (later_entries run) (suc k) (slice_get run.scripts n) (slice_get run.transcripts n)) back (interleaved.sessions (suc k) (omega arith))))
+
+-- what holds of a value that is known
+if-some : {A : Type 0} (known : Option A) (p : A → Type 0) (q : A → Type 0) → IfSome known p → ((a : A) → p a → q a) → IfSome known q
+if-some None p q holds next = tt
+if-some (Some a) p q holds next = next a holds
+
+-- a run on threads was settled, and its text is written
+pub threads_run : (known : Option (List ℕ)) (plan : Planned) (shape : Shape) (journal : List Entry) (limit after_limit : ℕ) (setup : List (Caller × Request)) (sessions : List (List (Caller × Request)))
+    (answers : List Answer) (transcripts : List (Vec Answer)) (start left : Option (List ℕ))
+    → IfSome known (λ script. plan_of script ≡ Ok plan) → list_any is_of_cleaner plan.steps ≡ false → length sessions ≡ plan.sessions
+    → Sorts plan.steps (plan.sessions + 1) (setup ∷ sessions) → IsInterleaving (run_of journal after_limit setup answers sessions transcripts)
+    → after_limit ≡ limit → IsClosedText shape journal answers transcripts start left
+    → IfSome known (λ script. (text : List ℕ) × IsThreadsOutput script limit text × Appends start left text)
+threads_run known plan shape journal limit after_limit setup sessions answers transcripts start left parsed users count sorted interleaved same closed =
+    if-some known (λ script. plan_of script ≡ Ok plan) (λ script. (text : List ℕ) × IsThreadsOutput script limit text × Appends start left text) parsed
+    (λ script is. (
+      closed_text journal answers (map (λ (transcript : Vec Answer). transcript.items) transcripts),
+      record {
+        plan = plan;
+        run = run_of journal after_limit setup answers sessions transcripts;
+        shape = shape;
+        parsed = is;
+        users = users;
+        count = count;
+        sorted = sorted;
+        limited = same;
+        legal = closed.legal;
+        interleaved = interleaved;
+        printed = refl;
+      },
+      closed.written,
+    ))
+
+-- what follows from what a run left follows where the result is Ok
+pub ok_further : {A E : Type 0} (P Q : Type 0) (result : Result A E) → OnOk result P → (P → Q) → OnOk result Q
+ok_further P Q (Ok a) p further = further p
+ok_further P Q (Err fault) p further = tt
+
+-- a fault once something may have been written says nothing of what was
+pub late_threads : {A : Type 0} (X : Type 0) (result : Result A ThreadsFault) → IfErr result MayHaveWrittenThreads
+    → IfErr result (λ fault. (MayHaveWrittenThreads fault → ⊥) → X)
+late_threads X (Ok a) p = tt
+late_threads X (Err fault) p = λ not. absurd (not p)

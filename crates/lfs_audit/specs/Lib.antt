@@ -1,0 +1,5 @@
+pub mod Faults
+pub mod Output
+pub mod Runs
+pub mod Threads
+pub mod Scripts

@@ -1,0 +1,46 @@
+-- What a run of a script on a fresh volume over the log store prints, and how it may fail.
+use Rattle.std.specs.Prelude.{◌≡◌, ℕ, List, Option}
+use Rattle.lfs_types.specs.declared.fault.FormatFault.{FormatFault}
+use Rattle.lfs_types.specs.declared.fault.FormatFault.TheVariants as faults
+use Rattle.lfs_landing.specs.Opening.{IsTooFew, IsTooMany}
+use Rattle.lfs_landing.specs.declared.parts.Parts.{Parts}
+use Rattle.lfs_logstore.specs.Cleaning.{GivesAddresses, GivesIfile, GivesInfos, Reclaims}
+use Rattle.lfs_logstore.specs.Marking.{WritesAgain}
+use Rattle.lfs_logstore.specs.States.{opening_state, state_of}
+use Rattle.lfs_volume.specs.Cleanings.{Cleaner, cleaner_of}
+use Rattle.lfs_audit.specs.Faults.{IsFaultOf}
+use Rattle.lfs_audit.specs.Output.{IsOutput}
+use Rattle.lfs_audit.specs.declared.fault.RunFault.{RunFault}
+use Rattle.lfs_audit.specs.declared.fault.RunFault.TheVariants.{Read, TooLong, Script, Format, Memory, Write}
+
+-- the log store as a kind of store
+abbrev pub log_cleaner : Cleaner Parts
+log_cleaner = cleaner_of state_of GivesIfile GivesInfos GivesAddresses WritesAgain Reclaims
+
+-- a text is that of a run of the plan of a script, on a fresh volume over a log of so many segments and inode numbers
+pub record IsLogOutput (script : List ℕ) (segments inodes limit : ℕ) (text : List ℕ) : Type 0 where
+  pub store : Parts
+  pub opening : state_of store ≡ opening_state segments inodes
+  pub output : IsOutput log_cleaner script limit store text
+
+-- the numbers of segments, inode numbers and frames are all in their ranges
+pub record IsInRange (segments inodes frames : ℕ) : Type 0 where
+  pub enough : IsTooFew segments inodes frames → ⊥
+  pub not_more : IsTooMany segments inodes frames → ⊥
+
+-- a log of so many segments, inode numbers and frames may not be laid out for this fault
+abbrev pub IsFormatFault : ℕ → ℕ → ℕ → FormatFault → Type 0
+IsFormatFault segments inodes frames faults.TooFew = IsTooFew segments inodes frames
+IsFormatFault segments inodes frames faults.TooMany = IsTooMany segments inodes frames
+IsFormatFault segments inodes frames faults.Memory = IsInRange segments inodes frames
+
+-- a fresh volume over such a log may not be made for this fault
+abbrev pub IsLayoutFault : ℕ → ℕ → ℕ → RunFault → Type 0
+IsLayoutFault segments inodes frames (Format fault) = IsFormatFault segments inodes frames fault
+IsLayoutFault segments inodes frames Memory = IsInRange segments inodes frames
+IsLayoutFault segments inodes frames fault = ⊥
+
+-- a run of a script of these bytes, where they are known, on a fresh volume over such a log may end in this fault
+abbrev pub IsScriptFault : Option (List ℕ) → ℕ → ℕ → ℕ → RunFault → Type 0
+IsScriptFault script segments inodes frames (Format fault) = IsFormatFault segments inodes frames fault
+IsScriptFault script segments inodes frames fault = IsFaultOf script fault

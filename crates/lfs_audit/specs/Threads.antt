@@ -1,0 +1,59 @@
+-- What a run of a script on threads prints.
+use Rattle.std.specs.Prelude.{◌≡◌, ℕ, ◌+◌, false, List, [], ◌∷◌, ◌++◌, length, map, Option, Ok}
+use Rattle.std.specs.Global.{Vec}
+use Rattle.std.specs.Io.KnownBytes.{Appends}
+use Rattle.std.specs.List.{flat_map, list_any}
+use Rattle.lfs_types.specs.StoreStates.{Shape}
+use Rattle.lfs_types.specs.Tree.{opening_world}
+use Rattle.lfs_types.specs.declared.answer.Answer.{Answer}
+use Rattle.lfs_model.specs.Steps.{IsLegal}
+use Rattle.lfs_model.specs.declared.journal.Entry.{Entry}
+use Rattle.lfs_server.specs.Interleaving.{IsInterleaving, Run}
+use Rattle.lfs_text.specs.AnswerText.{answer_line}
+use Rattle.lfs_text.specs.PlanTypes.{Planned}
+use Rattle.lfs_text.specs.Plans.{plan_of}
+use Rattle.lfs_text.specs.ReportText.{report_text}
+use Rattle.lfs_text.specs.Splitting.{Sorts, is_of_cleaner}
+use Rattle.lfs_audit.specs.Faults.{MayHaveWritten}
+use Rattle.lfs_audit.specs.declared.fault.ThreadsFault.{ThreadsFault}
+use Rattle.lfs_audit.specs.declared.fault.ThreadsFault.TheVariants as threads
+
+-- a fault of a run on threads that may have written
+abbrev pub MayHaveWrittenThreads : ThreadsFault → Type 0
+MayHaveWrittenThreads (threads.Run fault) = MayHaveWritten fault
+MayHaveWrittenThreads threads.CleanerLine = ⊥
+MayHaveWrittenThreads (threads.Serve fault) = ⊥
+
+-- the lines of the answers to a session's calls
+abbrev pub transcript_text : ℕ → List Answer → List ℕ
+transcript_text session answers = flat_map (answer_line session) answers
+
+-- the lines of the answers to the calls of this session and of those that follow it
+abbrev pub transcripts_text : ℕ → List (List Answer) → List ℕ
+transcripts_text session [] = []
+transcripts_text session (answers ∷ transcripts) = transcript_text session answers ++ transcripts_text (session + 1) transcripts
+
+-- what is written of a run with this journal and these answers: the setup's lines, those of each session, and the report
+abbrev pub closed_text : List Entry → List Answer → List (List Answer) → List ℕ
+closed_text journal setup transcripts = transcript_text 0 setup ++ transcripts_text 1 transcripts ++ report_text journal
+
+-- a writer got the text of a run whose journal is legal, over a store of this shape
+pub record IsClosedText (shape : Shape) (journal : List Entry) (setup : List Answer) (transcripts : List (Vec Answer)) (old new : Option (List ℕ)) : Type 0 where
+  pub legal : IsLegal shape.numbers shape.segments journal opening_world
+  pub written : Appends old new (closed_text journal setup (map (λ (transcript : Vec Answer). transcript.items) transcripts))
+
+-- A text is that of a run of a script on threads, on a volume whose journal may have so many entries: no line is the
+-- cleaner's, the setup's calls are those of session 0 and each script has those of its session, the journal is legal from the
+-- opening tree and an interleaving of them with these answers, of which the lines are printed, and the report.
+pub record IsThreadsOutput (script : List ℕ) (limit : ℕ) (text : List ℕ) : Type 0 where
+  pub plan : Planned
+  pub run : Run
+  pub shape : Shape
+  pub parsed : plan_of script ≡ Ok plan
+  pub users : list_any is_of_cleaner plan.steps ≡ false
+  pub count : length run.scripts ≡ plan.sessions
+  pub sorted : Sorts plan.steps (plan.sessions + 1) (run.setup ∷ run.scripts)
+  pub limited : run.limit ≡ limit
+  pub legal : IsLegal shape.numbers shape.segments run.journal opening_world
+  pub interleaved : IsInterleaving run
+  pub printed : text ≡ closed_text run.journal run.answers run.transcripts

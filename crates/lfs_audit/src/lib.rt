@@ -1,0 +1,15 @@
+//! Scripts run: from the bytes of a script to the bytes printed, its answers and the report.
+#![tactic(auto)]
+
+pub mod fault;
+mod output;
+mod passing;
+mod read;
+pub mod run;
+pub mod scripts;
+#[cfg(test)]
+mod tests;
+pub mod threaded;
+pub mod threads;
+
+pub use lfs_text::{plan, print, report, script, split};

@@ -1,0 +1,90 @@
+//! What a line of a plan has done, and the lines of its answers.
+
+ghost use Rattle.std.specs.Prelude.{◌≡◌, IfOk, OnOk};
+ghost use Rattle.lfs_volume.specs.Cleanings.{cleaner_of};
+ghost use Rattle.lfs_audit.specs.Runs.{Cleans, Tells};
+
+use lfs_model::journal::{CleanerAnswer, CleanerKind};
+use lfs_server::pass::Pass;
+use lfs_text::plan::{Act, Step};
+use lfs_text::print::{append_answer, append_cleaner};
+use lfs_types::cleaned::CleanedStore;
+use lfs_types::cleaner::CleanerCall;
+use lfs_types::cred::Cred;
+use lfs_types::request::Request;
+use lfs_volume::volume::Volume;
+use std::alloc::AllocError;
+
+/// Does what a line of a plan asks for, and appends the lines of the answers to a text.
+pub fn run_step<F: CleanedStore + Drop>(
+    volume: &mut Volume<F>,
+    step: Step,
+    text: &mut Vec<u8>,
+) -> Result<(), AllocError>
+    ensures { OnOk result (Tells
+        (cleaner_of F.state F.gives_ifile F.gives_infos F.gives_addresses F.writes_again F.reclaims)
+        volume.old volume.new step.session step.cred step.act text.old.items text.new.items) }
+{
+    let Step { session, cred, act } = step;
+    match act {
+        Act::User(request) => call(volume, session, &cred, request, text),
+        Act::Cleaner(call) => {
+            clean(volume, session, &cred, call, text)?;
+            Ok(())
+        }
+        Act::Pass => pass(volume, session, &cred, text),
+    }
+}
+
+/// Makes a user's call, and appends the line of its answer.
+fn call<F: CleanedStore + Drop>(
+    volume: &mut Volume<F>,
+    session: u8,
+    cred: &Cred,
+    request: Request,
+    text: &mut Vec<u8>,
+) -> Result<(), AllocError>
+    ensures { OnOk result (Tells
+        (cleaner_of F.state F.gives_ifile F.gives_infos F.gives_addresses F.writes_again F.reclaims)
+        volume.old volume.new session cred.now (Act.User request) text.old.items text.new.items) }
+{
+    let answer = volume.call(session, cred, request);
+    append_answer(text, session, &answer)
+}
+
+/// Makes a call of the cleaner, appends the line of its answer, and gives the answer.
+fn clean<F: CleanedStore + Drop>(
+    volume: &mut Volume<F>,
+    session: u8,
+    cred: &Cred,
+    call: CleanerCall,
+    text: &mut Vec<u8>,
+) -> Result<CleanerAnswer, AllocError>
+    ensures { IfOk result (λ answer. Cleans
+        (cleaner_of F.state F.gives_ifile F.gives_infos F.gives_addresses F.writes_again F.reclaims)
+        volume.old volume.new session cred.now call answer text.old.items text.new.items) }
+{
+    let kind = CleanerKind::of(&call);
+    let answer = volume.clean(session, cred, call);
+    append_cleaner(text, session, kind, &answer)?;
+    Ok(answer)
+}
+
+/// Makes the calls of a pass of the cleaner, and appends the lines of their answers.
+fn pass<F: CleanedStore + Drop>(
+    volume: &mut Volume<F>,
+    session: u8,
+    cred: &Cred,
+    text: &mut Vec<u8>,
+) -> Result<(), AllocError>
+    ensures { OnOk result (Tells
+        (cleaner_of F.state F.gives_ifile F.gives_infos F.gives_addresses F.writes_again F.reclaims)
+        volume.old volume.new session cred.now Act.Pass text.old.items text.new.items) }
+{
+    let mut pass = Pass::new();
+    let mut last = None;
+    while let Some(call) = pass.next(last.as_ref()) {
+        last = Some(clean(volume, session, cred, call, text)?);
+    }
+    Ok(())
+}

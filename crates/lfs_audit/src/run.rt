@@ -1,0 +1,95 @@
+//! Running a script.
+
+ghost use Rattle.std.specs.Prelude.{◌≡◌, ◌<◌, ◌^◌, ℕ, List, [], Ok, length, IfErr, IfOk, IfSome, OnOk};
+ghost use Rattle.std.specs.Io.KnownBytes.{Appends, Keeps, append_known};
+ghost use Rattle.lfs_text.specs.Plans.{plan_of};
+ghost use Rattle.lfs_volume.specs.Cleanings.{cleaner_of};
+ghost use Rattle.lfs_audit.specs.Faults.{IsFaultOf, MayHaveWritten};
+ghost use Rattle.lfs_audit.specs.Output.{IsOutput, IsRun};
+ghost use Rattle.lfs_audit.specs.Runs.{Writes};
+
+use crate::fault::RunFault;
+use crate::output::{flush, write_full, write_text};
+use crate::passing::run_step;
+use crate::read::read_script;
+use lfs_text::plan::{Plan, Step};
+use lfs_text::report::append_report;
+use lfs_text::script::parse_script;
+use lfs_types::cleaned::CleanedStore;
+use lfs_volume::volume::Volume;
+use std::alloc::Global;
+use std::io::{Read, Write};
+
+/// Reads a script whole, parses it whole, runs its lines in order on a volume without entries, and writes the answer to
+/// each call and the report.
+pub fn run_over<F: CleanedStore + Drop, R: Read, W: Write>(
+    alloc: Global,
+    reader: &mut R,
+    writer: &mut W,
+    volume: &mut Volume<F>,
+) -> Result<(), RunFault>
+    requires { volume.old.journal ≡ [] }
+    ensures written { OnOk result (IfSome (R.remaining reader.old) (λ script. (text : List ℕ)
+        × IsOutput (cleaner_of F.state F.gives_ifile F.gives_infos F.gives_addresses F.writes_again F.reclaims)
+        script volume.old.limit volume.old.store text
+        × Appends (W.contents writer.old) (W.contents writer.new) text)) }
+    ensures fault { IfErr result (IsFaultOf (R.remaining reader.old)) }
+    ensures unwritten { IfErr result (λ fault. (MayHaveWritten fault → ⊥)
+        → Keeps (W.contents writer.old) (W.contents writer.new)) }
+{
+    let plan = read_plan(alloc, reader)?;
+    run_plan(alloc, volume, plan.into_steps(), writer)
+}
+
+/// Reads a script whole, and gives its plan.
+pub fn read_plan<R: Read>(alloc: Global, reader: &mut R) -> Result<Plan, RunFault>
+    ensures plan { IfSome (R.remaining reader.old) (λ script. IfOk result (λ plan. plan_of script ≡ Ok plan)) }
+    ensures fault { IfErr result (IsFaultOf (R.remaining reader.old)) }
+{
+    let script = read_script(alloc, reader)?;
+    match parse_script(alloc, script.as_slice()) {
+        Ok(plan) => Ok(plan),
+        Err(fault) => Err(RunFault::Script(fault)),
+    }
+}
+
+/// Does what the lines of a plan ask for on a volume without entries, and writes the answer to each call and the report.
+pub fn run_plan<F: CleanedStore + Drop, W: Write>(
+    alloc: Global,
+    volume: &mut Volume<F>,
+    steps: Vec<Step>,
+    writer: &mut W,
+) -> Result<(), RunFault>
+    requires { volume.old.journal ≡ [] }
+    ensures written { OnOk result ((text : List ℕ)
+        × IsRun (cleaner_of F.state F.gives_ifile F.gives_infos F.gives_addresses F.writes_again F.reclaims)
+        volume.old.limit volume.old.store steps.items text
+        × Appends (W.contents writer.old) (W.contents writer.new) text) }
+    ensures fault { IfErr result MayHaveWritten }
+{
+    let mut text = Vec::new(alloc);
+    print_steps(volume, steps, &mut text, writer)?;
+    append_report(&mut text, volume.journal())?;
+    write_text(writer, text.as_slice())?;
+    flush(writer)
+}
+
+/// Does what the lines of a plan ask for, and adds the lines of the answers to a text, which is written piece by piece.
+fn print_steps<F: CleanedStore + Drop, W: Write>(
+    volume: &mut Volume<F>,
+    steps: Vec<Step>,
+    text: &mut Vec<u8>,
+    writer: &mut W,
+) -> Result<(), RunFault>
+    ensures written { OnOk result (Writes
+        (cleaner_of F.state F.gives_ifile F.gives_infos F.gives_addresses F.writes_again F.reclaims)
+        volume.old volume.new steps.items
+        (append_known (W.contents writer.old) text.old.items) (append_known (W.contents writer.new) text.new.items)) }
+    ensures fault { IfErr result MayHaveWritten }
+{
+    for step in steps {
+        run_step(volume, step, text)?;
+        write_full(writer, text)?;
+    }
+    Ok(())
+}

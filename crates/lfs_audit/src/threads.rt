@@ -1,0 +1,122 @@
+//! Running a script with its sessions on threads.
+
+ghost use Rattle.std.specs.Prelude.{◌≡◌, ◌<◌, ◌≤◌, ℕ, List, [], ◌++◌, length, map, IfErr, IfOk, IfSome, OnOk};
+ghost use Rattle.std.specs.Global.{Vec};
+ghost use Rattle.std.specs.Io.KnownBytes.{Appends, Keeps, append_known};
+ghost use Rattle.lfs_types.specs.declared.answer.Answer.{Answer};
+ghost use Rattle.lfs_audit.specs.Faults.{MayHaveWritten};
+ghost use Rattle.lfs_audit.specs.Threads.{IsClosedText, IsThreadsOutput, MayHaveWrittenThreads, transcript_text, transcripts_text};
+
+use crate::fault::{RunFault, ThreadsFault};
+use crate::output::{flush, write_full, write_text};
+use crate::run::read_plan;
+use lfs_server::serving::{Closed, serve_over};
+use lfs_text::print::append_answer;
+use lfs_text::report::append_report;
+use lfs_types::answer::Answer;
+use lfs_types::cleaned::CleanedStore;
+use lfs_volume::volume::Volume;
+use std::alloc::Global;
+use std::io::{Read, Write};
+use std::sync::Wait;
+use std::thread::Threads;
+
+/// Reads a script whole, parses it whole, runs the calls of session 0 and then those of the other sessions on threads, with
+/// the cleaner beside them, on a volume, and writes the setup's answers, each session's in turn, and the report.
+pub fn run_threads_over<S, F, R, W>(
+    rt: &S,
+    alloc: Global,
+    reader: &mut R,
+    writer: &mut W,
+    volume: Volume<F>,
+) -> Result<(), ThreadsFault>
+where
+    S: Threads + Wait + Sync,
+    F: CleanedStore + Send + Drop,
+    R: Read,
+    W: Write,
+    ensures written { OnOk result (IfSome (R.remaining reader.old) (λ script. (text : List ℕ)
+        × IsThreadsOutput script volume.limit text
+        × Appends (W.contents writer.old) (W.contents writer.new) text)) }
+    ensures unwritten { IfErr result (λ fault. (MayHaveWrittenThreads fault → ⊥)
+        → Keeps (W.contents writer.old) (W.contents writer.new)) }
+{
+    let plan = read_plan(alloc, reader)?;
+    let (setup, sessions) = plan.split(alloc)?;
+    let closed = serve_over(rt, alloc, volume, setup, sessions, &())?;
+    print_closed(alloc, &closed, writer)?;
+    Ok(())
+}
+
+/// Writes what a run on threads left, by `print_closed`. A fault is one after which something may have been written.
+pub(crate) fn print_run<F: CleanedStore + Drop, W: Write>(
+    alloc: Global,
+    closed: &Closed<F>,
+    writer: &mut W,
+) -> Result<(), ThreadsFault>
+    requires { length closed.now.transcripts.items ≤ 8 }
+    ensures written { OnOk result (IsClosedText (F.state closed.now.volume.store).shape closed.now.volume.journal
+        closed.now.setup.items closed.now.transcripts.items
+        (W.contents writer.old) (W.contents writer.new)) }
+    ensures fault { IfErr result MayHaveWrittenThreads }
+{
+    print_closed(alloc, closed, writer)?;
+    Ok(())
+}
+
+/// Writes the answers of the setup, those of each session in turn, and the report.
+fn print_closed<F: CleanedStore + Drop, W: Write>(
+    alloc: Global,
+    closed: &Closed<F>,
+    writer: &mut W,
+) -> Result<(), RunFault>
+    requires { length closed.now.transcripts.items ≤ 8 }
+    ensures written { OnOk result (IsClosedText (F.state closed.now.volume.store).shape closed.now.volume.journal
+        closed.now.setup.items closed.now.transcripts.items
+        (W.contents writer.old) (W.contents writer.new)) }
+    ensures fault { IfErr result MayHaveWritten }
+{
+    let mut text = Vec::new(alloc);
+    print_transcript(writer, &mut text, 0, closed.setup.as_slice())?;
+    print_transcripts(writer, &mut text, closed.transcripts.as_slice())?;
+    append_report(&mut text, closed.volume.journal())?;
+    write_text(writer, text.as_slice())?;
+    flush(writer)
+}
+
+/// Adds the lines of the sessions' answers to a text, session 1's first, which is written piece by piece.
+fn print_transcripts<W: Write>(
+    writer: &mut W,
+    text: &mut Vec<u8>,
+    transcripts: &[Vec<Answer>],
+) -> Result<(), RunFault>
+    requires { length transcripts.now ≤ 8 }
+    ensures written { OnOk result (Appends (append_known (W.contents writer.old) text.old.items)
+        (append_known (W.contents writer.new) text.new.items)
+        (transcripts_text 1 (map (λ (transcript : Vec Answer). transcript.items) transcripts.now))) }
+    ensures fault { IfErr result MayHaveWritten }
+{
+    for index in 0..transcripts.len() {
+        let session = index as u8 + 1;
+        print_transcript(writer, text, session, transcripts[index].as_slice())?;
+    }
+    Ok(())
+}
+
+/// Adds the lines of a session's answers to a text, which is written piece by piece.
+fn print_transcript<W: Write>(
+    writer: &mut W,
+    text: &mut Vec<u8>,
+    session: u8,
+    answers: &[Answer],
+) -> Result<(), RunFault>
+    ensures written { OnOk result (Appends (append_known (W.contents writer.old) text.old.items)
+        (append_known (W.contents writer.new) text.new.items) (transcript_text session answers.now)) }
+    ensures fault { IfErr result MayHaveWritten }
+{
+    for answer in answers {
+        append_answer(text, session, answer)?;
+        write_full(writer, text)?;
+    }
+    Ok(())
+}
