@@ -1,17 +1,16 @@
 //! A file server that runs a script: it reads lines of calls from standard input and prints the answer to each.
 #![tactic(auto)]
 
-mod fault;
 mod options;
-mod output;
-mod read;
-mod run;
 mod tell;
 #[cfg(test)]
 mod tests;
 
 use clap::error::ErrorKind;
-use fault::LinesFault;
+use lfs_audit::fault::{RunFault, ThreadsFault};
+use lfs_audit::scripts::run_script;
+use lfs_audit::threaded::run_threads;
+use options::Options;
 use std::env::Env;
 use std::process::ExitCode;
 use std::{env, io};
@@ -19,20 +18,26 @@ use std::{env, io};
 fn main(rt: HostRuntime) -> ExitCode {
     let alloc = rt.alloc();
     let mut stderr = rt.stderr();
+    let no_memory = ThreadsFault::Run(RunFault::Memory);
     let Ok(words) = program_words(&rt) else {
-        return ExitCode::from(tell::tell(&mut stderr, &LinesFault::Memory));
+        return ExitCode::from(tell::tell(&mut stderr, &no_memory));
     };
-    let params = match options::params_of(alloc, words.as_slice()) {
-        Ok(params) => params,
+    let options = match options::options_of(alloc, words.as_slice()) {
+        Ok(options) => options,
         Err(error) if error.kind() == ErrorKind::OutOfMemory => {
-            return ExitCode::from(tell::tell(&mut stderr, &LinesFault::Memory));
+            return ExitCode::from(tell::tell(&mut stderr, &no_memory));
         }
         Err(error) => {
             let _ = error.print(&rt);
             return ExitCode::from(error.exit_code() as u8);
         }
     };
-    let outcome = run::run_lines(alloc, &mut rt.stdin(), &mut rt.stdout(), params);
+    let Options { params, threads } = options;
+    let outcome = if threads {
+        run_threads(&rt, alloc, &mut rt.stdin(), &mut rt.stdout(), params)
+    } else {
+        run_script(alloc, &mut rt.stdin(), &mut rt.stdout(), params).map_err(ThreadsFault::Run)
+    };
     ExitCode::from(tell::end(&mut stderr, outcome))
 }
 

@@ -2,30 +2,33 @@
 
 mod arguments;
 mod cases;
+mod cleaning;
+mod passes;
 mod rules;
 mod sizes;
 mod streams;
 mod texts;
+mod threads;
 mod volume;
 
-use crate::fault::LinesFault;
 use crate::options::DEFAULTS;
-use crate::run::run_lines;
+use lfs_audit::fault::RunFault;
+use lfs_audit::scripts::run_script;
 use lfs_types::store::Params;
 use std::alloc::Global;
 use std::process::Abort;
 use std::test::Fail;
 
 /// What a run of this script writes.
-fn output_with(alloc: Global, script: &str, params: Params) -> Result<Vec<u8>, LinesFault> {
+fn output_with(alloc: Global, script: &str, params: Params) -> Result<Vec<u8>, RunFault> {
     let mut reader = script.as_bytes();
     let mut writer = Vec::new(alloc);
-    run_lines(alloc, &mut reader, &mut writer, params)?;
+    run_script(alloc, &mut reader, &mut writer, params)?;
     Ok(writer)
 }
 
 /// What a run of this script writes where the program has no arguments.
-fn output(alloc: Global, script: &str) -> Result<Vec<u8>, LinesFault> {
+fn output(alloc: Global, script: &str) -> Result<Vec<u8>, RunFault> {
     output_with(alloc, script, DEFAULTS)
 }
 

@@ -1,8 +1,8 @@
 //! Worked scripts and the lines that they must print.
 
 use super::{expect, output, output_with};
-use crate::fault::LinesFault;
 use crate::options::DEFAULTS;
+use lfs_audit::fault::RunFault;
 use lfs_text::fault::{FaultKind, ScriptFault};
 use lfs_types::store::Params;
 use std::alloc::{AllocError, Global};
@@ -135,7 +135,7 @@ fn inode_limit(rt: HostRuntime) -> Result<(), Fail> {
 #[test]
 fn line_without_line_feed(rt: HostRuntime) {
     let kind = FaultKind::Cut;
-    let fault = LinesFault::Script(ScriptFault { line: 1, kind });
+    let fault = RunFault::Script(ScriptFault { line: 1, kind });
     let result = output(rt.alloc(), "create /a 0644");
     assert_eq!(rt; result.err(), Some(fault));
 }

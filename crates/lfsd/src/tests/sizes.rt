@@ -1,9 +1,7 @@
 //! Scripts at the greatest sizes, lines of sessions, and lines that the program doesn't run.
 
-use super::{expect, expect_with, output};
-use crate::fault::LinesFault;
+use super::{expect, expect_with};
 use crate::options::DEFAULTS;
-use crate::tell::tell;
 use lfs_types::store::Params;
 use std::alloc::AllocError;
 use std::test::Fail;
@@ -22,18 +20,6 @@ fn lines_of_sessions_run_in_their_order(rt: HostRuntime) -> Result<(), Fail> {
         "create /a 0644\nsession 3\nas 5 5\nsync\nread /a 0 1\nsession 0\nsync\nwrite /a end 61\n";
     let expected = "0 ok\n3 ok\n3 bytes -\n0 ok\n0 denied M2 EACCES 0 1\n";
     expect(&rt, rt.alloc(), script, expected)
-}
-
-#[test]
-fn script_with_a_cleaner_line_is_refused(rt: HostRuntime) -> Result<(), Fail> {
-    for script in ["create /a 0644\npass\n", "ifile\n", "markv 4:1:0:9\n"] {
-        let fault = output(rt.alloc(), script).err();
-        assert_eq!(rt; fault, Some(LinesFault::CleanerLine));
-    }
-    let mut told = Vec::new(rt.alloc());
-    assert_eq!(rt; tell(&mut told, &LinesFault::CleanerLine), 1);
-    assert_eq!(rt; told.as_slice(), b"lfsd: cleaner line\n".as_slice());
-    Ok(())
 }
 
 #[test]
@@ -91,6 +77,7 @@ fn list_of_4092_names(rt: HostRuntime) -> Result<(), Fail> {
     script.push_str("list /\ncreate /x 0600\n")?;
     write!(expected, "0 names{names}\n0 refused NoInodes\n")?;
     let params = Params {
+        segments: 1_024,
         inodes: 4096,
         ..DEFAULTS
     };

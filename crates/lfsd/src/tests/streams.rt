@@ -1,9 +1,9 @@
 //! Readers and writers that fail or never end.
 
-use crate::fault::LinesFault;
 use crate::options::DEFAULTS;
-use crate::run::run_lines;
 use crate::tell::end;
+use lfs_audit::fault::{RunFault, ThreadsFault};
+use lfs_audit::scripts::run_script;
 use lfs_text::fault::{FaultKind, ScriptFault};
 use std::alloc::{AllocError, Global};
 use std::io;
@@ -113,8 +113,8 @@ fn reader_that_fails_at_each_read(rt: HostRuntime) {
                 kind,
             };
             let mut writer = Vec::new(rt.alloc());
-            let result = run_lines(rt.alloc(), &mut reader, &mut writer, DEFAULTS);
-            assert_eq!(rt; result, Err(LinesFault::Read), "{reads}");
+            let result = run_script(rt.alloc(), &mut reader, &mut writer, DEFAULTS);
+            assert_eq!(rt; result, Err(RunFault::Read), "{reads}");
             assert!(rt; writer.is_empty());
         }
     }
@@ -126,7 +126,7 @@ fn reader_that_fails_at_each_read(rt: HostRuntime) {
         kind,
     };
     let mut writer = Vec::new(rt.alloc());
-    let result = run_lines(rt.alloc(), &mut reader, &mut writer, DEFAULTS);
+    let result = run_script(rt.alloc(), &mut reader, &mut writer, DEFAULTS);
     assert_eq!(rt; result, Ok(()));
 }
 
@@ -137,8 +137,8 @@ fn reader_that_never_ends(rt: HostRuntime) {
         reads: 0,
     };
     let mut writer = Vec::new(rt.alloc());
-    let result = run_lines(rt.alloc(), &mut reader, &mut writer, DEFAULTS);
-    assert_eq!(rt; result, Err(LinesFault::TooLong));
+    let result = run_script(rt.alloc(), &mut reader, &mut writer, DEFAULTS);
+    assert_eq!(rt; result, Err(RunFault::TooLong));
     assert_eq!(rt; reader.reads, 1_048_577);
     assert!(rt; writer.is_empty());
 }
@@ -151,20 +151,20 @@ fn longest_script(rt: HostRuntime) -> Result<(), Fail> {
         script.extend_from_slice(b"#\n")?;
     }
     let mut writer = Vec::new(alloc);
-    let result = run_lines(alloc, &mut script.as_slice(), &mut writer, DEFAULTS);
+    let result = run_script(alloc, &mut script.as_slice(), &mut writer, DEFAULTS);
     assert_eq!(rt; result, Ok(()));
     let report = b"entries 0\nserved 0\ndenied 0\nrefused 0\ncleaner 0\n";
     assert_eq!(rt; writer.as_slice(), report.as_slice());
     writer.clear();
     script.push(b'x')?;
-    let result = run_lines(alloc, &mut script.as_slice(), &mut writer, DEFAULTS);
-    assert_eq!(rt; result, Err(LinesFault::TooLong));
+    let result = run_script(alloc, &mut script.as_slice(), &mut writer, DEFAULTS);
+    assert_eq!(rt; result, Err(RunFault::TooLong));
     script.pop();
     script.pop();
     let line = 524_288;
     let kind = FaultKind::Cut;
-    let fault = LinesFault::Script(ScriptFault { line, kind });
-    let result = run_lines(alloc, &mut script.as_slice(), &mut writer, DEFAULTS);
+    let fault = RunFault::Script(ScriptFault { line, kind });
+    let result = run_script(alloc, &mut script.as_slice(), &mut writer, DEFAULTS);
     assert_eq!(rt; result, Err(fault));
     assert!(rt; writer.is_empty());
     Ok(())
@@ -188,12 +188,12 @@ fn writer_that_fails_at_each_write(rt: HostRuntime) -> Result<(), Fail> {
             writes,
             flushes: true,
         };
-        let result = run_lines(rt.alloc(), &mut script.as_bytes(), &mut writer, DEFAULTS);
-        assert_eq!(rt; result, Err(LinesFault::Write), "{writes}");
+        let result = run_script(rt.alloc(), &mut script.as_bytes(), &mut writer, DEFAULTS);
+        assert_eq!(rt; result, Err(RunFault::Write), "{writes}");
     }
-    for (flushes, expected) in [(true, Ok(())), (false, Err(LinesFault::Write))] {
+    for (flushes, expected) in [(true, Ok(())), (false, Err(RunFault::Write))] {
         let mut writer = Full { writes: 3, flushes };
-        let result = run_lines(rt.alloc(), &mut script.as_bytes(), &mut writer, DEFAULTS);
+        let result = run_script(rt.alloc(), &mut script.as_bytes(), &mut writer, DEFAULTS);
         assert_eq!(rt; result, expected);
         assert_eq!(rt; writer.writes, 0);
     }
@@ -205,7 +205,7 @@ fn writer_that_takes_a_byte_at_a_time(rt: HostRuntime) -> Result<(), Fail> {
     let mut writer = Slow {
         taken: Vec::new(rt.alloc()),
     };
-    let result = run_lines(rt.alloc(), &mut &*SCRIPT, &mut writer, DEFAULTS);
+    let result = run_script(rt.alloc(), &mut &*SCRIPT, &mut writer, DEFAULTS);
     assert_eq!(rt; result, Ok(()));
     let expected = b"\
 0 ok
@@ -227,7 +227,7 @@ fn status_of_a_run(rt: HostRuntime) {
     let mut told = Vec::new(rt.alloc());
     assert_eq!(rt; end(&mut told, Ok(())), 0);
     assert!(rt; told.is_empty());
-    assert_eq!(rt; end(&mut told, Err(LinesFault::Write)), 1);
+    assert_eq!(rt; end(&mut told, Err(ThreadsFault::Run(RunFault::Write))), 1);
     assert_eq!(rt; told.as_slice(), b"lfsd: write failed\n".as_slice());
 }
 
@@ -238,6 +238,9 @@ fn tell_to_a_writer_that_fails(rt: HostRuntime) {
             writes,
             flushes: false,
         };
-        assert_eq!(rt; crate::tell::tell(&mut writer, &LinesFault::Read), 1);
+        assert_eq!(rt;
+            crate::tell::tell(&mut writer, &ThreadsFault::Run(RunFault::Read)),
+            1
+        );
     }
 }

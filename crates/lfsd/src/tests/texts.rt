@@ -1,7 +1,7 @@
 //! The texts of faults.
 
-use crate::fault::LinesFault;
 use crate::tell::tell;
+use lfs_audit::fault::{RunFault, ThreadsFault};
 use lfs_text::fault::{FaultKind, ScriptFault};
 use lfs_types::cred::BadCred;
 use lfs_types::fault::FormatFault;
@@ -11,27 +11,27 @@ use std::test::Fail;
 
 #[test]
 fn faults(rt: HostRuntime) {
-    let cases: [(LinesFault, &[u8]); 7] = [
-        (LinesFault::Read, b"lfsd: read failed\n"),
-        (LinesFault::TooLong, b"lfsd: script too long\n"),
+    let cases: [(RunFault, &[u8]); 7] = [
+        (RunFault::Read, b"lfsd: read failed\n"),
+        (RunFault::TooLong, b"lfsd: script too long\n"),
         (
-            LinesFault::Format(FormatFault::TooFew),
+            RunFault::Format(FormatFault::TooFew),
             b"lfsd: format TooFew\n",
         ),
         (
-            LinesFault::Format(FormatFault::TooMany),
+            RunFault::Format(FormatFault::TooMany),
             b"lfsd: format TooMany\n",
         ),
         (
-            LinesFault::Format(FormatFault::Memory),
+            RunFault::Format(FormatFault::Memory),
             b"lfsd: format Memory\n",
         ),
-        (LinesFault::Memory, b"lfsd: no memory\n"),
-        (LinesFault::Write, b"lfsd: write failed\n"),
+        (RunFault::Memory, b"lfsd: no memory\n"),
+        (RunFault::Write, b"lfsd: write failed\n"),
     ];
     for (fault, text) in &cases {
         let mut writer = Vec::new(rt.alloc());
-        assert_eq!(rt; tell(&mut writer, fault), 1);
+        assert_eq!(rt; tell(&mut writer, &ThreadsFault::Run(*fault)), 1);
         assert_eq!(rt; writer.as_slice(), *text);
     }
 }
@@ -53,13 +53,21 @@ fn script_faults(rt: HostRuntime) -> Result<(), Fail> {
     ];
     for (kind, name) in cases {
         let mut writer = Vec::new(alloc);
-        let fault = LinesFault::Script(ScriptFault {
+        let fault = RunFault::Script(ScriptFault {
             line: 1_048_576,
             kind,
         });
-        assert_eq!(rt; tell(&mut writer, &fault), 1);
+        assert_eq!(rt; tell(&mut writer, &ThreadsFault::Run(fault)), 1);
         let text = format!(in alloc; "lfsd: script line 1048576: {name}\n")?;
         assert_eq!(rt; writer.as_slice(), text.as_bytes());
     }
     Ok(())
+}
+
+#[test]
+fn cleaner_line_with_threads(rt: HostRuntime) {
+    let mut writer = Vec::new(rt.alloc());
+    assert_eq!(rt; tell(&mut writer, &ThreadsFault::CleanerLine), 1);
+    let text = b"lfsd: cleaner line with --threads\n";
+    assert_eq!(rt; writer.as_slice(), text.as_slice());
 }

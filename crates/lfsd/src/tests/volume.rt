@@ -1,7 +1,5 @@
-//! A run of calls over a volume, and its journal.
+//! A run of calls over a volume on the plain store, and its journal.
 
-use crate::options::DEFAULTS;
-use crate::run::fresh_volume;
 use lfs_types::answer::{Answer, Served};
 use lfs_types::cred::Cred;
 use lfs_types::level::Level;
@@ -10,7 +8,9 @@ use lfs_types::path::Path;
 use lfs_types::payload::{Bytes, Payload};
 use lfs_types::request::{Place, Request};
 use lfs_types::rule::{Denial, Rule};
+use lfs_volume::flat_files::FlatFiles;
 use lfs_volume::journal::{Call, Entry, Event};
+use lfs_volume::volume::Volume;
 use std::alloc::Global;
 use std::test::Fail;
 
@@ -69,7 +69,7 @@ fn strangers_calls(alloc: Global) -> Result<Vec<Call>, Fail> {
 #[test]
 fn run_answers_each_call_and_enters_it(rt: HostRuntime) -> Result<(), Fail> {
     let alloc = rt.alloc();
-    let mut volume = fresh_volume(alloc, DEFAULTS)?;
+    let mut volume = Volume::new(alloc, FlatFiles::new(alloc, 256)?, 4)?;
     let mut calls = owners_calls(alloc)?;
     calls.append(&mut strangers_calls(alloc)?)?;
     let answers = volume.run(calls)?;
@@ -81,6 +81,7 @@ fn run_answers_each_call_and_enters_it(rt: HostRuntime) -> Result<(), Fail> {
     ];
     assert_eq!(rt; answers.as_slice(), expected.as_slice());
     assert_eq!(rt; volume.journal().len(), 4);
+    assert_eq!(rt; volume.journal_limit(), 4);
     assert_eq!(rt; volume.level(), Level::Insecure);
     assert_eq!(rt; volume.clean_segments(), 1024);
     Ok(())
