@@ -3,6 +3,7 @@
 ghost use Rattle.std.specs.Prelude.{◌≡◌, ◌-◌, ◌<◌, ◌^◌};
 ghost use Rattle.lfs_bench.specs.Counting.{counted, total};
 
+use anyhow::{Result, bail};
 use lfs_types::answer::Answer;
 use std::fmt;
 use std::num::nearest_u64_to_f64;
@@ -29,6 +30,14 @@ impl Counts {
             Answer::Denied(_) => self.denied += 1,
             Answer::Refused(_) => self.refused += 1,
         }
+    }
+
+    /// An error unless all calls that were counted were done.
+    pub fn all_served(&self) -> Result<()> {
+        if self.denied != 0 || self.refused != 0 {
+            bail!("the tree isn't made");
+        }
+        Ok(())
     }
 
     /// How many calls were answered, as a float.

@@ -4,6 +4,7 @@
 //! `docs/SPEED.md` keeps.
 #![tactic(auto)]
 
+mod cleaned;
 mod counts;
 mod frames;
 mod options;

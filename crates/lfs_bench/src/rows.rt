@@ -39,7 +39,8 @@ impl Subject {
     /// What grows in its rows.
     fn growths(self) -> &'static [Growth] {
         match self {
-            Subject::Users(..) => &Growth::OF_VOLUMES,
+            Subject::Users(_, Store::Plain) => &Growth::OF_VOLUMES,
+            Subject::Users(_, Store::Log | Store::LogCleaned) => &Growth::OF_LOGS,
             Subject::Frames | Subject::LookUps => &Growth::OF_CACHES,
         }
     }

@@ -5,6 +5,9 @@ ghost use Rattle.std.specs.Prelude.{◌≤◌, ◌<◌};
 /// The most calls of a run before they grow.
 pub const CALLS_MAX: u32 = 65_536;
 
+/// The most bytes of a file.
+const BYTES_MAX: u32 = 71_680;
+
 /// How many times as large a run is as the first of its row.
 #[derive(Clone, Copy, PartialEq, Eq, Debug)]
 pub enum Factor {
@@ -50,6 +53,8 @@ pub enum Growth {
     Entries,
     /// How many frames the cache has.
     Frames,
+    /// How many segments the log has.
+    Segments,
 }
 
 impl Growth {
@@ -61,6 +66,17 @@ impl Growth {
         Growth::Bytes,
         Growth::Inodes,
         Growth::Entries,
+    ];
+
+    /// What may grow in a volume over a log and its calls.
+    pub const OF_LOGS: [Growth; 7] = [
+        Growth::Calls,
+        Growth::Names,
+        Growth::Components,
+        Growth::Bytes,
+        Growth::Inodes,
+        Growth::Entries,
+        Growth::Segments,
     ];
 
     /// What may grow in a cache and its calls.
@@ -76,6 +92,7 @@ impl Growth {
             Growth::Inodes => "inodes",
             Growth::Entries => "entries",
             Growth::Frames => "frames",
+            Growth::Segments => "segments",
         }
     }
 }
@@ -89,7 +106,7 @@ pub struct Scale {
     pub names: u32,
     /// How many components the path of each of them has: 2 to 112.
     pub components: u32,
-    /// How many bytes the first of them has: 4,096 to 65,536.
+    /// How many bytes the first of them has: 10,000 to 71,680.
     pub bytes: u32,
     /// How many inode numbers the store has: 256 to 4,096.
     pub inodes: u32,
@@ -97,6 +114,8 @@ pub struct Scale {
     pub entries: u32,
     /// How many frames the cache has: 32 to 512.
     pub frames: u32,
+    /// How many segments the log has: 64 to 1,024.
+    pub segments: u32,
     ghost bounded: { calls ≤ 1048576 },
     ghost named: { 0 < names },
     ghost filled: { 0 < bytes },
@@ -115,10 +134,11 @@ impl Scale {
             calls: calls * times(Growth::Calls),
             names: 15 * times(Growth::Names),
             components: components * times(Growth::Components),
-            bytes: 4096 * times(Growth::Bytes),
+            bytes: (10_000 * times(Growth::Bytes)).min(BYTES_MAX),
             inodes: 256 * times(Growth::Inodes),
             entries: 1024 * times(Growth::Entries),
             frames: 32 * times(Growth::Frames),
+            segments: 64 * times(Growth::Segments),
         }
     }
 
@@ -132,6 +152,7 @@ impl Scale {
             Growth::Inodes => self.inodes,
             Growth::Entries => self.entries,
             Growth::Frames => self.frames,
+            Growth::Segments => self.segments,
         }
     }
 }

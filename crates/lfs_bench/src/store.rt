@@ -3,34 +3,46 @@
 ghost use Rattle.std.specs.Prelude.{◌≡◌, length};
 ghost use Rattle.lfs_bench.specs.Counting.{total};
 
+use crate::cleaned::{Passes, run_cleaned};
 use crate::counts::Counts;
 use crate::scale::Scale;
 use crate::timed::timed_calls;
 use crate::tree::Tree;
 use crate::workload::UserLoad;
 use anyhow::{Result, bail};
-use lfs_types::store::FileStore;
+use lfs_logstore::LogStore;
+use lfs_types::store::{FileStore, Params};
 use lfs_volume::flat_files::FlatFiles;
 use lfs_volume::journal::Call;
 use lfs_volume::volume::Volume;
+use std::alloc::Global;
 use std::rt::Clock;
 use std::time::Instant;
+
+/// How many entries of the journal there is room for over a log, for each call of a user.
+const CLEANER_CALLS: u32 = 16;
 
 /// A store that volumes are timed over.
 #[derive(Clone, Copy, PartialEq, Eq, Debug)]
 pub enum Store {
     /// The plain store.
     Plain,
+    /// The log store, where the passes of its cleaner are not in the time.
+    Log,
+    /// The log store, where the passes of its cleaner are in the time.
+    LogCleaned,
 }
 
 impl Store {
     /// All stores, in the order of the table.
-    pub const ALL: [Store; 1] = [Store::Plain];
+    pub const ALL: [Store; 3] = [Store::Plain, Store::Log, Store::LogCleaned];
 
     /// The word of the table.
     pub fn name(self) -> &'static str {
         match self {
             Store::Plain => "plain",
+            Store::Log => "log",
+            Store::LogCleaned => "log cleaned",
         }
     }
 }
@@ -46,9 +58,11 @@ pub struct Measure {
 
 /// The calls of a run: those that make the tree, and those that are timed.
 #[derive(Drop)]
-struct Plan {
-    before: Vec<Call>,
-    timed: Vec<Call>,
+pub struct Plan {
+    /// The calls that make the tree.
+    pub before: Vec<Call>,
+    /// The calls that are timed.
+    pub timed: Vec<Call>,
 }
 
 /// Runs a workload at a scale on a fresh volume over a store.
@@ -70,7 +84,31 @@ pub fn run_on<R: Clock + AllocGlobal>(
             let files = FlatFiles::new(alloc, scale.inodes)?;
             run_calls(rt, Volume::new(alloc, files, journal)?, plan)
         }
+        Store::Log => run_cleaned(
+            rt,
+            log_volume(alloc, &scale, journal)?,
+            plan,
+            Passes::Untimed,
+        ),
+        Store::LogCleaned => {
+            run_cleaned(rt, log_volume(alloc, &scale, journal)?, plan, Passes::Timed)
+        }
     }
+}
+
+/// A fresh volume over a log. Its journal has room for the calls, and for the cleaner's calls between them.
+fn log_volume(alloc: Global, scale: &Scale, calls: u32) -> Result<Volume<LogStore>> {
+    let journal = calls.saturating_mul(CLEANER_CALLS);
+    let params = Params {
+        segments: scale.segments,
+        inodes: scale.inodes,
+        frames: scale.frames,
+        journal,
+    };
+    let Ok(store) = LogStore::format(alloc, params) else {
+        bail!("the log isn't laid out");
+    };
+    Ok(Volume::new(alloc, store, journal)?)
 }
 
 /// Makes the tree, and times the calls behind it.
@@ -80,9 +118,7 @@ fn run_calls<R: Clock, F: FileStore + Drop>(
     plan: Plan,
 ) -> Result<Measure> {
     let made = play(&mut volume, plan.before);
-    if made.denied != 0 || made.refused != 0 {
-        bail!("the tree isn't made");
-    }
+    made.all_served()?;
     let start = Instant::now(rt)?;
     let counts = play(&mut volume, plan.timed);
     let seconds = start.elapsed(rt)?.as_secs_f64();

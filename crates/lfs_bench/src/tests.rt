@@ -10,9 +10,9 @@ use crate::workload::{UserLoad, Workload};
 use std::test::Fail;
 
 /// The answers to 16 calls of a workload, each of which has its rows' first size but for what grows.
-fn answers(rt: &HostRuntime, load: UserLoad, growth: Growth) -> Result<Counts, Fail> {
+fn answers(rt: &HostRuntime, load: UserLoad, store: Store, growth: Growth) -> Result<Counts, Fail> {
     let scale = Scale::grown(16, load.components(), growth, Factor::Sixteen);
-    let measure = Subject::Users(load, Store::Plain).run(rt, scale)?;
+    let measure = Subject::Users(load, store).run(rt, scale)?;
     Ok(measure.counts)
 }
 
@@ -33,7 +33,10 @@ fn calls_are_answered_by_the_rules(rt: HostRuntime) -> Result<(), Fail> {
         ..Counts::default()
     };
     for load in done {
-        assert_eq!(rt; answers(&rt, load, Growth::Names)?, all_served, "{load:?}");
+        let plain = answers(&rt, load, Store::Plain, Growth::Names)?;
+        assert_eq!(rt; plain, all_served, "{load:?}");
+        let log = answers(&rt, load, Store::LogCleaned, Growth::Bytes)?;
+        assert_eq!(rt; log, all_served, "{load:?}");
     }
     // The mode 0644 lets a stranger not write.
     let all_denied = Counts {
@@ -41,7 +44,7 @@ fn calls_are_answered_by_the_rules(rt: HostRuntime) -> Result<(), Fail> {
         ..Counts::default()
     };
     assert_eq!(rt;
-        answers(&rt, UserLoad::Deny, Growth::Components)?,
+        answers(&rt, UserLoad::Deny, Store::Plain, Growth::Components)?,
         all_denied
     );
     // Of eight calls the seventh is a stranger's Write.
@@ -50,7 +53,10 @@ fn calls_are_answered_by_the_rules(rt: HostRuntime) -> Result<(), Fail> {
         denied: 2,
         refused: 0,
     };
-    assert_eq!(rt; answers(&rt, UserLoad::Mixed, Growth::Bytes)?, mixed);
+    for store in Store::ALL {
+        let answers = answers(&rt, UserLoad::Mixed, store, Growth::Bytes)?;
+        assert_eq!(rt; answers, mixed, "{store:?}");
+    }
     Ok(())
 }
 

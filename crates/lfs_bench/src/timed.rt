@@ -1,5 +1,7 @@
 //! The calls that are timed.
 
+ghost use Rattle.std.specs.Prelude.{◌<◌};
+
 use crate::tree::{OWNER, STRANGER, Tree, call_of};
 use crate::workload::UserLoad;
 use anyhow::Result;
@@ -85,7 +87,9 @@ fn read(tree: &Tree, index: u32) -> Result<Request> {
 }
 
 /// A Write over the bytes whose turn it is.
-fn write(tree: &Tree, index: u32, size: u32) -> Result<Request> {
+fn write(tree: &Tree, index: u32, size: u32) -> Result<Request>
+    requires { 0 < size }
+{
     Ok(Request::Write {
         path: tree.file(0)?,
         place: Place::At(offset(tree, index, size)),
@@ -93,9 +97,12 @@ fn write(tree: &Tree, index: u32, size: u32) -> Result<Request> {
     })
 }
 
-/// Where the bytes begin whose turn it is. They go through the file again and again.
-fn offset(tree: &Tree, index: u32, size: u32) -> u64 {
-    u64::from(index) * u64::from(size) % u64::from(tree.scale().bytes)
+/// Where the bytes begin whose turn it is. They go through the file again and again, and never beyond its end.
+fn offset(tree: &Tree, index: u32, size: u32) -> u64
+    requires { 0 < size }
+{
+    let places = (tree.scale().bytes / size).max(1);
+    u64::from(index % places) * u64::from(size)
 }
 
 /// A Create of a name that is not there.

@@ -116,12 +116,19 @@ impl Tree {
 
     /// Adds the calls that write the bytes of the first file.
     fn push_bytes(&self, calls: &mut Vec<Call>) -> Result<()> {
-        for _ in 0..self.scale.bytes / TRANSFER_BYTES as u32 {
-            let path = self.file(0)?;
-            let place = Place::End;
-            let bytes = self.payload(TRANSFER_BYTES)?;
-            calls.push(call_of(OWNER, Request::Write { path, place, bytes })?)?;
+        let size = self.scale.bytes as usize;
+        for _ in 0..size / TRANSFER_BYTES {
+            self.push_write(calls, TRANSFER_BYTES)?;
         }
+        self.push_write(calls, size % TRANSFER_BYTES)
+    }
+
+    /// Adds the call that writes so many bytes at the end of the first file.
+    fn push_write(&self, calls: &mut Vec<Call>, size: usize) -> Result<()> {
+        let path = self.file(0)?;
+        let place = Place::End;
+        let bytes = self.payload(size)?;
+        calls.push(call_of(OWNER, Request::Write { path, place, bytes })?)?;
         Ok(())
     }
 
