@@ -29,7 +29,7 @@ pub fn run_step<F: CleanedStore + Drop>(
     match act {
         Act::User(request) => call(volume, session, &cred, request, text),
         Act::Cleaner(call) => {
-            clean(volume, session, &cred, call, text)?;
+            clean(volume, session, &cred, call.into_call(), text)?;
             Ok(())
         }
         Act::Pass => pass(volume, session, &cred, text),

@@ -8,8 +8,6 @@ use Rattle.std.specs.Global.{Vec}
 use Rattle.std.proofs.lemmas.List.Elements.{filter_map-append}
 use Rattle.lfs_types.specs.Caller.{Caller}
 use Rattle.lfs_types.specs.declared.request.Request.{Request}
-use Rattle.lfs_text.specs.declared.plan.Act.{Act}
-use Rattle.lfs_text.specs.declared.plan.Act.TheVariants.{User, Cleaner, Pass}
 use Rattle.lfs_text.specs.declared.plan.Step.{Step}
 use Rattle.lfs_text.specs.Splitting.{Sorts, act_call, calls_of, with_call}
 
@@ -77,23 +75,19 @@ with_call-push lists session list new call lt at pushed =
     ∙ rw (lt-ltb session (length (map (λ (v : Vec (Caller × Request)). v.items) lists)) within, old, pushed) refl
 
 -- a step that asks for a user's call
-pub sorted_push : (lists next : List (List (Caller × Request))) (steps : List Step) (step : Step) (session : ℕ) (cred : Caller) (act : Act) (request : Request) (count : ℕ) → session ≡ step.session → cred ≡ step.cred → act ≡ step.act → act ≡ User request → length lists ≡ count → next ≡ with_call lists session (cred, request) → Sorts steps count lists → Sorts (steps ++ step ∷ []) count next
-sorted_push lists next steps step session cred act request count at who asked is long grown sorted =
-    let asks : act_call step.cred step.act ≡ Some (cred, request) =
-    ap (λ (a : Act). act_call step.cred a) (sym asked ∙ is) ∙ ap (λ (c : Caller). Some (c, request)) (sym who) in
-    let all : Sorts (steps ++ step ∷ []) count (with_call lists step.session (cred, request)) =
-    sorted_more lists steps step (cred, request) count long asks sorted in
-    let same : next ≡ with_call lists step.session (cred, request) =
-    grown ∙ ap (λ (n : ℕ). with_call lists n (cred, request)) at in
+pub sorted_push : (lists next : List (List (Caller × Request))) (steps : List Step) (step : Step) (session : ℕ) (found : Option (Caller × Request)) (call : Caller × Request) (count : ℕ) → session ≡ step.session → found ≡ act_call step.cred step.act → found ≡ Some call → length lists ≡ count → next ≡ with_call lists session call → Sorts steps count lists → Sorts (steps ++ step ∷ []) count next
+sorted_push lists next steps step session found call count at asked is long grown sorted =
+    let all : Sorts (steps ++ step ∷ []) count (with_call lists step.session call) =
+    sorted_more lists steps step call count long (sym asked ∙ is) sorted in
+    let same : next ≡ with_call lists step.session call =
+    grown ∙ ap (λ (n : ℕ). with_call lists n call) at in
     subst (λ (xs : List (List (Caller × Request))). Sorts (steps ++ step ∷ []) count xs) (sym same) all
 
-no_call : (cred : Caller) (act : Act) → ((request : Request) → act ≡ User request → ⊥) → act_call cred act ≡ None
-no_call cred (User request) other = absurd (other request refl)
-no_call cred (Cleaner call) other = refl
-no_call cred Pass other = refl
+none_found : (found : Option (Caller × Request)) → ((call : Caller × Request) → found ≡ Some call → ⊥) → found ≡ None
+none_found None other = refl
+none_found (Some call) other = absurd (other call refl)
 
 -- a step that asks for none
-pub sorted_skip : (lists : List (List (Caller × Request))) (steps : List Step) (step : Step) (act : Act) (count : ℕ) → act ≡ step.act → ((request : Request) → act ≡ User request → ⊥) → Sorts steps count lists → Sorts (steps ++ step ∷ []) count lists
-sorted_skip lists steps step act count asked other sorted =
-    let none : act_call step.cred step.act ≡ None = ap (λ (a : Act). act_call step.cred a) (sym asked) ∙ no_call step.cred act other in
-    sorted_other lists steps step count none sorted
+pub sorted_skip : (lists : List (List (Caller × Request))) (steps : List Step) (step : Step) (found : Option (Caller × Request)) (count : ℕ) → found ≡ act_call step.cred step.act → ((call : Caller × Request) → found ≡ Some call → ⊥) → Sorts steps count lists → Sorts (steps ++ step ∷ []) count lists
+sorted_skip lists steps step found count asked other sorted =
+    sorted_other lists steps step count (sym asked ∙ none_found found other) sorted

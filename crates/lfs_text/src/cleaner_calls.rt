@@ -4,6 +4,7 @@ ghost use Rattle.std.specs.Prelude.{◌≡◌, map};
 ghost use Rattle.lfs_text.specs.CleanerCalls.{cleaner_said, segment_of};
 ghost use Rattle.lfs_words.specs.Faults.{Reads};
 
+use crate::plan::HeldCall;
 use lfs_model::journal::CleanerKind;
 use lfs_types::cleaner::CleanerCall;
 use lfs_words::fault::FaultKind;
@@ -12,12 +13,16 @@ use lfs_words::number::short_decimal;
 use lfs_words::words::{no_word, one_word};
 use std::alloc::Global;
 
+/// The call of this kind that the words behind its name ask for, in memory of its own.
+pub fn held_call(alloc: Global, kind: CleanerKind, words: &[&str]) -> Result<HeldCall, FaultKind>
+    ensures { Reads (cleaner_said kind (map (λ x. x.now) words.now)) result }
+{
+    let call = cleaner_call(alloc, kind, words)?;
+    Ok(HeldCall::new(alloc, call)?)
+}
+
 /// The call of this kind that the words behind its name ask for.
-pub fn cleaner_call(
-    alloc: Global,
-    kind: CleanerKind,
-    words: &[&str],
-) -> Result<CleanerCall, FaultKind>
+fn cleaner_call(alloc: Global, kind: CleanerKind, words: &[&str]) -> Result<CleanerCall, FaultKind>
     ensures { Reads (cleaner_said kind (map (λ x. x.now) words.now)) result }
 {
     match kind {

@@ -1,6 +1,6 @@
 //! What a script asks.
 
-ghost use Rattle.std.specs.Prelude.{◌≡◌, OnOk};
+ghost use Rattle.std.specs.Prelude.{◌≡◌, IfOk, OnOk};
 ghost use Rattle.lfs_text.specs.PlanTypes.{AreWithin};
 ghost use Rattle.lfs_text.specs.Plans.{added, first_draft, planned};
 
@@ -17,9 +17,47 @@ pub enum Act {
     /// A user's call.
     User(Request),
     /// A call of the cleaner.
-    Cleaner(CleanerCall),
+    Cleaner(HeldCall),
     /// A pass of the cleaner.
     Pass,
+}
+
+/// A call of the cleaner in memory of its own. It may hold 248 infos, for which each line would need room.
+#[derive(Drop, Debug)]
+pub struct HeldCall {
+    call: Box<CleanerCall>,
+}
+
+impl Model for HeldCall {
+    ghost use Rattle.lfs_types.specs.declared.cleaner.CleanerCall.{CleanerCall};
+
+    ghost Value = { CleanerCall };
+
+    ghost view = { λ h. h.call.value };
+}
+
+impl HeldCall {
+    /// This call.
+    pub fn new(alloc: Global, call: CleanerCall) -> Result<HeldCall, AllocError>
+        ensures { IfOk result (λ held. held ≡ call) }
+    {
+        let call = Box::new(alloc, call)?;
+        Ok(HeldCall { call })
+    }
+
+    /// The call, which stays held.
+    pub fn call(&self) -> &CleanerCall
+        ensures { result.now ≡ self.now }
+    {
+        &self.call
+    }
+
+    /// The call.
+    pub fn into_call(self) -> CleanerCall
+        ensures { result ≡ self }
+    {
+        Box::into_inner(self.call)
+    }
 }
 
 /// A line that asks for something: in which session, and who asks.

@@ -7,7 +7,7 @@ ghost use Rattle.lfs_text.specs.Parsing.{BeginsReadable, ParsesScript};
 ghost use Rattle.lfs_text.specs.Plans.{line_said, lines_of, plan_from, verb_said, words_said};
 ghost use Rattle.lfs_words.specs.declared.fault.FaultKind.TheVariants.{Memory};
 
-use crate::cleaner_calls::cleaner_call;
+use crate::cleaner_calls::held_call;
 use crate::fault::ScriptFault;
 use crate::plan::{Act, Draft, Line, Plan};
 use crate::requests::request;
@@ -99,7 +99,7 @@ fn parse_verb(alloc: Global, verb: Verb, words: &[&str]) -> Result<Line, FaultKi
         Verb::Session => Ok(Line::Session(session(one_word(words)?)?)),
         Verb::As => Ok(Line::Caller(caller(words)?)),
         Verb::User(kind) => Ok(Line::Act(Act::User(request(alloc, kind, words)?))),
-        Verb::Cleaner(kind) => Ok(Line::Act(Act::Cleaner(cleaner_call(alloc, kind, words)?))),
+        Verb::Cleaner(kind) => Ok(Line::Act(Act::Cleaner(held_call(alloc, kind, words)?))),
         Verb::Pass => {
             no_word(words)?;
             Ok(Line::Act(Act::Pass))

@@ -2,7 +2,7 @@
 
 ghost use Rattle.std.specs.Prelude.{◌≡◌, ◌+◌, ◌<◌, ℕ, [], ◌∷◌, false, map, replicate, vec_len, IfOk, OnOk, MatchResult};
 ghost use Rattle.std.specs.List.{list_any};
-ghost use Rattle.lfs_text.specs.Splitting.{Sorts, is_cleaner_fault, is_of_cleaner, with_call};
+ghost use Rattle.lfs_text.specs.Splitting.{Sorts, act_call, is_cleaner_fault, is_of_cleaner, with_call};
 
 use crate::plan::{Act, Plan, Step};
 use lfs_types::cred::Cred;
@@ -82,12 +82,24 @@ fn calls_by_session(
         × Sorts steps.items count (map (λ list. list.items) lists.items)) }
 {
     let mut lists = empty_lists(alloc, count)?;
-    for Step { session, cred, act } in steps {
-        if let Act::User(request) = act {
-            push_call(&mut lists, usize::from(session), (cred, request))?;
+    for step in steps {
+        let session = usize::from(step.session);
+        if let Some(call) = user_call(step) {
+            push_call(&mut lists, session, call)?;
         }
     }
     Ok(lists)
+}
+
+/// The user's call that a step asks for, where it does.
+fn user_call(step: Step) -> Option<Call>
+    ensures { result ≡ act_call step.cred step.act }
+{
+    let Step { cred, act, .. } = step;
+    match act {
+        Act::User(request) => Some((cred, request)),
+        Act::Cleaner(_) | Act::Pass => None,
+    }
 }
 
 /// So many empty lists.

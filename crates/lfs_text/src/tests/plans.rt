@@ -11,7 +11,7 @@ use lfs_types::mode::Mode;
 use lfs_types::path::Path;
 use lfs_types::payload::Payload;
 use lfs_types::request::{Place, Request};
-use std::alloc::Global;
+use std::alloc::{AllocError, Global};
 use std::test::Fail;
 
 /// The users' calls of a script.
@@ -138,6 +138,23 @@ fn levels_by_value(rt: HostRuntime) -> Result<(), Fail> {
     Ok(())
 }
 
+/// A call of the cleaner by its name and what it names.
+fn said(alloc: Global, call: &CleanerCall) -> Result<String, AllocError> {
+    match call {
+        CleanerCall::Ifile => format!(in alloc; "ifile"),
+        CleanerCall::Infos(segment) => format!(in alloc; "infos {segment}"),
+        CleanerCall::Segclean(segment) => format!(in alloc; "segclean {segment}"),
+        CleanerCall::Bmapv(infos) => {
+            let infos = infos.items();
+            format!(in alloc; "bmapv {infos:?}")
+        }
+        CleanerCall::Markv(infos) => {
+            let infos = infos.items();
+            format!(in alloc; "markv {infos:?}")
+        }
+    }
+}
+
 #[test]
 fn cleaner_calls_as_they_are_written(rt: HostRuntime) -> Result<(), Fail> {
     let alloc = rt.alloc();
@@ -152,20 +169,9 @@ fn cleaner_calls_as_they_are_written(rt: HostRuntime) -> Result<(), Fail> {
         match &step.act {
             Act::User(_) => writeln!(seen, "user")?,
             Act::Pass => writeln!(seen, "{session} {uid} pass")?,
-            Act::Cleaner(CleanerCall::Ifile) => writeln!(seen, "{session} {uid} ifile")?,
-            Act::Cleaner(CleanerCall::Infos(segment)) => {
-                writeln!(seen, "{session} {uid} infos {segment}")?
-            }
-            Act::Cleaner(CleanerCall::Segclean(segment)) => {
-                writeln!(seen, "{session} {uid} segclean {segment}")?
-            }
-            Act::Cleaner(CleanerCall::Bmapv(infos)) => {
-                let infos = infos.items();
-                writeln!(seen, "{session} {uid} bmapv {infos:?}")?
-            }
-            Act::Cleaner(CleanerCall::Markv(infos)) => {
-                let infos = infos.items();
-                writeln!(seen, "{session} {uid} markv {infos:?}")?
+            Act::Cleaner(held) => {
+                let call = said(alloc, held.call())?;
+                writeln!(seen, "{session} {uid} {call}")?
             }
         }
     }

@@ -1,22 +1,23 @@
-use Rattle.std.proofs.Common.{◌≡◌, ◌∙◌, length, ap, refl}
+use Rattle.std.proofs.Common.{◌≡◌, ◌∙◌, length, ap}
 use Rattle.lfs_text.proofs.SplitLemmas.{length-with_call, sorted_push, sorted_skip}
 use Rattle.lfs_text.proofs.split.calls_by_session.Goals as goal
 
-pub loop-session-preserved-in-Continue-branch-2 : goal.loop-session-preserved-in-Continue-branch-2
-loop-session-preserved-in-Continue-branch-2 c =
-    let session : c.from.result ≡ c.in-Some.field-0.session = cc in
+pub loop-step-preserved-in-Continue-branch-2 : goal.loop-step-preserved-in-Continue-branch-2
+loop-step-preserved-in-Continue-branch-2 c =
+    let session : c.from-session.result ≡ c.in-Some.step.session = cc in
     record {
-      counted = ap length c.in_ok-push_call.ensures ∙ length-with_call _ _ _ ∙ c.loop-session.invariant.counted;
+      counted = ap length c.in_ok-push_call.ensures ∙ length-with_call _ _ _ ∙ c.loop-step.invariant.counted;
       sorted =
-          sorted_push _ _ c.loop-session.yielded c.in-Some.field-0 c.from.result c.in-Some.field-0.cred c.in-Some.field-0.act c.in-User.request c.args.count
-          session refl refl c.in-User.is c.loop-session.invariant.counted c.in_ok-push_call.ensures c.loop-session.invariant.sorted;
+          sorted_push _ _ c.loop-step.yielded c.in-Some.step c.from-session.result c.user_call.result
+          c.in-Some-user_call.call c.args.count session c.user_call.ensures c.in-Some-user_call.is
+          c.loop-step.invariant.counted c.in_ok-push_call.ensures c.loop-step.invariant.sorted;
     }
 
-pub loop-session-preserved : goal.loop-session-preserved
-loop-session-preserved c =
+pub loop-step-preserved : goal.loop-step-preserved
+loop-step-preserved c =
     record {
-      counted = c.loop-session.invariant.counted;
+      counted = c.loop-step.invariant.counted;
       sorted =
-          sorted_skip _ c.loop-session.yielded c.in-Some.field-0 c.in-Some.field-0.act c.args.count refl
-          c.in_default.not-User c.loop-session.invariant.sorted;
+          sorted_skip _ c.loop-step.yielded c.in-Some.step c.user_call.result c.args.count c.user_call.ensures
+          c.in_default.not-Some c.loop-step.invariant.sorted;
     }
