@@ -1,6 +1,6 @@
 //! What scripts without a fault ask.
 
-use crate::plan::Act;
+use crate::plan::{Act, Step};
 use crate::script::parse_script;
 use crate::split::SplitFault;
 use lfs_types::cleaner::CleanerCall;
@@ -23,8 +23,10 @@ fn requests_of(alloc: Global, script: &str) -> Result<Vec<Request>, Fail> {
     let plan = parse_script(alloc, text)?;
     let mut requests = Vec::new(alloc);
     for step in plan.into_steps() {
-        if let Act::User(request) = step.act {
-            requests.push(request)?;
+        let Step { act, .. } = step;
+        match act {
+            Act::User(request) => requests.push(request)?,
+            _other => {}
         }
     }
     Ok(requests)
@@ -43,79 +45,80 @@ fn sixteen_groups(rt: HostRuntime) -> Result<(), Fail> {
     Ok(())
 }
 
-#[test]
-fn each_call_as_it_is_written(rt: HostRuntime) -> Result<(), Fail> {
-    let alloc = rt.alloc();
-    let script =
-        "\n# nothing\nstat /\ncreate /d/f 6755\nread /f 18446744073709551615 4294967295\nwrite /f at 00000000000000000007 00ff6a\nwrite /f end -\n";
+/// Fails unless a script asks for this call alone.
+fn expect(alloc: Global, script: &str, wanted: Request) -> Result<(), Fail> {
     let requests = requests_of(alloc, script)?;
-    let file = Path::parse(alloc, "/f")?;
-    let mode = Mode::new(0o6755).ok_or("mode")?;
-    let path = Path::parse(alloc, "/")?;
-    assert_eq!(rt; requests.len(), 5);
-    assert_eq!(rt; requests[0], Request::Stat { path });
-    let path = Path::parse(alloc, "/d/f")?;
-    assert_eq!(rt; requests[1], Request::Create { path, mode });
-    let path = file.try_clone(alloc)?;
-    let (off, len) = (u64::MAX, u32::MAX);
-    assert_eq!(rt; requests[2], Request::Read { path, off, len });
-    let path = file.try_clone(alloc)?;
-    let (place, bytes) = (Place::At(7), Payload::new(vec![in alloc; 0, 255, 106]?)?);
-    assert_eq!(rt; requests[3], Request::Write { path, place, bytes });
-    let (path, place, bytes) = (file, Place::End, Payload::new(Vec::new(alloc))?);
-    assert_eq!(rt; requests[4], Request::Write { path, place, bytes });
-    Ok(())
+    match requests.as_slice() {
+        [request] if *request == wanted => Ok(()),
+        _ => Err(Fail::from("another call is asked for")),
+    }
 }
 
 #[test]
-fn each_change_as_it_is_written(rt: HostRuntime) -> Result<(), Fail> {
+fn each_call_as_it_is_written(rt: HostRuntime) -> Result<(), Fail> {
     let alloc = rt.alloc();
-    let script =
-        "list /f\nunlink /f\nrmdir /f\nlength /f 71680\nmkdir /f 755\nchmod /f 1777\nchown /f 7 0008\nchflags /f 70007\nrename /f /\nsync\n";
-    let requests = requests_of(alloc, script)?;
+    let path = Path::parse(alloc, "/")?;
+    expect(alloc, "\n# nothing\nstat /\n", Request::Stat { path })?;
+    let path = Path::parse(alloc, "/d/f")?;
+    let mode = Mode::new(0o6755).ok_or("mode")?;
+    expect(alloc, "create /d/f 6755\n", Request::Create { path, mode })?;
     let path = Path::parse(alloc, "/f")?;
-    let expected = [
-        Request::List {
-            path: path.try_clone(alloc)?,
-        },
-        Request::Unlink {
-            path: path.try_clone(alloc)?,
-        },
-        Request::Rmdir {
-            path: path.try_clone(alloc)?,
-        },
-        Request::SetLength {
-            path: path.try_clone(alloc)?,
-            len: 71_680,
-        },
-        Request::Mkdir {
-            path: path.try_clone(alloc)?,
-            mode: Mode::new(0o755).ok_or("mode")?,
-        },
-        Request::Chmod {
-            path: path.try_clone(alloc)?,
-            mode: Mode::new(0o1777).ok_or("mode")?,
-        },
-        Request::Chown {
-            path: path.try_clone(alloc)?,
-            uid: 7,
-            gid: 8,
-        },
-        Request::Chflags {
-            path: path.try_clone(alloc)?,
-            flags: FileFlags::new(0x70007).ok_or("flags")?,
-        },
-        Request::Rename {
-            from: path.try_clone(alloc)?,
-            to: Path::parse(alloc, "/")?,
-        },
-        Request::Sync,
-    ];
-    assert_eq!(rt; requests.len(), 10);
-    for (request, wanted) in requests.iter().zip(&expected) {
-        assert_eq!(rt; *request, *wanted);
-    }
-    Ok(())
+    let (off, len) = (u64::MAX, u32::MAX);
+    let read = "read /f 18446744073709551615 4294967295\n";
+    expect(alloc, read, Request::Read { path, off, len })?;
+    let path = Path::parse(alloc, "/f")?;
+    let (place, bytes) = (Place::At(7), Payload::new(vec![in alloc; 0, 255, 106]?)?);
+    let write = "write /f at 00000000000000000007 00ff6a\n";
+    expect(alloc, write, Request::Write { path, place, bytes })?;
+    let path = Path::parse(alloc, "/f")?;
+    let (place, bytes) = (Place::End, Payload::new(Vec::new(alloc))?);
+    expect(
+        alloc,
+        "write /f end -\n",
+        Request::Write { path, place, bytes },
+    )
+}
+
+#[test]
+fn each_removal_and_length_as_it_is_written(rt: HostRuntime) -> Result<(), Fail> {
+    let alloc = rt.alloc();
+    let path = Path::parse(alloc, "/f")?;
+    expect(alloc, "list /f\n", Request::List { path })?;
+    let path = Path::parse(alloc, "/f")?;
+    expect(alloc, "unlink /f\n", Request::Unlink { path })?;
+    let path = Path::parse(alloc, "/f")?;
+    expect(alloc, "rmdir /f\n", Request::Rmdir { path })?;
+    let path = Path::parse(alloc, "/f")?;
+    let len = 71_680;
+    expect(alloc, "length /f 71680\n", Request::SetLength { path, len })?;
+    let (from, to) = (Path::parse(alloc, "/f")?, Path::parse(alloc, "/")?);
+    expect(alloc, "rename /f /\n", Request::Rename { from, to })?;
+    expect(alloc, "sync\n", Request::Sync)
+}
+
+#[test]
+fn each_change_of_attributes_as_it_is_written(rt: HostRuntime) -> Result<(), Fail> {
+    let alloc = rt.alloc();
+    let path = Path::parse(alloc, "/f")?;
+    let mode = Mode::new(0o755).ok_or("mode")?;
+    expect(alloc, "mkdir /f 755\n", Request::Mkdir { path, mode })?;
+    let path = Path::parse(alloc, "/f")?;
+    let mode = Mode::new(0o1777).ok_or("mode")?;
+    expect(alloc, "chmod /f 1777\n", Request::Chmod { path, mode })?;
+    let path = Path::parse(alloc, "/f")?;
+    let (uid, gid) = (7, 8);
+    expect(
+        alloc,
+        "chown /f 7 0008\n",
+        Request::Chown { path, uid, gid },
+    )?;
+    let path = Path::parse(alloc, "/f")?;
+    let flags = FileFlags::new(0x70007).ok_or("flags")?;
+    expect(
+        alloc,
+        "chflags /f 70007\n",
+        Request::Chflags { path, flags },
+    )
 }
 
 #[test]
