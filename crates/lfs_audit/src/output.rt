@@ -25,7 +25,8 @@ pub fn write_full<W: Write>(writer: &mut W, text: &mut Vec<u8>) -> Result<(), Ru
 
 /// Writes a text whole.
 pub fn write_text<W: Write>(writer: &mut W, text: &[u8]) -> Result<(), RunFault>
-    ensures written { OnOk result (Appends (W.contents writer.old) (W.contents writer.new) text.now) }
+    ensures written { OnOk result
+        (Appends (W.contents writer.old) (W.contents writer.new) text.now) }
     ensures fault { IfErr result MayHaveWritten }
 {
     match writer.write_all(text) {

@@ -13,7 +13,8 @@ pub const SCRIPT_MAX: usize = 1_048_576;
 /// The bytes that a reader has left. Every error of the reader ends it, and a reader that never ends is given up after at most 1,048,577 reads.
 pub fn read_script<R: Read>(alloc: Global, reader: &mut R) -> Result<Vec<u8>, RunFault>
     ensures bounded { IfOk result (λ script. vec_len script ≤ 1048576) }
-    ensures whole { IfSome (R.remaining reader.old) (λ bytes. IfOk result (λ script. script.items ≡ bytes)) }
+    ensures whole { IfSome (R.remaining reader.old)
+        (λ bytes. IfOk result (λ script. script.items ≡ bytes)) }
     ensures fault { IfErr result (IsFaultOf (R.remaining reader.old)) }
 {
     let mut script = Vec::new(alloc);

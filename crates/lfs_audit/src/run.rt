@@ -30,7 +30,8 @@ pub fn run_over<F: CleanedStore + Drop, R: Read, W: Write>(
 ) -> Result<(), RunFault>
     requires { volume.old.journal ≡ [] }
     ensures written { OnOk result (IfSome (R.remaining reader.old) (λ script. (text : List ℕ)
-        × IsOutput (cleaner_of F.state F.gives_ifile F.gives_infos F.gives_addresses F.writes_again F.reclaims)
+        × IsOutput
+        (cleaner_of F.state F.gives_ifile F.gives_infos F.gives_addresses F.writes_again F.reclaims)
         script volume.old.limit volume.old.store text
         × Appends (W.contents writer.old) (W.contents writer.new) text)) }
     ensures fault { IfErr result (IsFaultOf (R.remaining reader.old)) }
@@ -43,7 +44,8 @@ pub fn run_over<F: CleanedStore + Drop, R: Read, W: Write>(
 
 /// Reads a script whole, and gives its plan.
 pub fn read_plan<R: Read>(alloc: Global, reader: &mut R) -> Result<Plan, RunFault>
-    ensures plan { IfSome (R.remaining reader.old) (λ script. IfOk result (λ plan. plan_of script ≡ Ok plan)) }
+    ensures plan { IfSome (R.remaining reader.old)
+        (λ script. IfOk result (λ plan. plan_of script ≡ Ok plan)) }
     ensures fault { IfErr result (IsFaultOf (R.remaining reader.old)) }
 {
     let script = read_script(alloc, reader)?;
@@ -62,7 +64,8 @@ pub fn run_plan<F: CleanedStore + Drop, W: Write>(
 ) -> Result<(), RunFault>
     requires { volume.old.journal ≡ [] }
     ensures written { OnOk result ((text : List ℕ)
-        × IsRun (cleaner_of F.state F.gives_ifile F.gives_infos F.gives_addresses F.writes_again F.reclaims)
+        × IsRun
+        (cleaner_of F.state F.gives_ifile F.gives_infos F.gives_addresses F.writes_again F.reclaims)
         volume.old.limit volume.old.store steps.items text
         × Appends (W.contents writer.old) (W.contents writer.new) text) }
     ensures fault { IfErr result MayHaveWritten }
@@ -84,7 +87,8 @@ fn print_steps<F: CleanedStore + Drop, W: Write>(
     ensures written { OnOk result (Writes
         (cleaner_of F.state F.gives_ifile F.gives_infos F.gives_addresses F.writes_again F.reclaims)
         volume.old volume.new steps.items
-        (append_known (W.contents writer.old) text.old.items) (append_known (W.contents writer.new) text.new.items)) }
+        (append_known (W.contents writer.old) text.old.items)
+        (append_known (W.contents writer.new) text.new.items)) }
     ensures fault { IfErr result MayHaveWritten }
 {
     for step in steps {

@@ -27,7 +27,8 @@ pub fn run_script<R: Read, W: Write>(
         × IsLogOutput script params.segments params.inodes params.journal text
         × Appends (W.contents writer.old) (W.contents writer.new) text)) }
     ensures ranges { OnOk result (IsInRange params.segments params.inodes params.frames) }
-    ensures fault { IfErr result (IsScriptFault (R.remaining reader.old) params.segments params.inodes params.frames) }
+    ensures fault { IfErr result
+        (IsScriptFault (R.remaining reader.old) params.segments params.inodes params.frames) }
     ensures unwritten { IfErr result (λ fault. (MayHaveWritten fault → ⊥)
         → Keeps (W.contents writer.old) (W.contents writer.new)) }
 {

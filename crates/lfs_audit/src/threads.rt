@@ -55,7 +55,8 @@ pub(crate) fn print_run<F: CleanedStore + Drop, W: Write>(
     writer: &mut W,
 ) -> Result<(), ThreadsFault>
     requires { length closed.now.transcripts.items ≤ 8 }
-    ensures written { OnOk result (IsClosedText (F.state closed.now.volume.store).shape closed.now.volume.journal
+    ensures written { OnOk result
+        (IsClosedText (F.state closed.now.volume.store).shape closed.now.volume.journal
         closed.now.setup.items closed.now.transcripts.items
         (W.contents writer.old) (W.contents writer.new)) }
     ensures fault { IfErr result MayHaveWrittenThreads }
@@ -71,7 +72,8 @@ fn print_closed<F: CleanedStore + Drop, W: Write>(
     writer: &mut W,
 ) -> Result<(), RunFault>
     requires { length closed.now.transcripts.items ≤ 8 }
-    ensures written { OnOk result (IsClosedText (F.state closed.now.volume.store).shape closed.now.volume.journal
+    ensures written { OnOk result
+        (IsClosedText (F.state closed.now.volume.store).shape closed.now.volume.journal
         closed.now.setup.items closed.now.transcripts.items
         (W.contents writer.old) (W.contents writer.new)) }
     ensures fault { IfErr result MayHaveWritten }
@@ -93,7 +95,8 @@ fn print_transcripts<W: Write>(
     requires { length transcripts.now ≤ 8 }
     ensures written { OnOk result (Appends (append_known (W.contents writer.old) text.old.items)
         (append_known (W.contents writer.new) text.new.items)
-        (transcripts_text 1 (map (λ (transcript : Vec Answer). transcript.items) transcripts.now))) }
+        (transcripts_text 1
+        (map (λ (transcript : Vec Answer). transcript.items) transcripts.now))) }
     ensures fault { IfErr result MayHaveWritten }
 {
     for index in 0..transcripts.len() {
@@ -111,7 +114,8 @@ fn print_transcript<W: Write>(
     answers: &[Answer],
 ) -> Result<(), RunFault>
     ensures written { OnOk result (Appends (append_known (W.contents writer.old) text.old.items)
-        (append_known (W.contents writer.new) text.new.items) (transcript_text session answers.now)) }
+        (append_known (W.contents writer.new) text.new.items)
+        (transcript_text session answers.now)) }
     ensures fault { IfErr result MayHaveWritten }
 {
     for answer in answers {

@@ -37,7 +37,8 @@ pub struct FlatFiles {
     ghost reserved: { 4 ≤ least_free },
     ghost within: { least_free ≤ vec_len places },
     ghost used: { (ino : ℕ) → 4 ≤ ino → ino < least_free → IsSome (file_in places.items ino) },
-    ghost free: { least_free < vec_len places → IsFalse (is_some (file_in places.items least_free)) },
+    ghost free: { least_free < vec_len places
+        → IsFalse (is_some (file_in places.items least_free)) },
 }
 
 impl FlatFiles {
@@ -106,7 +107,8 @@ impl FlatFiles {
 
     /// Makes changes, in order, that may be asked for and have room.
     fn make_changes(&mut self, changes: &[Change<'_>])
-        requires can { CanChangeAll (vec_len self.old.places) changes.now (content_of self.old.places.items) }
+        requires can { CanChangeAll (vec_len self.old.places) changes.now
+            (content_of self.old.places.items) }
         requires room { All (HasRoom self.old.places.items) changes.now }
         ensures content { content_of self.new.places.items
             ≡ applied changes.now (content_of self.old.places.items) }
@@ -119,7 +121,8 @@ impl FlatFiles {
 
     /// Makes a change that may be asked for and has room.
     fn make_change(&mut self, change: &Change<'_>)
-        requires can { CanChange (vec_len self.old.places) change.now (content_of self.old.places.items) }
+        requires can { CanChange (vec_len self.old.places) change.now
+            (content_of self.old.places.items) }
         requires room { HasRoom self.old.places.items change.now }
         ensures content { content_of self.new.places.items
             ≡ changed change.now (content_of self.old.places.items) }
@@ -169,7 +172,8 @@ impl FlatFiles {
     fn set_length(&mut self, ino: usize, len: usize)
         requires { CanHold (vec_len self.old.places) self.old.places.items ino len }
         ensures content { let old = content_of self.old.places.items in
-            content_of self.new.places.items ≡ changed_at (map.get old ino) ino (with_length len) old }
+            content_of self.new.places.items
+            ≡ changed_at (map.get old ino) ino (with_length len) old }
         ensures numbers { vec_len self.new.places ≡ vec_len self.old.places }
         ensures grows { Grows self.old.places.items self.new.places.items }
     {
@@ -180,7 +184,8 @@ impl FlatFiles {
     fn set_attrs(&mut self, ino: usize, attrs: Attrs)
         requires { HasFile (vec_len self.old.places) self.old.places.items ino }
         ensures content { let old = content_of self.old.places.items in
-            content_of self.new.places.items ≡ changed_at (map.get old ino) ino (with_attrs attrs) old }
+            content_of self.new.places.items
+            ≡ changed_at (map.get old ino) ino (with_attrs attrs) old }
         ensures numbers { vec_len self.new.places ≡ vec_len self.old.places }
         ensures grows { Grows self.old.places.items self.new.places.items }
     {
@@ -189,9 +194,11 @@ impl FlatFiles {
 
     /// Puts bytes into the file of a number, where there is room for them.
     fn put(&mut self, ino: usize, off: u64, bytes: &[u8])
-        requires { CanHold (vec_len self.old.places) self.old.places.items ino (end_of off bytes.now) }
+        requires { CanHold (vec_len self.old.places) self.old.places.items ino
+            (end_of off bytes.now) }
         ensures content { let old = content_of self.old.places.items in
-            content_of self.new.places.items ≡ changed_at (map.get old ino) ino (with_bytes off bytes.now) old }
+            content_of self.new.places.items
+            ≡ changed_at (map.get old ino) ino (with_bytes off bytes.now) old }
         ensures numbers { vec_len self.new.places ≡ vec_len self.old.places }
         ensures grows { Grows self.old.places.items self.new.places.items }
     {

@@ -75,7 +75,8 @@ pub fn differing_session(
 ) -> Option<u8>
     requires { length scripts.now ≤ 8 }
     ensures { MatchOption result
-        ((session : ℕ) → 1 ≤ session → AgreesAt is_full later.now scripts.now (map (λ t. t.items) transcripts.now) session)
+        ((session : ℕ) → 1 ≤ session
+        → AgreesAt is_full later.now scripts.now (map (λ t. t.items) transcripts.now) session)
         (λ u. IsLowest is_full later.now scripts.now (map (λ t. t.items) transcripts.now) u) }
 {
     let mut asked = scripts;

@@ -58,7 +58,8 @@ impl Pass {
     /// The next call, given the answer to the last one; `None` once the pass is over. The answer to a call that was not
     /// made ends it.
     pub fn next(&mut self, last: Option<&CleanerAnswer>) -> Option<CleanerCall>
-        ensures steps { Steps self.old (option_map (λ answer. answer.now) last.entry) result self.new }
+        ensures steps { Steps self.old
+            (option_map (λ answer. answer.now) last.entry) result self.new }
         ensures fewer { IfSome result (λ _. calls_left self.new < calls_left self.old) }
         ensures over { IfNone result (self.new.stage ≡ Stage.Over) }
     {
@@ -107,7 +108,8 @@ impl Pass {
     /// Asks for the present addresses of a segment's infos.
     fn locate(&mut self, segment: u32, infos: &[BlockInfo]) -> Option<CleanerCall>
         requires { length infos.now ≤ 248 }
-        ensures { Makes (CleanerCall.Bmapv infos.now) self.old.rounds (Stage.Locating segment infos.now) result self.new }
+        ensures { Makes (CleanerCall.Bmapv infos.now) self.old.rounds
+            (Stage.Locating segment infos.now) result self.new }
     {
         self.stage = Stage::Locating(segment, InfoList::new(infos)?);
         Some(CleanerCall::Bmapv(InfoList::new(infos)?))

@@ -7,7 +7,7 @@ ghost use Rattle.lfs_server.specs.Serving.{IsServeFault};
 ghost use Rattle.lfs_volume.specs.Journals.{IsJournal};
 
 use crate::gate::Gate;
-use crate::serving::{Closed, ServeFault, serve_over};
+use crate::serving::{Closed, MOST_SESSIONS, ServeFault, serve_over};
 use lfs_logstore::LogStore;
 use lfs_types::fault::FormatFault;
 use lfs_types::script::Script;
@@ -16,9 +16,6 @@ use lfs_volume::volume::Volume;
 use std::alloc::Global;
 use std::sync::Wait;
 use std::thread::Threads;
-
-/// The greatest number of sessions.
-const MOST_SESSIONS: usize = 8;
 
 /// Runs the setup and then each script as a session on a thread of its own, with the cleaner beside them, on a fresh volume
 /// over the log store. `Sessions` comes exactly for none and for more than eight, before all others; `Format` for numbers out
@@ -34,13 +31,16 @@ pub fn serve<R, G>(
 where
     R: Threads + Wait + Sync,
     G: Gate,
-    ensures settled { IfOk result (λ closed. IsInterleaving (run_of closed.volume.journal closed.volume.limit
+    ensures settled { IfOk result (λ closed. IsInterleaving
+        (run_of closed.volume.journal closed.volume.limit
         setup closed.setup.items sessions.items closed.transcripts.items)) }
     ensures limit { IfOk result (λ closed. closed.volume.limit ≡ params.journal) }
-    ensures legal { IfOk result (λ closed. IsJournal (state_of closed.volume.store) closed.volume.level
+    ensures legal { IfOk result (λ closed. IsJournal
+        (state_of closed.volume.store) closed.volume.level
         closed.volume.journal closed.volume.limit) }
     ensures sessions { OnOk result ((0 < vec_len sessions) × (vec_len sessions ≤ 8)) }
-    ensures fault { IfErr result (IsServeFault (vec_len sessions) params.segments params.inodes params.frames) }
+    ensures fault { IfErr result
+        (IsServeFault (vec_len sessions) params.segments params.inodes params.frames) }
 {
     if sessions.is_empty() || sessions.len() > MOST_SESSIONS {
         return Err(ServeFault::Sessions);

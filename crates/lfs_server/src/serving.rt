@@ -24,7 +24,7 @@ use std::thread::{JoinHandle, Scope, Threads};
 use thiserror::Error;
 
 /// The greatest number of sessions.
-const MOST_SESSIONS: usize = 8;
+pub(crate) const MOST_SESSIONS: usize = 8;
 
 /// The session that only an entry of no session is told by.
 const STRANGER: u8 = 255;
@@ -87,10 +87,12 @@ where
     R: Threads + Wait + Sync,
     F: CleanedStore + Send + Drop,
     G: Gate,
-    ensures settled { IfOk result (λ closed. IsInterleaving (run_of closed.volume.journal closed.volume.limit
+    ensures settled { IfOk result (λ closed. IsInterleaving
+        (run_of closed.volume.journal closed.volume.limit
         setup closed.setup.items sessions.items closed.transcripts.items)) }
     ensures limit { IfOk result (λ closed. closed.volume.limit ≡ volume.limit) }
-    ensures legal { IfOk result (λ closed. IsJournal (F.state closed.volume.store) closed.volume.level
+    ensures legal { IfOk result (λ closed. IsJournal
+        (F.state closed.volume.store) closed.volume.level
         closed.volume.journal closed.volume.limit) }
     ensures sessions { OnOk result ((0 < vec_len sessions) × (vec_len sessions ≤ 8)) }
     ensures fault { IfErr result (λ fault. IsFaultOf (vec_len sessions) fault) }
@@ -247,10 +249,12 @@ fn close<F: FileStore + Drop>(
     transcripts: Vec<Vec<Answer>>,
 ) -> Result<Closed<F>, ServeFault>
     requires { length sessions.now ≤ 8 }
-    ensures settled { IfOk result (λ closed. IsInterleaving (run_of closed.volume.journal closed.volume.limit
+    ensures settled { IfOk result (λ closed. IsInterleaving
+        (run_of closed.volume.journal closed.volume.limit
         setup.now closed.setup.items sessions.now closed.transcripts.items)) }
     ensures limit { IfOk result (λ closed. closed.volume.limit ≡ limit) }
-    ensures legal { IfOk result (λ closed. IsJournal (F.state closed.volume.store) closed.volume.level
+    ensures legal { IfOk result (λ closed. IsJournal
+        (F.state closed.volume.store) closed.volume.level
         closed.volume.journal closed.volume.limit) }
     ensures fault { IfErr result IsRunFault }
 {

@@ -73,7 +73,8 @@ fn call<F: FileStore + Drop>(
     ensures entered { volume.new.journal ≡ volume.old.journal
         ++ kept_entry session cred.now request result.0 }
     ensures wanted { IsTrue result.1 ↔ ((result.0 ≡ Answer.Refused Resource.NoSpace)
-        ⊎ (((F.state volume.new.store).clean < (F.state volume.old.store).clean) × ((F.state volume.new.store).clean ≤ 3))) }
+        ⊎ (((F.state volume.new.store).clean < (F.state volume.old.store).clean)
+        × ((F.state volume.new.store).clean ≤ 3))) }
     ensures limit { volume.new.limit ≡ volume.old.limit }
 {
     let before = volume.clean_segments();

@@ -56,8 +56,10 @@ fn judge(
 ) -> Result<(), Unsettled>
     requires { length scripts.now ≤ 8 }
     ensures { MatchResult result
-        (λ _. IsInterleaving (run_of journal.now limit setup.now answers.now scripts.now transcripts.now))
-        (λ u. IsLowestToDiffer (run_of journal.now limit setup.now answers.now scripts.now transcripts.now) u.0) }
+        (λ _. IsInterleaving
+        (run_of journal.now limit setup.now answers.now scripts.now transcripts.now))
+        (λ u. IsLowestToDiffer
+        (run_of journal.now limit setup.now answers.now scripts.now transcripts.now) u.0) }
 {
     let is_full = journal.len() == limit as usize;
     let Some(later) = after_setup(is_full, journal, setup, answers) else {

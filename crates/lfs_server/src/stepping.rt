@@ -61,8 +61,10 @@ pub fn after_setup_call<'a>(
     answer: &Answer,
 ) -> Option<&'a [Entry]>
     ensures { MatchOption result
-        ((setup : _) → (answers : _) → (later : _) → IsBegun is_full entries.now (call.now ∷ setup) (answer.now ∷ answers) later → ⊥)
-        (λ rest. (setup : _) → (answers : _) → (later : _) → IsBegun is_full entries.now (call.now ∷ setup) (answer.now ∷ answers) later
+        ((setup : _) → (answers : _) → (later : _)
+        → IsBegun is_full entries.now (call.now ∷ setup) (answer.now ∷ answers) later → ⊥)
+        (λ rest. (setup : _) → (answers : _) → (later : _)
+        → IsBegun is_full entries.now (call.now ∷ setup) (answer.now ∷ answers) later
         ↔ IsBegun is_full rest.now setup answers later) }
 {
     let (cred, request) = call;
@@ -88,8 +90,10 @@ pub fn after_call<'a>(
     answer: &Answer,
 ) -> Option<&'a [Entry]>
     ensures { MatchOption result
-        ((script : _) → (answers : _) → IsSettled is_full entries.now session (call.now ∷ script) (answer.now ∷ answers) → ⊥)
-        (λ rest. (script : _) → (answers : _) → IsSettled is_full entries.now session (call.now ∷ script) (answer.now ∷ answers)
+        ((script : _) → (answers : _)
+        → IsSettled is_full entries.now session (call.now ∷ script) (answer.now ∷ answers) → ⊥)
+        (λ rest. (script : _) → (answers : _)
+        → IsSettled is_full entries.now session (call.now ∷ script) (answer.now ∷ answers)
         ↔ IsSettled is_full rest.now session script answers) }
 {
     let (cred, request) = call;

@@ -49,16 +49,19 @@ impl<F: FileStore + Drop> Model for Volume<F> {
 
     ghost use Rattle.lfs_volume.specs.Journals.{IsJournal};
 
-    ghost view = { λ v. record { store = v.store; level = v.level; journal = v.journal.items; limit = v.limit } };
+    ghost view = { λ v. record
+        { store = v.store; level = v.level; journal = v.journal.items; limit = v.limit } };
 
-    ghost invariant = { λ v. IsJournal (F.state v.store) v.level v.journal.items v.limit × (v.limit ≤ vec_capacity v.journal) };
+    ghost invariant = { λ v. IsJournal (F.state v.store) v.level v.journal.items v.limit
+        × (v.limit ≤ vec_capacity v.journal) };
 }
 
 impl<F: FileStore + Drop> Volume<F> {
     /// A volume over a store that holds the tree of a fresh volume, with room for `journal_limit` entries.
     pub fn new(alloc: Global, store: F, journal_limit: u32) -> Result<Volume<F>, AllocError>
         requires { (F.state store).content ≡ opening_content }
-        ensures { IfOk result (λ v. v ≡ record { store = store; level = Insecure; journal = []; limit = journal_limit }) }
+        ensures { IfOk result (λ v. v ≡ record
+            { store = store; level = Insecure; journal = []; limit = journal_limit }) }
     {
         let journal = Vec::with_capacity(alloc, journal_limit as usize)?;
         Ok(Volume {
@@ -81,9 +84,11 @@ impl<F: FileStore + Drop> Volume<F> {
             IsOutcome old (world_of old.shape.numbers self.old.journal) cred.now request result }
         ensures entered { self.new.journal ≡ self.old.journal
             ++ kept_entry session cred.now request result }
-        ensures legal { IsJournal (F.state self.new.store) self.new.level self.new.journal self.new.limit }
+        ensures legal { IsJournal (F.state self.new.store)
+            self.new.level self.new.journal self.new.limit }
         ensures unserved { IsUnserved result
-            → Stays (F.state self.old.store) (F.state self.new.store) self.old.level self.new.level }
+            → Stays (F.state self.old.store) (F.state self.new.store)
+            self.old.level self.new.level }
         ensures limit { self.new.limit ≡ self.old.limit }
         ensures follows { Follows (F.state self.old.store) (F.state self.new.store) }
     {
@@ -110,7 +115,8 @@ impl<F: FileStore + Drop> Volume<F> {
             AreAnswers (F.state old.store) old.limit old.journal calls.items answers.items) }
         ensures entered { IfOk result (λ answers. self.new.journal
             ≡ self.old.journal ++ kept calls.items answers.items) }
-        ensures legal { IsJournal (F.state self.new.store) self.new.level self.new.journal self.new.limit }
+        ensures legal { IsJournal (F.state self.new.store)
+            self.new.level self.new.journal self.new.limit }
         ensures refused { IfErr result (λ _. self.new ≡ self.old) }
         ensures limit { self.new.limit ≡ self.old.limit }
         ensures follows { Follows (F.state self.old.store) (F.state self.new.store) }
@@ -135,7 +141,8 @@ impl<F: FileStore + Drop> Volume<F> {
     /// What was called and answered, in order.
     pub fn journal(&self) -> &[Entry]
         ensures entries { result.now ≡ self.now.journal }
-        ensures legal { IsJournal (F.state self.now.store) self.now.level result.now self.now.limit }
+        ensures legal { IsJournal (F.state self.now.store)
+            self.now.level result.now self.now.limit }
     {
         self.journal.as_slice()
     }
@@ -172,12 +179,15 @@ impl<F: CleanedStore + Drop> Volume<F> {
         ensures shown { let old = F.state self.old.store in
             IsVolume old (world_of old.shape.numbers self.old.journal) }
         ensures answered { length self.old.journal < self.old.limit → IsCleanerAnswer
-            (cleaner_of F.state F.gives_ifile F.gives_infos F.gives_addresses F.writes_again F.reclaims)
+            (cleaner_of F.state F.gives_ifile F.gives_infos F.gives_addresses
+            F.writes_again F.reclaims)
             self.old.store cred.now call result self.new.store }
         ensures entered { self.new.journal ≡ self.old.journal
             ++ kept_cleaning session cred.now call result }
-        ensures legal { IsJournal (F.state self.new.store) self.new.level self.new.journal self.new.limit }
-        ensures stays { Stays (F.state self.old.store) (F.state self.new.store) self.old.level self.new.level }
+        ensures legal { IsJournal (F.state self.new.store)
+            self.new.level self.new.journal self.new.limit }
+        ensures stays { Stays (F.state self.old.store) (F.state self.new.store)
+            self.old.level self.new.level }
         ensures cleans { CleansOnly result (F.state self.old.store) (F.state self.new.store) }
         ensures limit { self.new.limit ≡ self.old.limit }
     {
@@ -198,11 +208,14 @@ impl<F: CleanedStore + Drop> Volume<F> {
     /// first. Without the cleaner's steps the users' would have the same answers.
     pub fn run_steps(&mut self, steps: Vec<Step>) -> Result<Vec<StepAnswer>, RunMemory>
         ensures each { IfOk result (λ answers. AreSteps
-            (cleaner_of F.state F.gives_ifile F.gives_infos F.gives_addresses F.writes_again F.reclaims)
-            self.old.limit self.old.journal self.old.store steps.items answers.items self.new.store) }
+            (cleaner_of F.state F.gives_ifile F.gives_infos F.gives_addresses
+            F.writes_again F.reclaims)
+            self.old.limit self.old.journal self.old.store
+            steps.items answers.items self.new.store) }
         ensures entered { IfOk result (λ answers. self.new.journal
             ≡ self.old.journal ++ kept_steps steps.items answers.items) }
-        ensures legal { IsJournal (F.state self.new.store) self.new.level self.new.journal self.new.limit }
+        ensures legal { IsJournal (F.state self.new.store)
+            self.new.level self.new.journal self.new.limit }
         ensures users_alone { IfOk result (λ answers. let shape = (F.state self.old.store).shape in
             AreLegalAlone shape (kept_steps steps.items answers.items)
             (world_of shape.numbers self.old.journal) (world_of shape.numbers self.new.journal)) }
@@ -227,10 +240,13 @@ impl<F: CleanedStore + Drop> Volume<F> {
     /// Makes one step, as `call` or `clean` does.
     fn make(&mut self, step: Step) -> StepAnswer
         ensures made { IsActMade
-            (cleaner_of F.state F.gives_ifile F.gives_infos F.gives_addresses F.writes_again F.reclaims)
-            self.old.limit self.old.journal self.old.store step.cred step.act result self.new.store }
+            (cleaner_of F.state F.gives_ifile F.gives_infos F.gives_addresses
+            F.writes_again F.reclaims)
+            self.old.limit self.old.journal self.old.store
+            step.cred step.act result self.new.store }
         ensures entered { self.new.journal ≡ self.old.journal ++ kept_step step result }
-        ensures legal { IsJournal (F.state self.new.store) self.new.level self.new.journal self.new.limit }
+        ensures legal { IsJournal (F.state self.new.store)
+            self.new.level self.new.journal self.new.limit }
         ensures limit { self.new.limit ≡ self.old.limit }
         ensures shape { (F.state self.new.store).shape ≡ (F.state self.old.store).shape }
     {
@@ -292,7 +308,8 @@ fn answer<F: FileStore>(
     request: &Request,
 ) -> Answer
     requires { HasWorld (F.state store.old) }
-    ensures { IsAnswered (F.state store.old) (F.state store.new) level.old level.new cred.now request.now result }
+    ensures { IsAnswered (F.state store.old) (F.state store.new)
+        level.old level.new cred.now request.now result }
 {
     let answer = answered(serve(alloc, store, *level, cred, request));
     *level = level_left(*level, request, &answer);

@@ -51,7 +51,8 @@ impl Place {
 
     /// Reads bytes from `off` on, as many as there are and the buffer takes, and says how many.
     pub fn read(&self, off: u64, into: &mut [u8]) -> usize
-        ensures { Reads (slice_of self.now.bytes.items off (length into.old)) result into.old into.new }
+        ensures { Reads (slice_of self.now.bytes.items off (length into.old))
+            result into.old into.new }
     {
         let bytes = self.bytes.as_slice();
         let start = bytes.len().min(off as usize);
