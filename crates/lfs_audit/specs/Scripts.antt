@@ -11,7 +11,7 @@ use Rattle.lfs_volume.specs.Cleanings.{Cleaner, cleaner_of}
 use Rattle.lfs_audit.specs.Faults.{IsFaultOf}
 use Rattle.lfs_audit.specs.Output.{IsOutput}
 use Rattle.lfs_audit.specs.declared.fault.RunFault.{RunFault}
-use Rattle.lfs_audit.specs.declared.fault.RunFault.TheVariants.{Read, TooLong, Script, Format, Memory, Write}
+use Rattle.lfs_audit.specs.declared.fault.RunFault.TheVariants.{Format, Memory}
 
 -- the log store as a kind of store
 abbrev pub log_cleaner : Cleaner Parts

@@ -1,7 +1,7 @@
 -- The best of dirty segments, segment by segment.
-use Rattle.std.proofs.Common.{◌≡◌, ℕ, suc, ◌+◌, ◌*◌, ◌/◌, ◌^◌, ◌<◌, ◌≤◌, ◌⊎◌, List, length, Option, None, Some, MatchOption, slice_index, refl, sym, subst, ap, ◌∙◌, inl, inr, below_more, arith}
+use Rattle.std.proofs.Common.{◌≡◌, ℕ, ◌+◌, ◌/◌, ◌<◌, ◌≤◌, List, length, Option, None, Some, MatchOption, slice_index, sym, subst, ◌∙◌, inl, inr, below_more, arith}
 use Rattle.std.proofs.lemmas.Bool.{cases_lt}
-use Rattle.lfs_ifile.specs.Layout.{IsLaidOut, ReadsUse, number_at}
+use Rattle.lfs_ifile.specs.Layout.{number_at}
 use Rattle.lfs_server.specs.Choosing.{HasNoDirty, IsBestBelow, IsChosen, IsDirty, IsFirst}
 use Rattle.lfs_server.specs.declared.choosing.Candidate.{Candidate}
 

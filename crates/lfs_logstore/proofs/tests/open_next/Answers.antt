@@ -1,4 +1,4 @@
-use Rattle.std.proofs.Common.{◌≡◌, ℕ, ◌<◌, [], Option, None, Some, IfNone, IfSome, subst, sym, ap}
+use Rattle.std.proofs.Common.{◌≡◌, ℕ, ◌<◌, [], Option, None, Some, IfNone, IfSome, subst, sym}
 use Rattle.lfs_ifile.specs.declared.segment.SegState.TheVariants.{Clean}
 use Rattle.lfs_segments.specs.Log.{Expects}
 use Rattle.lfs_ways.specs.Log.{Opens}

@@ -1,5 +1,3 @@
-use Rattle.std.proofs.Common.{ℕ, ◌≡◌}
-use Rattle.lfs_server.specs.Choosing.{IsDirty}
 use Rattle.lfs_server.proofs.choosing.dirty_live.Goals as goal
 
 pub returns-in_default-2 : goal.returns-in_default-2

@@ -1,7 +1,6 @@
-use Rattle.std.proofs.Common.{◌+◌, ◌<◌, ℕ, ◌≡◌, ◌≤◌, length, ◌/◌, sym, subst, arith}
+use Rattle.std.proofs.Common.{◌<◌, ℕ, length, ◌/◌, sym, subst, arith}
 use Rattle.std.specs.Prelude.{Result, Ok, Err}
 use Rattle.std.specs.Result.{OkIff, result_unwrap_or}
-use Rattle.lfs_server.specs.Choosing.{IsDirty}
 use Rattle.lfs_server.proofs.ChoosingLemmas.{dirty_below}
 use Rattle.lfs_server.proofs.choosing.segment_bound.Goals as goal
 
