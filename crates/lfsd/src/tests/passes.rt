@@ -128,21 +128,3 @@ rule U1 1
     assert_eq!(rt; output(rt.alloc(), script)?.as_slice(), expected.as_slice());
     Ok(())
 }
-
-#[test]
-fn infos_before_and_after_a_pass(rt: HostRuntime) -> Result<(), Fail> {
-    let alloc = rt.alloc();
-    let mut script = String::new(alloc);
-    script.push_str("create /w 0644\n")?;
-    for _ in 0..84 {
-        script.push_str("write /w at 0 61\n")?;
-    }
-    script.push_str("infos 2\npass\ninfos 2\nwrite /w at 0 62\nread /w 0 9\n")?;
-    let written = output_with(alloc, script.as_str(), SIX_SEGMENTS)?;
-    let text = written.as_slice();
-    assert!(rt; has_line(text, b"0 refused NoSpace"));
-    assert!(rt; has_line(text, b"0 cleaner infos ok 42"));
-    assert!(rt; has_line(text, b"0 cleaner infos fault NotDirty"));
-    assert!(rt; has_line(text, b"0 bytes 62"));
-    Ok(())
-}

@@ -157,38 +157,3 @@ rmdir /d
 ";
     expect(&rt, rt.alloc(), script, expected)
 }
-
-#[test]
-fn locked_file_in_a_sticky_directory_only_grows(rt: HostRuntime) -> Result<(), Fail> {
-    let script = "\
-mkdir /log 1777
-as 7 7
-create /log/a 0644
-write /log/a end 6f6e65
-as 8 8
-unlink /log/a
-as 0 0
-chflags /log/a 40000
-level 1
-chflags /log/a 0
-as 7 7
-write /log/a at 0 78
-write /log/a end 74776f
-read /log/a 0 16
-list /log
-";
-    let expected = "\
-0 ok
-0 ok
-0 ok
-0 denied Y1 EPERM 0 2
-0 ok
-0 ok
-0 denied L2 EPERM 0 2
-0 denied F2 EPERM 0 2
-0 ok
-0 bytes 6f6e6574776f
-0 names a
-";
-    expect(&rt, rt.alloc(), script, expected)
-}

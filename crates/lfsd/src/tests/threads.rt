@@ -34,47 +34,6 @@ read /x/a 0 9
 }
 
 #[test]
-fn two_sessions_print_in_turn(rt: HostRuntime) -> Result<(), Fail> {
-    let script = "\
-mkdir /x 0777
-mkdir /y 0777
-session 1
-as 7 7
-create /x/a 0644
-write /x/a end 6869
-read /x/a 0 9
-list /x
-session 2
-as 8 8
-create /y/b 0600
-write /y/b end 6f
-read /y/b 0 1
-";
-    let expected = b"\
-0 ok
-0 ok
-1 ok
-1 ok
-1 bytes 6869
-1 names a
-2 ok
-2 ok
-2 bytes 6f
-entries ";
-    let mut written = Vec::new(rt.alloc());
-    let outcome = run_threads(
-        &rt,
-        rt.alloc(),
-        &mut script.as_bytes(),
-        &mut written,
-        DEFAULTS,
-    );
-    assert_eq!(rt; outcome, Ok(()));
-    assert!(rt; written.as_slice().starts_with(expected));
-    Ok(())
-}
-
-#[test]
 fn threads_without_a_session(rt: HostRuntime) -> Result<(), Fail> {
     let script = "as 0 0\ncreate /a 0644\nread /a 0 10\n";
     let mut written = Vec::new(rt.alloc());
