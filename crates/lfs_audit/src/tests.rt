@@ -1,37 +1,57 @@
-//! Tests of what no contract says: whole scripts over a plain store whose cleaner finds nothing to do, and readers and
-//! writers that fail or never end.
+//! Tests of what no contract says: scripts over a plain store whose cleaner finds nothing to do, a journal at its limit,
+//! scripts that are cut, readers and writers that fail or never end, and which of several faults a run is given.
 
+mod cuts;
+mod fakes;
+mod faults;
 mod lines;
 mod store;
 mod streams;
+mod streams_on_threads;
 
-use crate::fault::RunFault;
-use crate::run::run_over;
-use lfs_volume::flat_files::FlatFiles;
-use lfs_volume::volume::Volume;
-use std::alloc::Global;
+use crate::fault::{RunFault, ThreadsFault};
+use crate::scripts::run_script;
+use crate::threaded::run_threads;
+use lfs_types::store::Params;
+use std::alloc::{AllocError, Global};
 use std::io::{Read, Write};
-use store::Unswept;
+use std::sync::Wait;
+use std::thread::Threads;
 
-/// How many entries the journal may have where a test doesn't say otherwise.
-const LIMIT: u32 = 4096;
-
-/// Runs a script over a fresh volume whose journal may have so many entries.
-fn run_with<R: Read, W: Write>(
-    alloc: Global,
-    reader: &mut R,
-    writer: &mut W,
-    limit: u32,
-) -> Result<(), RunFault> {
-    let files = match FlatFiles::new(alloc, 64) {
-        Ok(files) => files,
-        Err(fault) => return Err(RunFault::Format(fault)),
-    };
-    let mut volume = Volume::new(alloc, Unswept::new(files), limit)?;
-    run_over(alloc, reader, writer, &mut volume)
-}
+/// The volume on which a script runs where a test doesn't say otherwise.
+const PARAMS: Params = Params {
+    segments: 64,
+    inodes: 64,
+    frames: 64,
+    journal: 4096,
+};
 
 /// Runs a script over a fresh volume.
 fn run<R: Read, W: Write>(alloc: Global, reader: &mut R, writer: &mut W) -> Result<(), RunFault> {
-    run_with(alloc, reader, writer, LIMIT)
+    run_script(alloc, reader, writer, PARAMS)
+}
+
+/// Runs a script over a fresh volume, its sessions on threads.
+fn run_on_threads<S, R, W>(
+    rt: &S,
+    alloc: Global,
+    reader: &mut R,
+    writer: &mut W,
+) -> Result<(), ThreadsFault>
+where
+    S: Threads + Wait + Sync,
+    R: Read,
+    W: Write,
+{
+    run_threads(rt, alloc, reader, writer, PARAMS)
+}
+
+/// Appends to these lines what makes a run print more than two pieces of 65,536 bytes, and less than three: twenty Reads
+/// of 4,096 bytes.
+fn push_long_reads(script: &mut String) -> Result<(), AllocError> {
+    script.push_str("create /a 0644\nlength /a 4096\n")?;
+    for _ in 0..20 {
+        script.push_str("read /a 0 4096\n")?;
+    }
+    Ok(())
 }

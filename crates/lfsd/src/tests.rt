@@ -1,4 +1,4 @@
-//! Tests of what no contract says: whole scripts, faults and printed texts, and readers and writers that fail.
+//! Tests of what no contract says: whole scripts, arguments, the texts of faults and the status of a run.
 
 mod arguments;
 mod cases;
@@ -6,7 +6,7 @@ mod cleaning;
 mod passes;
 mod rules;
 mod sizes;
-mod streams;
+mod status;
 mod texts;
 mod threads;
 mod volume;

@@ -1,6 +1,11 @@
 //! Scripts with the cleaner's lines, and what they print.
 
-use super::{run, run_with};
+use super::store::Unswept;
+use super::{PARAMS, run_script};
+use crate::run::run_over;
+use lfs_types::store::Params;
+use lfs_volume::flat_files::FlatFiles;
+use lfs_volume::volume::Volume;
 use std::test::Fail;
 
 #[test]
@@ -37,18 +42,41 @@ refused 0
 cleaner 7
 rule U1 3
 ";
-    let mut writer = Vec::new(rt.alloc());
-    run(rt.alloc(), &mut script.as_slice(), &mut writer)?;
+    let alloc = rt.alloc();
+    let store = Unswept::new(FlatFiles::new(alloc, 64)?);
+    let mut volume = Volume::new(alloc, store, PARAMS.journal)?;
+    let mut writer = Vec::new(alloc);
+    run_over(alloc, &mut script.as_slice(), &mut writer, &mut volume)?;
     assert_eq!(rt; writer.as_slice(), expected.as_slice());
     Ok(())
 }
 
 #[test]
-fn cleaner_lines_behind_a_full_journal(rt: HostRuntime) -> Result<(), Fail> {
-    let script = b"create /a 0644\nsegclean 1\npass\nstat /a\n";
+fn lines_behind_a_full_journal(rt: HostRuntime) -> Result<(), Fail> {
+    let script = b"create /a 0644
+create /a 0644
+stat /none
+session 2
+as 5 5
+write /a at 0 61
+level 1
+segclean 9999
+pass
+session 0
+as 0 0
+bmapv
+pass
+unlink /a
+";
     let expected = b"\
 0 ok
-0 cleaner segclean refused JournalFull
+0 refused JournalFull
+0 refused JournalFull
+2 refused JournalFull
+2 refused JournalFull
+2 cleaner segclean refused JournalFull
+2 cleaner ifile refused JournalFull
+0 cleaner bmapv refused JournalFull
 0 cleaner ifile refused JournalFull
 0 refused JournalFull
 entries 1
@@ -57,8 +85,12 @@ denied 0
 refused 0
 cleaner 0
 ";
+    let params = Params {
+        journal: 1,
+        ..PARAMS
+    };
     let mut writer = Vec::new(rt.alloc());
-    run_with(rt.alloc(), &mut script.as_slice(), &mut writer, 1)?;
+    run_script(rt.alloc(), &mut script.as_slice(), &mut writer, params)?;
     assert_eq!(rt; writer.as_slice(), expected.as_slice());
     Ok(())
 }

@@ -1,104 +1,13 @@
-//! Readers and writers that fail or never end.
+//! Scripts run over readers and writers that fail, never end or take little.
 
-use super::run;
+use super::fakes::{Endless, Failing, Full, Shut, Slow};
+use super::{push_long_reads, run};
 use crate::fault::RunFault;
 use lfs_text::fault::{FaultKind, ScriptFault};
-use std::alloc::{AllocError, Global};
-use std::io;
-use std::io::{ErrorKind, Read, Write};
+use std::io::ErrorKind;
 use std::test::Fail;
 
 const SCRIPT: &[u8] = b"create /a 0644\nwrite /a at 0 616263\nread /a 0 10\nstat /a\n";
-
-/// Gives this byte at each read, for ever, and counts its reads.
-#[derive(Drop)]
-struct Endless {
-    byte: u8,
-    reads: u32,
-}
-
-impl Read for Endless {
-    fn read(&mut self, buf: &mut [u8]) -> io::Result<usize> {
-        self.reads = self.reads.saturating_add(1);
-        if buf.is_empty() {
-            return Ok(0);
-        }
-        buf[0] = self.byte;
-        Ok(1)
-    }
-}
-
-/// Gives a byte of `rest` at each read, and fails once `reads` are done.
-#[derive(Drop)]
-struct Failing<'a> {
-    rest: &'a [u8],
-    reads: usize,
-    kind: ErrorKind,
-}
-
-impl Read for Failing<'_> {
-    fn read(&mut self, buf: &mut [u8]) -> io::Result<usize> {
-        if self.reads == 0 {
-            return Err(io::Error::from(self.kind));
-        }
-        self.reads -= 1;
-        match self.rest.split_first() {
-            Some((first, rest)) if !buf.is_empty() => {
-                buf[0] = *first;
-                self.rest = rest;
-                Ok(1)
-            }
-            _ => Ok(0),
-        }
-    }
-}
-
-/// Takes so many writes and then fails, and fails its flush where it is told so.
-#[derive(Drop)]
-struct Full {
-    writes: usize,
-    flushes: bool,
-}
-
-impl Write for Full {
-    fn write(&mut self, buf: &[u8]) -> io::Result<usize> {
-        if self.writes == 0 {
-            return Err(io::Error::from(ErrorKind::StorageFull));
-        }
-        self.writes -= 1;
-        Ok(buf.len())
-    }
-
-    fn flush(&mut self) -> io::Result<()> {
-        if self.flushes {
-            Ok(())
-        } else {
-            Err(io::Error::from(ErrorKind::StorageFull))
-        }
-    }
-}
-
-/// Takes one byte at each write.
-#[derive(Drop)]
-struct Slow {
-    taken: Vec<u8>,
-}
-
-impl Write for Slow {
-    fn write(&mut self, buf: &[u8]) -> io::Result<usize> {
-        let Some(first) = buf.first() else {
-            return Ok(0);
-        };
-        match self.taken.push(*first) {
-            Ok(()) => Ok(1),
-            Err(_) => Err(io::Error::from(ErrorKind::OutOfMemory)),
-        }
-    }
-
-    fn flush(&mut self) -> io::Result<()> {
-        Ok(())
-    }
-}
 
 #[test]
 fn reader_that_fails_at_each_read(rt: HostRuntime) {
@@ -110,18 +19,16 @@ fn reader_that_fails_at_each_read(rt: HostRuntime) {
                 reads,
                 kind,
             };
-            let mut writer = Vec::new(rt.alloc());
+            let mut writer = Shut { is_asked: false };
             let result = run(rt.alloc(), &mut reader, &mut writer);
             assert_eq!(rt; result, Err(RunFault::Read), "{reads}");
-            assert!(rt; writer.is_empty());
+            assert!(rt; !writer.is_asked);
         }
     }
-    let kind = ErrorKind::Other;
-    let reads = SCRIPT.len() + 1;
     let mut reader = Failing {
         rest: SCRIPT,
-        reads,
-        kind,
+        reads: SCRIPT.len() + 1,
+        kind: ErrorKind::Other,
     };
     let mut writer = Vec::new(rt.alloc());
     let result = run(rt.alloc(), &mut reader, &mut writer);
@@ -168,19 +75,10 @@ fn longest_script(rt: HostRuntime) -> Result<(), Fail> {
     Ok(())
 }
 
-/// A script that writes more than two pieces of 65,536 bytes, and less than three: twenty Reads of 4,096 bytes.
-fn long_answers(alloc: Global) -> Result<String, AllocError> {
-    let mut script = String::new(alloc);
-    script.push_str("create /a 0644\nlength /a 4096\n")?;
-    for _ in 0..20 {
-        script.push_str("read /a 0 4096\n")?;
-    }
-    Ok(script)
-}
-
 #[test]
 fn writer_that_fails_at_each_write(rt: HostRuntime) -> Result<(), Fail> {
-    let script = long_answers(rt.alloc())?;
+    let mut script = String::new(rt.alloc());
+    push_long_reads(&mut script)?;
     for writes in 0..3 {
         let mut writer = Full {
             writes,
@@ -188,6 +86,7 @@ fn writer_that_fails_at_each_write(rt: HostRuntime) -> Result<(), Fail> {
         };
         let result = run(rt.alloc(), &mut script.as_bytes(), &mut writer);
         assert_eq!(rt; result, Err(RunFault::Write), "{writes}");
+        assert_eq!(rt; writer.writes, 0);
     }
     for (flushes, expected) in [(true, Ok(())), (false, Err(RunFault::Write))] {
         let mut writer = Full { writes: 3, flushes };

@@ -1,0 +1,44 @@
+//! The status of a run, and faults that can't be told.
+
+use crate::tell::{end, tell};
+use lfs_audit::fault::{RunFault, ThreadsFault};
+use std::io;
+use std::io::{ErrorKind, Write};
+
+/// Takes so many writes and then fails.
+#[derive(Drop)]
+struct Full {
+    writes: usize,
+}
+
+impl Write for Full {
+    fn write(&mut self, buf: &[u8]) -> io::Result<usize> {
+        if self.writes == 0 {
+            return Err(io::Error::from(ErrorKind::StorageFull));
+        }
+        self.writes -= 1;
+        Ok(buf.len())
+    }
+
+    fn flush(&mut self) -> io::Result<()> {
+        Err(io::Error::from(ErrorKind::StorageFull))
+    }
+}
+
+#[test]
+fn status_of_a_run(rt: HostRuntime) {
+    let mut told = Vec::new(rt.alloc());
+    assert_eq!(rt; end(&mut told, Ok(())), 0);
+    assert!(rt; told.is_empty());
+    assert_eq!(rt; end(&mut told, Err(ThreadsFault::Run(RunFault::Write))), 1);
+    assert_eq!(rt; told.as_slice(), b"lfsd: write failed\n".as_slice());
+}
+
+#[test]
+fn tell_to_a_writer_that_fails(rt: HostRuntime) {
+    for writes in 0..3 {
+        let mut writer = Full { writes };
+        let fault = ThreadsFault::Run(RunFault::Read);
+        assert_eq!(rt; tell(&mut writer, &fault), 1);
+    }
+}
