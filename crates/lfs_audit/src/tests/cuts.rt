@@ -41,12 +41,13 @@ fn script_cut_within_each_line(rt: HostRuntime) -> Result<(), Fail> {
     for (line, _) in LINES {
         script.extend_from_slice(line)?;
     }
+    let mut line = 1u32;
     for count in 1..script.len() {
         let cut = &script.as_slice()[..count];
         if cut.ends_with(b"\n") {
+            line = line.saturating_add(1);
             continue;
         }
-        let line = cut.split(|byte| *byte == b'\n').count() as u32;
         let kind = FaultKind::Cut;
         let mut writer = Shut { is_asked: false };
         let result = run(alloc, &mut &*cut, &mut writer);
