@@ -28,7 +28,8 @@ pub trait CleanedStore: FileStore {
     /// The bytes of the ifile.
     fn ifile_bytes(&self) -> Result<Vec<u8>, AllocError>
         ensures given { IfOk result (λ bytes. gives_ifile self.now bytes.items) }
-        ensures size { IfOk result (λ bytes. length bytes.items ≡ ifile_size (Self.state self.now).shape) };
+        ensures size { IfOk result (λ bytes. length bytes.items
+            ≡ ifile_size (Self.state self.now).shape) };
 
     /// The infos of a dirty segment, in the order of the log. After a fault the list is not to be read.
     fn infos(&self, segment: u32, infos: &mut InfoList) -> Result<(), CleanFault>
@@ -54,5 +55,6 @@ pub trait CleanedStore: FileStore {
         ensures given { reclaims self.old segment result self.new }
         ensures fault { IfErr result IsReclaimFault }
         ensures refused { OnErr result (self.new ≡ self.old) }
-        ensures cleaned { OnOk result (Self.state self.new ≡ with_clean_segment (Self.state self.old)) };
+        ensures cleaned { OnOk result (Self.state self.new
+            ≡ with_clean_segment (Self.state self.old)) };
 }

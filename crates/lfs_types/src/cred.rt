@@ -41,9 +41,15 @@ impl Model for Cred {
 
     ghost view = { λ c. record { uid = c.uid; groups = take c.count c.groups; init = c.init } };
 
-    ghost invariant = { λ c. (length c.groups ≡ 16) × (0 < c.count) × (c.count ≤ 16) × (drop c.count c.groups ≡ replicate (16 - c.count) 0) × (c.init ≡ true → c.uid ≡ 0) };
+    ghost invariant = { λ c. (length c.groups ≡ 16) × (0 < c.count) × (c.count ≤ 16)
+        × (drop c.count c.groups ≡ replicate (16 - c.count) 0) × (c.init ≡ true → c.uid ≡ 0) };
 
-    ghost inverse = { λ v. record { uid = v.uid; count = length v.groups; groups = v.groups ++ replicate (16 - length v.groups) 0; init = v.init } };
+    ghost inverse = { λ v. record {
+      uid = v.uid;
+      count = length v.groups;
+      groups = v.groups ++ replicate (16 - length v.groups) 0;
+      init = v.init;
+    } };
 
     ghost use Rattle.lfs_types.specs.Padded.{length_front, padded_front};
     ghost use Rattle.std.proofs.Common.{arith};
@@ -60,7 +66,8 @@ impl Cred {
     /// The credential of this user with these groups, or the first fault in the order of `BadCred`.
     pub fn new(uid: u32, groups: &[u32], init: bool) -> Result<Cred, BadCred>
         ensures { MatchResult result
-            (λ c. (cred_fault uid groups.now init ≡ None) × (c ≡ record { uid = uid; groups = groups.now; init = init }))
+            (λ c. (cred_fault uid groups.now init ≡ None)
+            × (c ≡ record { uid = uid; groups = groups.now; init = init }))
             (λ fault. cred_fault uid groups.now init ≡ Some fault) }
     {
         if groups.is_empty() {

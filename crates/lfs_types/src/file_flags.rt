@@ -28,7 +28,9 @@ impl Flags for FlagBits {
 
     ghost exact = { ⊤ };
 
-    ghost table = { (codes "UF_NODUMP", 0x1) ∷ (codes "UF_IMMUTABLE", 0x2) ∷ (codes "UF_APPEND", 0x4) ∷ (codes "SF_ARCHIVED", 0x1_0000) ∷ (codes "SF_IMMUTABLE", 0x2_0000) ∷ (codes "SF_APPEND", 0x4_0000) ∷ [] };
+    ghost table = { (codes "UF_NODUMP", 0x1) ∷ (codes "UF_IMMUTABLE", 0x2)
+        ∷ (codes "UF_APPEND", 0x4) ∷ (codes "SF_ARCHIVED", 0x1_0000)
+        ∷ (codes "SF_IMMUTABLE", 0x2_0000) ∷ (codes "SF_APPEND", 0x4_0000) ∷ [] };
 
     ghost set_of = { λ f. f.0 };
 

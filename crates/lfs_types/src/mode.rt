@@ -34,7 +34,10 @@ impl Flags for ModeBits {
 
     ghost exact = { ⊤ };
 
-    ghost table = { (codes "S_ISUID", 2048) ∷ (codes "S_ISGID", 1024) ∷ (codes "S_ISVTX", 512) ∷ (codes "S_IRUSR", 256) ∷ (codes "S_IWUSR", 128) ∷ (codes "S_IXUSR", 64) ∷ (codes "S_IRGRP", 32) ∷ (codes "S_IWGRP", 16) ∷ (codes "S_IXGRP", 8) ∷ (codes "S_IROTH", 4) ∷ (codes "S_IWOTH", 2) ∷ (codes "S_IXOTH", 1) ∷ [] };
+    ghost table = { (codes "S_ISUID", 2048) ∷ (codes "S_ISGID", 1024) ∷ (codes "S_ISVTX", 512)
+        ∷ (codes "S_IRUSR", 256) ∷ (codes "S_IWUSR", 128) ∷ (codes "S_IXUSR", 64)
+        ∷ (codes "S_IRGRP", 32) ∷ (codes "S_IWGRP", 16) ∷ (codes "S_IXGRP", 8)
+        ∷ (codes "S_IROTH", 4) ∷ (codes "S_IWOTH", 2) ∷ (codes "S_IXOTH", 1) ∷ [] };
 
     ghost set_of = { λ m. m.0 };
 

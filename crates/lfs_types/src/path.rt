@@ -107,7 +107,8 @@ impl Eq for Path {
 
 /// The bytes behind a slash at the front, where there is one.
 fn behind_slash(text: &[u8]) -> Option<&[u8]>
-    ensures { MatchOption result (is_absolute text.now ≡ false) (λ behind. text.now ≡ 47 ∷ behind.now) }
+    ensures { MatchOption result (is_absolute text.now ≡ false)
+        (λ behind. text.now ≡ 47 ∷ behind.now) }
 {
     match text.split_first() {
         Some((b'/', behind)) => Some(behind),

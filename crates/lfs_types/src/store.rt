@@ -73,7 +73,9 @@ pub trait FileStore {
     /// Reads a file's bytes from `off` on, as many as there are and the buffer takes, and says how many.
     fn read(&mut self, ino: u32, off: u64, into: &mut [u8]) -> usize
         requires { IsSome (get (state self.old).content ino) }
-        ensures reads { Reads (slice_of (bytes_of (state self.old).content ino) off (length into.old)) result into.old into.new }
+        ensures reads { Reads
+            (slice_of (bytes_of (state self.old).content ino) off (length into.old))
+            result into.old into.new }
         ensures state { state self.new ≡ state self.old };
 
     /// The least free number from 4 up, if there is one below the number of inode numbers.
