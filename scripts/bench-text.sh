@@ -4,13 +4,15 @@
 # last to the first. The tree, the callers and the calls are those of lfs_bench. The time of the script without the
 # timed calls is taken away. Each time is the best of RUNS runs, by default 9. CALLS calls are timed, 1 to 10,000, by
 # default 10,000; of read-hot at most 1,000, and of write-4k 100, as a script has at most 1,048,576 bytes. PROGRAM names
-# a program that is built already.
+# a program that is built already. OPTIONS are the program's; by default the log has so many segments that no call is
+# refused for want of space, with no pass of the cleaner.
 set -euo pipefail
 cd "$(dirname "$0")/.."
 
 runs=${RUNS:-9}
 calls=${CALLS:-10000}
 program=${PROGRAM:-crates/lfsd/out/lfsd}
+read -ra options <<<"${OPTIONS:---segments 1024 --inodes 512 --journal 100000}"
 if [ -z "${PROGRAM:-}" ]; then
     (cd crates/lfsd && "${RT:-rt}" run <../../scripts/first.lfs >/dev/null)
 fi
@@ -57,7 +59,7 @@ best() {
     local least= run start end
     for ((run = 0; run < runs; run++)); do
         start=${EPOCHREALTIME/./}
-        "$program" --inodes 512 --journal 100000 <"$1" >/dev/null
+        "$program" "${options[@]}" <"$1" >/dev/null
         end=${EPOCHREALTIME/./}
         if [ -z "$least" ] || [ $((end - start)) -lt "$least" ]; then
             least=$((end - start))
@@ -68,7 +70,7 @@ best() {
 
 # The nanoseconds of a call of workload $1 in a directory of $2 names.
 nanoseconds() {
-    local timed=$calls most=10000 before whole
+    local timed=$calls most=10000 before whole refused
     case $1 in
         read-hot) most=1000 ;;
         write-4k) most=100 ;;
@@ -78,6 +80,11 @@ nanoseconds() {
     fi
     script "$1" "$2" 0 >"$room/before"
     script "$1" "$2" "$timed" >"$room/whole"
+    refused=$("$program" "${options[@]}" <"$room/whole" | grep -c ' refused ' || true)
+    if [ "$refused" != 0 ]; then
+        echo "$refused calls of $1 are refused" >&2
+        return 1
+    fi
     before=$(best "$room/before")
     whole=$(best "$room/whole")
     echo $(((whole - before) * 1000 / timed))
