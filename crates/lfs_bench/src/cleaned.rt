@@ -72,7 +72,7 @@ fn play_cleaned<R: Clock, F: CleanedStore + Drop>(
         cred,
         request,
     } in calls {
-        if volume.clean_segments() <= FEW {
+        if wants_pass(volume) {
             let start = Instant::now(rt)?;
             make_pass(volume, &cleaner);
             seconds += start.elapsed(rt)?.as_secs_f64();
@@ -82,8 +82,13 @@ fn play_cleaned<R: Clock, F: CleanedStore + Drop>(
     Ok(Measure { counts, seconds })
 }
 
+/// Whether few segments are clean.
+pub fn wants_pass<F: CleanedStore + Drop>(volume: &Volume<F>) -> bool {
+    volume.clean_segments() <= FEW
+}
+
 /// Makes the calls of a pass of the cleaner.
-fn make_pass<F: CleanedStore + Drop>(volume: &mut Volume<F>, cleaner: &Cred) {
+pub fn make_pass<F: CleanedStore + Drop>(volume: &mut Volume<F>, cleaner: &Cred) {
     let mut pass = Pass::new();
     let mut last = None;
     for _ in 0..PASS_CALLS {

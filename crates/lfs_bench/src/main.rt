@@ -1,4 +1,5 @@
-//! Times the calls of the file server over each store, and the frames of its cache, as what may grow grows.
+//! Times the calls of the file server over each store, and the frames of its cache, as what may grow grows; and calls of
+//! eight sessions on threads against those of one.
 //!
 //! What the calls were answered is counted on standard output. The times go to standard error, as the table that
 //! `docs/SPEED.md` keeps.
@@ -7,9 +8,12 @@
 mod cleaned;
 mod counts;
 mod frames;
+mod meeting;
 mod options;
 mod rows;
 mod scale;
+mod sessions;
+mod stopwatch;
 mod store;
 #[cfg(test)]
 mod tests;
@@ -31,7 +35,12 @@ fn main(rt: HostRuntime) -> anyhow::Result<ExitCode> {
             return Ok(ExitCode::from(error.exit_code() as u8));
         }
     };
-    rows::print_rows(&rt, &options)?;
+    if !options.workloads.is_empty() {
+        rows::print_rows(&rt, &options)?;
+    }
+    if options.sessions {
+        sessions::print_sessions(&rt, &options)?;
+    }
     Ok(ExitCode::SUCCESS)
 }
 

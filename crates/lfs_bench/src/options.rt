@@ -15,11 +15,16 @@ const CALLS: u32 = 2048;
 /// How many runs each time is the best of where no argument says otherwise.
 const RUNS: u32 = 5;
 
+/// The name by which sessions on threads are asked for.
+const SESSIONS: &str = "sessions";
+
 /// What is asked for.
 #[derive(Drop, PartialEq, Eq, Debug)]
 pub struct Options {
-    /// The workloads, in the order in which they are run.
+    /// The workloads of one session, in the order in which they are run.
     pub workloads: Vec<Workload>,
+    /// Whether sessions on threads are run behind them.
+    pub sessions: bool,
     /// How many calls are timed before they grow: 1 to 65,536.
     pub calls: u32,
     /// How many runs each time is the best of: 1 to 100.
@@ -31,7 +36,7 @@ pub struct Options {
 pub fn options_of<'a, S: AsStr>(alloc: Global, words: &'a [S]) -> Result<Options, Error> {
     let mut command = command(alloc)?;
     let matches = command.try_get_matches_from_mut(words)?;
-    let Some(workloads) = workloads_of(alloc, &matches)? else {
+    let Some((workloads, sessions)) = workloads_of(alloc, &matches)? else {
         let message = "there is no such workload";
         return Err(command.error(ErrorKind::InvalidValue, message)?);
     };
@@ -43,6 +48,7 @@ pub fn options_of<'a, S: AsStr>(alloc: Global, words: &'a [S]) -> Result<Options
     }
     Ok(Options {
         workloads,
+        sessions,
         calls,
         runs,
     })
@@ -74,20 +80,25 @@ fn command<'a>(alloc: Global) -> Result<Command<'a>, AllocError> {
         .arg(runs)
 }
 
-/// The workloads that are named, or all; None where a name is none.
+/// The workloads that are named, or all, and whether sessions are among them; None where a name is none.
 fn workloads_of(
     alloc: Global,
     matches: &ArgMatches<'_>,
-) -> Result<Option<Vec<Workload>>, AllocError> {
+) -> Result<Option<(Vec<Workload>, bool)>, AllocError> {
     let Some(names) = matches.get_strs("workload") else {
-        return Ok(Some(Vec::from_slice(alloc, &Workload::ALL)?));
+        return Ok(Some((Vec::from_slice(alloc, &Workload::ALL)?, true)));
     };
     let mut workloads = Vec::with_capacity(alloc, names.len())?;
+    let mut sessions = false;
     for name in names {
+        if *name == SESSIONS {
+            sessions = true;
+            continue;
+        }
         let Some(workload) = Workload::named(name) else {
             return Ok(None);
         };
         workloads.push(workload)?;
     }
-    Ok(Some(workloads))
+    Ok(Some((workloads, sessions)))
 }

@@ -16,6 +16,7 @@ use lfs_volume::flat_files::FlatFiles;
 use lfs_volume::journal::Call;
 use lfs_volume::volume::Volume;
 use std::alloc::Global;
+use std::num::nearest_u64_to_f64;
 use std::rt::Clock;
 use std::time::Instant;
 
@@ -54,6 +55,22 @@ pub struct Measure {
     pub counts: Counts,
     /// How many seconds it took.
     pub seconds: f64,
+}
+
+impl Measure {
+    /// How many calls were served in a second.
+    pub fn served_a_second(&self) -> f64 {
+        nearest_u64_to_f64(self.counts.served) / self.seconds
+    }
+
+    /// Of this and another the one with more calls served in a second.
+    pub fn faster(self, other: Measure) -> Measure {
+        if other.served_a_second() > self.served_a_second() {
+            other
+        } else {
+            self
+        }
+    }
 }
 
 /// The calls of a run: those that make the tree, and those that are timed.
@@ -96,19 +113,24 @@ pub fn run_on<R: Clock + AllocGlobal>(
     }
 }
 
-/// A fresh volume over a log. Its journal has room for the calls, and for the cleaner's calls between them.
-fn log_volume(alloc: Global, scale: &Scale, calls: u32) -> Result<Volume<LogStore>> {
-    let journal = calls.saturating_mul(CLEANER_CALLS);
-    let params = Params {
+/// The numbers of a volume over a log. Its journal has room for so many calls of users, and for the cleaner's calls
+/// between them.
+pub fn log_params(scale: &Scale, calls: u32) -> Params {
+    Params {
         segments: scale.segments,
         inodes: scale.inodes,
         frames: scale.frames,
-        journal,
-    };
+        journal: calls.saturating_mul(CLEANER_CALLS),
+    }
+}
+
+/// A fresh volume over a log, with room for so many calls of users.
+pub fn log_volume(alloc: Global, scale: &Scale, calls: u32) -> Result<Volume<LogStore>> {
+    let params = log_params(scale, calls);
     let Ok(store) = LogStore::format(alloc, params) else {
         bail!("the log isn't laid out");
     };
-    Ok(Volume::new(alloc, store, journal)?)
+    Ok(Volume::new(alloc, store, params.journal)?)
 }
 
 /// Makes the tree, and times the calls behind it.

@@ -5,6 +5,7 @@ use crate::counts::Counts;
 use crate::options::{Options, options_of};
 use crate::rows::Subject;
 use crate::scale::{Factor, Growth, Scale};
+use crate::sessions::{run_alone, run_beside, scale_of};
 use crate::store::Store;
 use crate::workload::{UserLoad, Workload};
 use std::test::Fail;
@@ -76,10 +77,25 @@ fn keys_that_were_filled_are_held(rt: HostRuntime) -> Result<(), Fail> {
 }
 
 #[test]
+fn sessions_are_served(rt: HostRuntime) -> Result<(), Fail> {
+    // Each name that a session makes is its own, and the owner may do what he asks for; so the schedule decides nothing
+    // while segments are clean. Each of eight sessions makes its sixteen calls twice.
+    let all_served = Counts {
+        served: 256,
+        ..Counts::default()
+    };
+    let scale = scale_of(16, Factor::Sixteen);
+    assert_eq!(rt; run_alone(&rt, scale)?.counts, all_served);
+    assert_eq!(rt; run_beside(&rt, scale)?.counts, all_served);
+    Ok(())
+}
+
+#[test]
 fn words_of_the_command_line(rt: HostRuntime) -> Result<(), Fail> {
     let alloc = rt.alloc();
     let all = Options {
         workloads: Vec::from_slice(alloc, &Workload::ALL)?,
+        sessions: true,
         calls: 2048,
         runs: 5,
     };
@@ -94,6 +110,7 @@ fn words_of_the_command_line(rt: HostRuntime) -> Result<(), Fail> {
     ];
     let two = Options {
         workloads: vec![in alloc; Workload::Users(UserLoad::Deny), Workload::LookUps]?,
+        sessions: false,
         calls: 65_536,
         runs: 1,
     };

@@ -11,7 +11,7 @@ use lfs_volume::journal::Call;
 use std::alloc::Global;
 
 /// How many bytes a small Write puts.
-const SMALL: u32 = 16;
+pub const SMALL: u32 = 16;
 
 /// How many calls of different kinds a mixed workload has before it begins anew.
 const KINDS: u32 = 8;
@@ -77,7 +77,7 @@ fn stat(tree: &Tree, number: u32) -> Result<Request> {
 }
 
 /// A Read of the block of 4,096 bytes whose turn it is.
-fn read(tree: &Tree, index: u32) -> Result<Request> {
+pub fn read(tree: &Tree, index: u32) -> Result<Request> {
     let len = TRANSFER_BYTES as u32;
     Ok(Request::Read {
         path: tree.file(0)?,
@@ -87,7 +87,7 @@ fn read(tree: &Tree, index: u32) -> Result<Request> {
 }
 
 /// A Write over the bytes whose turn it is.
-fn write(tree: &Tree, index: u32, size: u32) -> Result<Request>
+pub fn write(tree: &Tree, index: u32, size: u32) -> Result<Request>
     requires { 0 < size }
 {
     Ok(Request::Write {

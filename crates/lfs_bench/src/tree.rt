@@ -42,6 +42,11 @@ impl Tree {
         })
     }
 
+    /// Where its paths and bytes go.
+    pub fn alloc(&self) -> Global {
+        self.alloc
+    }
+
     /// How large it is.
     pub fn scale(&self) -> &Scale {
         &self.scale

@@ -1,0 +1,177 @@
+//! Calls of eight sessions on threads, with the cleaner beside them, against the same calls of one session without
+//! threads.
+
+ghost use Rattle.std.specs.Prelude.{◌≡◌, ◌≤◌, IfOk, length};
+ghost use Rattle.std.specs.Global.{Vec};
+ghost use Rattle.std.specs.List.{flat_map};
+ghost use Rattle.lfs_types.specs.declared.answer.Answer.{Answer};
+ghost use Rattle.lfs_bench.specs.Counting.{total};
+
+use crate::cleaned::{make_pass, wants_pass};
+use crate::counts::Counts;
+use crate::meeting::{SESSIONS, each_of, lone_script, script_of, setup_of};
+use crate::options::Options;
+use crate::scale::{Factor, Growth, Scale};
+use crate::stopwatch::Stopwatch;
+use crate::store::{Measure, log_params, log_volume};
+use crate::tree::Tree;
+use anyhow::Result;
+use lfs_server::serve::serve;
+use lfs_types::answer::Answer;
+use lfs_types::cleaned::CleanedStore;
+use lfs_types::cred::Cred;
+use lfs_types::script::Script;
+use lfs_volume::volume::Volume;
+use std::alloc::{AllocError, Global};
+use std::rt::Clock;
+use std::sync::Wait;
+use std::thread::Threads;
+use std::time::Instant;
+
+/// How many components the paths have.
+const COMPONENTS: u32 = 2;
+
+/// How many segments the log has: so many that only the most calls that are timed by default fill it.
+const SEGMENTS: u32 = 256;
+
+/// The session that makes all calls, where there is one.
+const LONE: u8 = 1;
+
+/// Prints a row for each number of calls: how many were served in a second, of one session's and of eight sessions'.
+/// What does not vary with the schedule is counted on standard output.
+pub fn print_sessions<R>(rt: &R, options: &Options) -> Result<()>
+where
+    R: Threads + Wait + Sync + Clock + AllocGlobal + Print + Eprint,
+{
+    eprintln!(rt;
+        "| Calls | Served in a second, one session | Eight sessions | Ratio | Served of the eight's |"
+    )?;
+    eprintln!(rt; "|---|---|---|---|---|")?;
+    for factor in Factor::ALL {
+        print_row(rt, scale_of(options.calls, factor), options.runs)?;
+    }
+    Ok(())
+}
+
+/// The scale of so many calls, times a factor.
+pub fn scale_of(calls: u32, factor: Factor) -> Scale
+    requires { calls ≤ 65536 }
+{
+    let mut scale = Scale::grown(calls, COMPONENTS, Growth::Calls, factor);
+    scale.segments = SEGMENTS;
+    scale
+}
+
+/// Prints the row of a scale, each time the best of so many runs.
+fn print_row<R>(rt: &R, scale: Scale, runs: u32) -> Result<()>
+where
+    R: Threads + Wait + Sync + Clock + AllocGlobal + Print + Eprint,
+{
+    let mut one = run_alone(rt, scale)?;
+    let mut eight = run_beside(rt, scale)?;
+    for _ in 1..runs {
+        one = one.faster(run_alone(rt, scale)?);
+        eight = eight.faster(run_beside(rt, scale)?);
+    }
+    let calls = each_of(&scale) * SESSIONS;
+    println!(rt; "sessions, calls {calls}, one session: {}", one.counts)?;
+    println!(rt;
+        "sessions, calls {calls}, eight sessions: answered {:.0}",
+        eight.counts.total()
+    )?;
+    let (alone, beside) = (one.served_a_second(), eight.served_a_second());
+    let served = eight.counts.served;
+    let ratio = beside / alone;
+    eprintln!(rt; "| {calls} | {alone:.0} | {beside:.0} | {ratio:.2} | {served} |")?;
+    Ok(())
+}
+
+/// Makes the tree, and times the calls of all sessions as those of one, without threads. A pass of the cleaner goes
+/// before each call that finds few clean segments, in the time.
+pub fn run_alone<R: Clock + AllocGlobal>(rt: &R, scale: Scale) -> Result<Measure> {
+    let alloc = rt.alloc();
+    let tree = Tree::new(alloc, scale)?;
+    let (setup, script) = (setup_of(alloc, &tree)?, lone_script(alloc, &tree)?);
+    let calls = journal_of(&setup, &scale)?;
+    let mut volume = log_volume(alloc, &scale, calls)?;
+    let made = answers_to(alloc, &mut volume, &setup)?;
+    counts_of(made.as_slice()).all_served()?;
+    let start = Instant::now(rt)?;
+    let answers = answers_to(alloc, &mut volume, &script)?;
+    let seconds = start.elapsed(rt)?.as_secs_f64();
+    Ok(Measure {
+        counts: counts_of(answers.as_slice()),
+        seconds,
+    })
+}
+
+/// Times the calls of eight sessions on threads, with the cleaner beside them: from the first call's beginning to the
+/// last one's end. So the time has neither what lays out the volume and makes the tree, nor what settles the run.
+pub fn run_beside<R>(rt: &R, scale: Scale) -> Result<Measure>
+where
+    R: Threads + Wait + Sync + Clock + AllocGlobal,
+{
+    let alloc = rt.alloc();
+    let tree = Tree::new(alloc, scale)?;
+    let setup = setup_of(alloc, &tree)?;
+    let params = log_params(&scale, journal_of(&setup, &scale)?);
+    let mut sessions = Vec::with_capacity(alloc, SESSIONS as usize)?;
+    for session in 1..=SESSIONS {
+        sessions.push(script_of(alloc, &tree, session)?)?;
+    }
+    let watch = Stopwatch::new(rt, each_of(&scale) - 1);
+    let closed = serve(rt, alloc, params, setup, sessions, &watch)?;
+    let seconds = watch.seconds()?;
+    let answers = gathered(alloc, closed.transcripts)?;
+    Ok(Measure {
+        counts: counts_of(answers.as_slice()),
+        seconds,
+    })
+}
+
+/// How many calls of users a journal has.
+fn journal_of(setup: &Script, scale: &Scale) -> Result<u32> {
+    let before = u32::try_from(setup.as_slice().len())?;
+    Ok(before.saturating_add(each_of(scale) * SESSIONS))
+}
+
+/// Makes calls one after another, each of a copy as a session on a thread does, and gives the answers.
+fn answers_to<F: CleanedStore + Drop>(
+    alloc: Global,
+    volume: &mut Volume<F>,
+    script: &Script,
+) -> Result<Vec<Answer>> {
+    let cleaner = Cred::new(0, &[0], false)?;
+    let mut answers = Vec::with_capacity(alloc, script.as_slice().len())?;
+    for (cred, request) in script.as_slice() {
+        let copy = request.try_clone(alloc)?;
+        if wants_pass(volume) {
+            make_pass(volume, &cleaner);
+        }
+        answers.push(volume.call(LONE, cred, copy))?;
+    }
+    Ok(answers)
+}
+
+/// The answers of all sessions as one list.
+fn gathered(alloc: Global, transcripts: Vec<Vec<Answer>>) -> Result<Vec<Answer>, AllocError>
+    ensures { IfOk result (λ all. all.items
+        ≡ flat_map (λ (transcript : Vec Answer). transcript.items) transcripts.items) }
+{
+    let mut answers = Vec::new(alloc);
+    for mut transcript in transcripts {
+        answers.append(&mut transcript)?;
+    }
+    Ok(answers)
+}
+
+/// Counts answers.
+fn counts_of(answers: &[Answer]) -> Counts
+    ensures { total result ≡ length answers.now }
+{
+    let mut counts = Counts::default();
+    for answer in answers {
+        counts.add(answer);
+    }
+    counts
+}
