@@ -3,6 +3,7 @@
 mod arguments;
 mod cases;
 mod cleaning;
+mod log;
 mod passes;
 mod rules;
 mod sizes;

@@ -1,6 +1,7 @@
 //! Lines of the cleaner, and what a user sees after a pass.
 
-use super::{expect, output};
+use super::output;
+use std::alloc::AllocError;
 use std::test::Fail;
 
 #[test]
@@ -40,31 +41,36 @@ rule U1 3
     Ok(())
 }
 
+/// Appends the `markv` of a block of the first file of number 4 at each address from 1 to 63, at most eight to a line,
+/// and the answers of a file that no longer is.
+fn push_stale(script: &mut String, expected: &mut String) -> Result<(), AllocError> {
+    for address in 1..64 {
+        script.push_str(if address % 8 == 1 { "markv" } else { "" })?;
+        write!(script, " 4:1:0:{address}")?;
+        if address % 8 == 0 || address == 63 {
+            script.push('\n')?;
+            expected.push_str("0 cleaner markv ok 0\n")?;
+        }
+    }
+    Ok(())
+}
+
 #[test]
 fn stale_info_of_a_number_given_out_again(rt: HostRuntime) -> Result<(), Fail> {
-    let script = "\
-create /v 0644
-write /v at 0 61
-sync
-unlink /v
-create /v 0644
-write /v at 0 62
-sync
-markv 4:1:0:1 4:1:0:2 4:1:0:3 4:1:0:4 4:1:0:5 4:1:0:6 4:1:0:7 4:1:0:8
-read /v 0 1
-stat /v
-";
-    let expected = "\
-0 ok
-0 ok
-0 ok
-0 ok
-0 ok
-0 ok
-0 ok
-0 cleaner markv ok 0
-0 bytes 62
-0 stat 4 file 0 0 0644 00000000 1
-";
-    expect(&rt, rt.alloc(), script, expected)
+    let alloc = rt.alloc();
+    let mut script = String::new(alloc);
+    let mut expected = String::new(alloc);
+    script.push_str(
+        "create /v 0644\nwrite /v at 0 61\nsync\nunlink /v\ncreate /v 0644\nwrite /v at 0 62\nsync\n",
+    )?;
+    expected.push_str("0 ok\n0 ok\n0 ok\n0 ok\n0 ok\n0 ok\n0 ok\n")?;
+    push_stale(&mut script, &mut expected)?;
+    script.push_str("read /v 0 1\nstat /v\n")?;
+    expected.push_str("0 bytes 62\n0 stat 4 file 0 0 0644 00000000 1\n")?;
+    expected.push_str("entries 17\nserved 9\ndenied 0\nrefused 0\ncleaner 8\n")?;
+    assert_eq!(rt;
+        output(alloc, script.as_str())?.as_slice(),
+        expected.as_bytes()
+    );
+    Ok(())
 }
