@@ -14,7 +14,7 @@ calls=${CALLS:-10000}
 program=${PROGRAM:-crates/lfsd/out/lfsd}
 read -ra options <<<"${OPTIONS:---segments 1024 --inodes 512 --journal 100000}"
 if [ -z "${PROGRAM:-}" ]; then
-    (cd crates/lfsd && "${RT:-rt}" run <../../scripts/first.lfs >/dev/null)
+    (cd crates/lfsd && "${RT:-rt}" run <stdin >/dev/null)
 fi
 room=$(mktemp -d)
 trap 'rm -r "$room"' EXIT
