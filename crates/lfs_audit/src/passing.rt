@@ -6,7 +6,7 @@ ghost use Rattle.lfs_audit.specs.Runs.{Cleans, Tells};
 
 use lfs_model::journal::{CleanerAnswer, CleanerKind};
 use lfs_server::pass::Pass;
-use lfs_text::plan::{Act, Step};
+use lfs_text::plan::{Act, HeldCall, Step};
 use lfs_text::print::{append_answer, append_cleaner};
 use lfs_types::cleaned::CleanedStore;
 use lfs_types::cleaner::CleanerCall;
@@ -28,10 +28,7 @@ pub fn run_step<F: CleanedStore + Drop>(
     let Step { session, cred, act } = step;
     match act {
         Act::User(request) => call(volume, session, &cred, request, text),
-        Act::Cleaner(call) => {
-            clean(volume, session, &cred, call.into_call(), text)?;
-            Ok(())
-        }
+        Act::Cleaner(call) => clean_line(volume, session, &cred, call, text),
         Act::Pass => pass(volume, session, &cred, text),
     }
 }
@@ -50,6 +47,23 @@ fn call<F: CleanedStore + Drop>(
 {
     let answer = volume.call(session, cred, request);
     append_answer(text, session, &answer)
+}
+
+/// Makes the call of the cleaner that a line asks for, and appends the line of its answer. A function pays at its entry
+/// for the room of what it holds, and an answer may hold 248 infos: so this is no part of `run_step`.
+fn clean_line<F: CleanedStore + Drop>(
+    volume: &mut Volume<F>,
+    session: u8,
+    cred: &Cred,
+    call: HeldCall,
+    text: &mut Vec<u8>,
+) -> Result<(), AllocError>
+    ensures { OnOk result (Tells
+        (cleaner_of F.state F.gives_ifile F.gives_infos F.gives_addresses F.writes_again F.reclaims)
+        volume.old volume.new session cred.now (Act.Cleaner call) text.old.items text.new.items) }
+{
+    clean(volume, session, cred, call.into_call(), text)?;
+    Ok(())
 }
 
 /// Makes a call of the cleaner, appends the line of its answer, and gives the answer.
