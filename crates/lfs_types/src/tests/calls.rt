@@ -26,40 +26,38 @@ fn payload(alloc: Global, bytes: &[u8]) -> Result<Payload, Fail> {
 
 /// Creates `/a`, writes to it and reads it.
 fn requests(alloc: Global) -> Result<Vec<Request>, Fail> {
-    let requests = vec![in alloc;
-        Request::Create {
-            path: path(alloc)?,
-            mode: Mode::new(0o644).ok_or("a mode")?
-        },
-        Request::Write {
-            path: path(alloc)?,
-            place: Place::At(0),
-            bytes: payload(alloc, b"abc")?
-        },
-        Request::Read {
-            path: path(alloc)?,
-            off: 0,
-            len: 10
-        },
-    ]?;
+    let mut requests = Vec::new(alloc);
+    requests.push(Request::Create {
+        path: path(alloc)?,
+        mode: Mode::new(0o644).ok_or("a mode")?,
+    })?;
+    requests.push(Request::Write {
+        path: path(alloc)?,
+        place: Place::At(0),
+        bytes: payload(alloc, b"abc")?,
+    })?;
+    requests.push(Request::Read {
+        path: path(alloc)?,
+        off: 0,
+        len: 10,
+    })?;
     Ok(requests)
 }
 
 /// Writes to `/a` again, at its end too, and shows it.
 fn later_requests(alloc: Global) -> Result<Vec<Request>, Fail> {
-    let requests = vec![in alloc;
-        Request::Write {
-            path: path(alloc)?,
-            place: Place::At(0),
-            bytes: payload(alloc, b"d")?
-        },
-        Request::Write {
-            path: path(alloc)?,
-            place: Place::End,
-            bytes: payload(alloc, b"d")?
-        },
-        Request::Stat { path: path(alloc)? },
-    ]?;
+    let mut requests = Vec::new(alloc);
+    requests.push(Request::Write {
+        path: path(alloc)?,
+        place: Place::At(0),
+        bytes: payload(alloc, b"d")?,
+    })?;
+    requests.push(Request::Write {
+        path: path(alloc)?,
+        place: Place::End,
+        bytes: payload(alloc, b"d")?,
+    })?;
+    requests.push(Request::Stat { path: path(alloc)? })?;
     Ok(requests)
 }
 
@@ -79,71 +77,67 @@ fn answers(alloc: Global) -> Result<Vec<Answer>, Fail> {
         path: 0,
         at: 1,
     };
-    let answers = vec![in alloc;
-        Answer::Served(Served::Done),
-        Answer::Served(Served::Bytes(bytes)),
-        Answer::Denied(denial),
-        Answer::Refused(Resource::NoSpace),
-        Answer::Served(Served::Stat(4, attrs)),
-    ]?;
+    let mut answers = Vec::new(alloc);
+    answers.push(Answer::Served(Served::Done))?;
+    answers.push(Answer::Served(Served::Bytes(bytes)))?;
+    answers.push(Answer::Denied(denial))?;
+    answers.push(Answer::Refused(Resource::NoSpace))?;
+    answers.push(Answer::Served(Served::Stat(4, attrs)))?;
     Ok(answers)
 }
 
 /// The calls that change what is there already, at two paths.
 fn changes(alloc: Global) -> Result<Vec<Request>, Fail> {
     let flags = FileFlags::new(4).ok_or("flags")?;
-    let changes = vec![in alloc;
-        Request::SetLength {
-            path: path(alloc)?,
-            len: 3
-        },
-        Request::Chown {
-            path: path(alloc)?,
-            uid: 7,
-            gid: 8
-        },
-        Request::Chflags {
-            path: path(alloc)?,
-            flags
-        },
-        Request::SetLevel {
-            level: Level::Secure
-        },
-    ]?;
+    let mut changes = Vec::new(alloc);
+    changes.push(Request::SetLength {
+        path: path(alloc)?,
+        len: 3,
+    })?;
+    changes.push(Request::Chown {
+        path: path(alloc)?,
+        uid: 7,
+        gid: 8,
+    })?;
+    changes.push(Request::Chflags {
+        path: path(alloc)?,
+        flags,
+    })?;
+    changes.push(Request::SetLevel {
+        level: Level::Secure,
+    })?;
     Ok(changes)
 }
 
 /// The calls that make and take away names.
 fn moves(alloc: Global) -> Result<Vec<Request>, Fail> {
-    let moves = vec![in alloc;
-        Request::List { path: path(alloc)? },
-        Request::Unlink { path: path(alloc)? },
-        Request::Rmdir { path: path(alloc)? },
-        Request::Rename {
-            from: path(alloc)?,
-            to: Path::parse(alloc, "/b")?
-        },
-    ]?;
+    let mut moves = Vec::new(alloc);
+    moves.push(Request::List { path: path(alloc)? })?;
+    moves.push(Request::Unlink { path: path(alloc)? })?;
+    moves.push(Request::Rmdir { path: path(alloc)? })?;
+    moves.push(Request::Rename {
+        from: path(alloc)?,
+        to: Path::parse(alloc, "/b")?,
+    })?;
     Ok(moves)
 }
 
 /// The calls that give a mode.
 fn modes(alloc: Global) -> Result<Vec<Request>, Fail> {
     let mode = Mode::new(0o755).ok_or("a mode")?;
-    let modes = vec![in alloc;
-        Request::Mkdir {
-            path: path(alloc)?,
-            mode
-        },
-        Request::Chmod {
-            path: path(alloc)?,
-            mode
-        },
-        Request::Rename {
-            from: Path::parse(alloc, "/b")?,
-            to: path(alloc)?
-        },
-    ]?;
+    let mut modes = Vec::new(alloc);
+    modes.push(Request::Mkdir {
+        path: path(alloc)?,
+        mode,
+    })?;
+    modes.push(Request::Chmod {
+        path: path(alloc)?,
+        mode,
+    })?;
+    modes.push(Request::Rename {
+        from: Path::parse(alloc, "/b")?,
+        to: path(alloc)?,
+    })?;
     Ok(modes)
 }
 
