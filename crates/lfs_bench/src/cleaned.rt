@@ -4,12 +4,12 @@ ghost use Rattle.std.specs.Prelude.{◌≡◌, IfOk, length};
 ghost use Rattle.lfs_bench.specs.Counting.{total};
 
 use crate::counts::Counts;
-use crate::store::{Measure, Plan};
+use crate::store::{Measure, Plan, SESSION};
+use crate::tree::Call;
 use anyhow::Result;
 use lfs_server::pass::Pass;
 use lfs_types::cleaned::CleanedStore;
 use lfs_types::cred::Cred;
-use lfs_volume::journal::Call;
 use lfs_volume::volume::Volume;
 use std::rt::Clock;
 use std::time::Instant;
@@ -67,19 +67,25 @@ fn play_cleaned<R: Clock, F: CleanedStore + Drop>(
     let cleaner = Cred::new(0, &[0], false)?;
     let mut counts = Counts::default();
     let mut seconds = 0.0;
-    for Call {
-        session,
-        cred,
-        request,
-    } in calls {
-        if wants_pass(volume) {
-            let start = Instant::now(rt)?;
-            make_pass(volume, &cleaner);
-            seconds += start.elapsed(rt)?.as_secs_f64();
-        }
-        counts.add(&volume.call(session, &cred, request));
+    for (cred, request) in calls {
+        seconds += timed_pass(rt, volume, &cleaner)?;
+        counts.add(&volume.call(SESSION, &cred, request));
     }
     Ok(Measure { counts, seconds })
+}
+
+/// Makes a pass of the cleaner where few segments are clean, and tells how many seconds it took.
+fn timed_pass<R: Clock, F: CleanedStore + Drop>(
+    rt: &R,
+    volume: &mut Volume<F>,
+    cleaner: &Cred,
+) -> Result<f64> {
+    if !wants_pass(volume) {
+        return Ok(0.0);
+    }
+    let start = Instant::now(rt)?;
+    make_pass(volume, cleaner);
+    Ok(start.elapsed(rt)?.as_secs_f64())
 }
 
 /// Whether few segments are clean.

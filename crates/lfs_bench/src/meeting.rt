@@ -4,13 +4,11 @@ ghost use Rattle.std.specs.Prelude.{◌≤◌};
 
 use crate::scale::Scale;
 use crate::timed::{SMALL, read, write};
-use crate::tree::{OWNER, Tree, call_of};
+use crate::tree::{Call, OWNER, Tree, call_of};
 use anyhow::Result;
-use lfs_types::cred::Cred;
 use lfs_types::path::Path;
 use lfs_types::request::{Place, Request};
 use lfs_types::script::Script;
-use lfs_volume::journal::Call;
 use std::alloc::Global;
 
 /// How many sessions there are.
@@ -31,17 +29,21 @@ pub fn each_of(scale: &Scale) -> u32
 }
 
 /// The calls that make the tree, as a script.
-pub fn setup_of(alloc: Global, tree: &Tree) -> Result<Script> {
-    let made = tree.calls()?;
-    let mut calls = Vec::with_capacity(alloc, made.len())?;
-    for Call { cred, request, .. } in made {
-        calls.push((cred, request))?;
+pub fn setup_of(tree: &Tree) -> Result<Script> {
+    Ok(Script::from(tree.calls()?))
+}
+
+/// The scripts of all sessions, the first session's first.
+pub fn scripts_of(alloc: Global, tree: &Tree) -> Result<Vec<Script>> {
+    let mut scripts = Vec::with_capacity(alloc, SESSIONS as usize)?;
+    for session in 1..=SESSIONS {
+        scripts.push(script_of(alloc, tree, session)?)?;
     }
-    Ok(Script::from(calls))
+    Ok(scripts)
 }
 
 /// The script of a session, counted from 1.
-pub fn script_of(alloc: Global, tree: &Tree, session: u32) -> Result<Script> {
+fn script_of(alloc: Global, tree: &Tree, session: u32) -> Result<Script> {
     let each = each_of(tree.scale());
     let mut calls = Vec::with_capacity(alloc, each as usize)?;
     for index in 0..each {
@@ -62,7 +64,7 @@ pub fn lone_script(alloc: Global, tree: &Tree) -> Result<Script> {
 
 /// The call of this index of a session. All sessions ask for each file of the tree, and read and write its first one;
 /// another file of it and a name in the directory are the session's own.
-fn session_call(tree: &Tree, session: u32, index: u32) -> Result<(Cred, Request)> {
+fn session_call(tree: &Tree, session: u32, index: u32) -> Result<Call> {
     let request = match index % KINDS {
         0 | 6 | 12 => stat(tree.file(index % tree.scale().names)?),
         1 | 7 | 13 => read(tree, index)?,
@@ -79,8 +81,7 @@ fn session_call(tree: &Tree, session: u32, index: u32) -> Result<(Cred, Request)
             path: own_name(tree, session)?,
         },
     };
-    let Call { cred, request, .. } = call_of(OWNER, request)?;
-    Ok((cred, request))
+    call_of(OWNER, request)
 }
 
 /// A Stat of a path.

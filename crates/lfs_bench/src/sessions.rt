@@ -9,13 +9,14 @@ ghost use Rattle.lfs_bench.specs.Counting.{total};
 
 use crate::cleaned::{make_pass, wants_pass};
 use crate::counts::Counts;
-use crate::meeting::{SESSIONS, each_of, lone_script, script_of, setup_of};
+use crate::meeting::{SESSIONS, each_of, lone_script, scripts_of, setup_of};
 use crate::options::Options;
 use crate::scale::{Factor, Growth, Scale};
 use crate::stopwatch::Stopwatch;
-use crate::store::{Measure, log_params, log_volume};
+use crate::store::{Measure, SESSION, log_params, log_volume};
 use crate::tree::Tree;
 use anyhow::Result;
+use lfs_logstore::LogStore;
 use lfs_server::serve::serve;
 use lfs_types::answer::Answer;
 use lfs_types::cleaned::CleanedStore;
@@ -33,9 +34,6 @@ const COMPONENTS: u32 = 2;
 
 /// How many segments the log has: so many that only the most calls that are timed by default fill it.
 const SEGMENTS: u32 = 256;
-
-/// The session that makes all calls, where there is one.
-const LONE: u8 = 1;
 
 /// Prints a row for each number of calls: how many were served in a second, of one session's and of eight sessions'.
 /// What does not vary with the schedule is counted on standard output.
@@ -91,18 +89,33 @@ where
 pub fn run_alone<R: Clock + AllocGlobal>(rt: &R, scale: Scale) -> Result<Measure> {
     let alloc = rt.alloc();
     let tree = Tree::new(alloc, scale)?;
-    let (setup, script) = (setup_of(alloc, &tree)?, lone_script(alloc, &tree)?);
-    let calls = journal_of(&setup, &scale)?;
-    let mut volume = log_volume(alloc, &scale, calls)?;
-    let made = answers_to(alloc, &mut volume, &setup)?;
-    counts_of(made.as_slice()).all_served()?;
+    let mut volume = volume_with(alloc, &tree)?;
+    timed_answers(rt, &mut volume, &lone_script(alloc, &tree)?)
+}
+
+/// Times calls that are made one after another.
+fn timed_answers<R: Clock + AllocGlobal>(
+    rt: &R,
+    volume: &mut Volume<LogStore>,
+    script: &Script,
+) -> Result<Measure> {
     let start = Instant::now(rt)?;
-    let answers = answers_to(alloc, &mut volume, &script)?;
+    let answers = answers_to(rt.alloc(), volume, script)?;
     let seconds = start.elapsed(rt)?.as_secs_f64();
     Ok(Measure {
         counts: counts_of(answers.as_slice()),
         seconds,
     })
+}
+
+/// A volume over a log on which the tree is made, with room for the calls of all sessions.
+fn volume_with(alloc: Global, tree: &Tree) -> Result<Volume<LogStore>> {
+    let setup = setup_of(tree)?;
+    let scale = tree.scale();
+    let mut volume = log_volume(alloc, scale, journal_of(&setup, scale)?)?;
+    let made = answers_to(alloc, &mut volume, &setup)?;
+    counts_of(made.as_slice()).all_served()?;
+    Ok(volume)
 }
 
 /// Times the calls of eight sessions on threads, with the cleaner beside them: from the first call's beginning to the
@@ -113,12 +126,9 @@ where
 {
     let alloc = rt.alloc();
     let tree = Tree::new(alloc, scale)?;
-    let setup = setup_of(alloc, &tree)?;
+    let setup = setup_of(&tree)?;
     let params = log_params(&scale, journal_of(&setup, &scale)?);
-    let mut sessions = Vec::with_capacity(alloc, SESSIONS as usize)?;
-    for session in 1..=SESSIONS {
-        sessions.push(script_of(alloc, &tree, session)?)?;
-    }
+    let sessions = scripts_of(alloc, &tree)?;
     let watch = Stopwatch::new(rt, each_of(&scale) - 1);
     let closed = serve(rt, alloc, params, setup, sessions, &watch)?;
     let seconds = watch.seconds()?;
@@ -148,7 +158,7 @@ fn answers_to<F: CleanedStore + Drop>(
         if wants_pass(volume) {
             make_pass(volume, &cleaner);
         }
-        answers.push(volume.call(LONE, cred, copy))?;
+        answers.push(volume.call(SESSION, cred, copy))?;
     }
     Ok(answers)
 }

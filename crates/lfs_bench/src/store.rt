@@ -7,13 +7,12 @@ use crate::cleaned::{Passes, run_cleaned};
 use crate::counts::Counts;
 use crate::scale::Scale;
 use crate::timed::timed_calls;
-use crate::tree::Tree;
+use crate::tree::{Call, Tree};
 use crate::workload::UserLoad;
 use anyhow::{Result, bail};
 use lfs_logstore::LogStore;
 use lfs_types::store::{FileStore, Params};
 use lfs_volume::flat_files::FlatFiles;
-use lfs_volume::journal::Call;
 use lfs_volume::volume::Volume;
 use std::alloc::Global;
 use std::num::nearest_u64_to_f64;
@@ -22,6 +21,9 @@ use std::time::Instant;
 
 /// How many entries of the journal there is room for over a log, for each call of a user.
 const CLEANER_CALLS: u32 = 16;
+
+/// The session that makes all calls, where there is one.
+pub const SESSION: u8 = 1;
 
 /// A store that volumes are timed over.
 #[derive(Clone, Copy, PartialEq, Eq, Debug)]
@@ -152,12 +154,8 @@ fn play<F: FileStore + Drop>(volume: &mut Volume<F>, calls: Vec<Call>) -> Counts
     ensures { total result ≡ length calls.items }
 {
     let mut counts = Counts::default();
-    for Call {
-        session,
-        cred,
-        request,
-    } in calls {
-        counts.add(&volume.call(session, &cred, request));
+    for (cred, request) in calls {
+        counts.add(&volume.call(SESSION, &cred, request));
     }
     counts
 }

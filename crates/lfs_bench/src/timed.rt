@@ -2,12 +2,11 @@
 
 ghost use Rattle.std.specs.Prelude.{◌<◌};
 
-use crate::tree::{OWNER, STRANGER, Tree, call_of};
+use crate::tree::{Call, OWNER, STRANGER, Tree, call_of};
 use crate::workload::UserLoad;
 use anyhow::Result;
 use lfs_types::limits::TRANSFER_BYTES;
 use lfs_types::request::{Place, Request};
-use lfs_volume::journal::Call;
 use std::alloc::Global;
 
 /// How many bytes a small Write puts.

@@ -8,7 +8,6 @@ use lfs_types::mode::Mode;
 use lfs_types::path::Path;
 use lfs_types::payload::Payload;
 use lfs_types::request::{Place, Request};
-use lfs_volume::journal::Call;
 use std::alloc::Global;
 
 /// The user who owns the tree, and his only group.
@@ -19,6 +18,9 @@ pub const STRANGER: u32 = 2000;
 
 /// The superuser, who makes the first directory.
 const SUPERUSER: u32 = 0;
+
+/// A user's cred and what he asks for.
+pub type Call = (Cred, Request);
 
 /// A directory at the end of a path of directories, and files in it. All are the owner's.
 #[derive(Drop)]
@@ -147,11 +149,7 @@ impl Tree {
     }
 }
 
-/// A call of session 0 by a user with one group of the same number.
+/// A call by a user with one group of the same number.
 pub fn call_of(user: u32, request: Request) -> Result<Call> {
-    Ok(Call {
-        session: 0,
-        cred: Cred::new(user, &[user], false)?,
-        request,
-    })
+    Ok((Cred::new(user, &[user], false)?, request))
 }

@@ -2,7 +2,7 @@ use Rattle.std.proofs.Common.{◌≡◌, ◌++◌, length}
 use Rattle.lfs_bench.specs.Counting.{total}
 use Rattle.lfs_bench.proofs.store.play.Given as goal
 
-abbrev pub invariant-loop-session : goal.invariant-loop-session
-invariant-loop-session g l =
+abbrev pub invariant-loop-cred : goal.invariant-loop-cred
+invariant-loop-cred g l =
     (total l.counts ≡ length l.yielded)
-    × (l.yielded ++ l.session-iterator.rest.items ≡ l.fn.calls.items)
+    × (l.yielded ++ l.cred-iterator.rest.items ≡ l.fn.calls.items)
