@@ -1,7 +1,8 @@
 //! The program's arguments.
 
+use clap::builder::ValueParser;
 use clap::error::ErrorKind;
-use clap::{Arg, ArgAction, ArgMatches, Command, Error, value_parser};
+use clap::{Arg, ArgAction, ArgMatches, Command, Error};
 use lfs_types::store::Params;
 use std::alloc::{AllocError, Global};
 use std::convert::AsStr;
@@ -14,24 +15,51 @@ pub const DEFAULTS: Params = Params {
     journal: 4096,
 };
 
-/// What is told of a number that begins with a sign, for each argument.
-const SIGNS: [(&str, &str); 4] = [
-    (
-        "segments",
-        "--segments takes a number of decimal digits alone, from 6 to 1024",
-    ),
-    (
-        "inodes",
-        "--inodes takes a number of decimal digits alone, from 16 to 4096",
-    ),
-    (
-        "frames",
-        "--frames takes a number of decimal digits alone, from 32 to 1024",
-    ),
-    (
-        "journal",
-        "--journal takes a number of decimal digits alone, from 1 to 100000",
-    ),
+/// An option that takes a number.
+#[derive(Clone, Copy)]
+struct NumberOption {
+    /// Its name.
+    name: &'static str,
+    /// The least number that it takes.
+    least: u64,
+    /// The greatest number that it takes.
+    most: u64,
+    /// What `--help` tells of it.
+    help: &'static str,
+    /// What is told of a number that begins with a sign.
+    sign: &'static str,
+}
+
+/// The options that take a number, in the order of `--help`.
+const NUMBERS: [NumberOption; 4] = [
+    NumberOption {
+        name: "segments",
+        least: 6,
+        most: 1024,
+        help: "How many segments of 32,768 bytes the log has, 6 to 1024; by default 64",
+        sign: "--segments takes a number of decimal digits alone, from 6 to 1024",
+    },
+    NumberOption {
+        name: "inodes",
+        least: 16,
+        most: 4096,
+        help: "How many inode numbers the volume has, 16 to 4096; by default 256",
+        sign: "--inodes takes a number of decimal digits alone, from 16 to 4096",
+    },
+    NumberOption {
+        name: "frames",
+        least: 32,
+        most: 1024,
+        help: "How many blocks of 512 bytes the cache holds, 32 to 1024; by default 64",
+        sign: "--frames takes a number of decimal digits alone, from 32 to 1024",
+    },
+    NumberOption {
+        name: "journal",
+        least: 1,
+        most: 100_000,
+        help: "How many entries the journal may have, 1 to 100000; by default 4096",
+        sign: "--journal takes a number of decimal digits alone, from 1 to 100000",
+    },
 ];
 
 /// What `--help` tells behind the options.
@@ -53,19 +81,22 @@ pub struct Options {
 pub fn options_of<'a, S: AsStr>(alloc: Global, words: &'a [S]) -> Result<Options, Error> {
     let mut command = command(alloc)?;
     let matches = command.try_get_matches_from_mut(words)?;
-    for (id, message) in SIGNS {
-        if has_sign(&matches, id) {
-            return Err(command.error(ErrorKind::ValueValidation, message)?);
-        }
+    if let Some(message) = sign_in(&matches) {
+        return Err(command.error(ErrorKind::ValueValidation, message)?);
     }
+    Ok(options_in(&matches))
+}
+
+/// The options that the matches hold.
+fn options_in(matches: &ArgMatches<'_>) -> Options {
     let params = Params {
-        segments: number(&matches, "segments", DEFAULTS.segments),
-        inodes: number(&matches, "inodes", DEFAULTS.inodes),
-        frames: number(&matches, "frames", DEFAULTS.frames),
-        journal: number(&matches, "journal", DEFAULTS.journal),
+        segments: number(matches, "segments", DEFAULTS.segments),
+        inodes: number(matches, "inodes", DEFAULTS.inodes),
+        frames: number(matches, "frames", DEFAULTS.frames),
+        journal: number(matches, "journal", DEFAULTS.journal),
     };
     let threads = matches.get_flag("threads");
-    Ok(Options { params, threads })
+    Options { params, threads }
 }
 
 /// The number that an argument asks for, or this one where it is not given.
@@ -73,18 +104,36 @@ fn number(matches: &ArgMatches<'_>, id: &str, default: u32) -> u32 {
     matches.get_one::<u32>(id).unwrap_or(default)
 }
 
+/// What is told of the first number that begins with a sign, if there is one.
+fn sign_in(matches: &ArgMatches<'_>) -> Option<&'static str> {
+    for number in NUMBERS {
+        if has_sign(matches, number.name) {
+            return Some(number.sign);
+        }
+    }
+    None
+}
+
+/// Whether the value of an argument begins with a sign.
+fn has_sign(matches: &ArgMatches<'_>, id: &str) -> bool {
+    match matches.get_str(id) {
+        Some(text) => text.starts_with('+'),
+        None => false,
+    }
+}
+
 /// The program's options.
 fn command<'a>(alloc: Global) -> Result<Command<'a>, AllocError> {
-    Command::new(alloc, "lfsd")
+    let mut command = Command::new(alloc, "lfsd")
         .about(
             "Runs a script of calls, read from standard input, on a volume in memory and prints the answers and a report",
         )
         .after_help(MORE)
-        .arg(threads(alloc))?
-        .arg(segments(alloc))?
-        .arg(inodes(alloc))?
-        .arg(frames(alloc))?
-        .arg(journal(alloc))
+        .arg(threads(alloc))?;
+    for number in NUMBERS {
+        command = command.arg(number.arg(alloc))?;
+    }
+    Ok(command)
 }
 
 /// The option for threads.
@@ -97,50 +146,14 @@ fn threads<'a>(alloc: Global) -> Arg<'a> {
         )
 }
 
-/// The option for the number of segments.
-fn segments<'a>(alloc: Global) -> Arg<'a> {
-    Arg::new(alloc, "segments")
-        .long("segments")
-        .value_name("N")
-        .action(ArgAction::Set)
-        .value_parser(value_parser!(u32).range(6..=1024))
-        .help("How many segments of 32,768 bytes the log has, 6 to 1024; by default 64")
-}
-
-/// The option for the number of inode numbers.
-fn inodes<'a>(alloc: Global) -> Arg<'a> {
-    Arg::new(alloc, "inodes")
-        .long("inodes")
-        .value_name("N")
-        .action(ArgAction::Set)
-        .value_parser(value_parser!(u32).range(16..=4096))
-        .help("How many inode numbers the volume has, 16 to 4096; by default 256")
-}
-
-/// The option for the number of frames.
-fn frames<'a>(alloc: Global) -> Arg<'a> {
-    Arg::new(alloc, "frames")
-        .long("frames")
-        .value_name("N")
-        .action(ArgAction::Set)
-        .value_parser(value_parser!(u32).range(32..=1024))
-        .help("How many blocks of 512 bytes the cache holds, 32 to 1024; by default 64")
-}
-
-/// The option for the length of the journal.
-fn journal<'a>(alloc: Global) -> Arg<'a> {
-    Arg::new(alloc, "journal")
-        .long("journal")
-        .value_name("N")
-        .action(ArgAction::Set)
-        .value_parser(value_parser!(u32).range(1..=100_000))
-        .help("How many entries the journal may have, 1 to 100000; by default 4096")
-}
-
-/// Whether the value of an argument begins with a sign.
-fn has_sign(matches: &ArgMatches<'_>, id: &str) -> bool {
-    match matches.get_str(id) {
-        Some(text) => text.starts_with('+'),
-        None => false,
+impl NumberOption {
+    /// The option for the command line.
+    fn arg<'a>(self, alloc: Global) -> Arg<'a> {
+        Arg::new(alloc, self.name)
+            .long(self.name)
+            .value_name("N")
+            .action(ArgAction::Set)
+            .value_parser(ValueParser::Unsigned(self.least, self.most))
+            .help(self.help)
     }
 }
