@@ -24,7 +24,7 @@ const PASS_CALLS: u32 = 105;
 const CLEANER: u8 = 9;
 
 /// Whether the cleaner's passes are in the time.
-#[derive(Clone, Copy, PartialEq, Eq, Debug)]
+#[derive(Clone, Copy)]
 pub enum Passes {
     /// The time is that of the users' calls and the passes between them.
     Timed,

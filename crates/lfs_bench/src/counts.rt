@@ -9,7 +9,7 @@ use std::fmt;
 use std::num::nearest_u64_to_f64;
 
 /// How many calls were answered in each way.
-#[derive(Clone, Copy, PartialEq, Eq, Debug, Default)]
+#[derive(Clone, Copy, Default)]
 pub struct Counts {
     /// Calls that were done.
     pub served: u64,

@@ -15,8 +15,6 @@ mod scale;
 mod sessions;
 mod stopwatch;
 mod store;
-#[cfg(test)]
-mod tests;
 mod timed;
 mod tree;
 mod workload;

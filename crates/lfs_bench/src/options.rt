@@ -19,7 +19,7 @@ const RUNS: u32 = 5;
 const SESSIONS: &str = "sessions";
 
 /// What is asked for.
-#[derive(Drop, PartialEq, Eq, Debug)]
+#[derive(Drop)]
 pub struct Options {
     /// The workloads of one session, in the order in which they are run.
     pub workloads: Vec<Workload>,

@@ -12,7 +12,7 @@ use std::fmt;
 use std::rt::Clock;
 
 /// What a row is about.
-#[derive(Clone, Copy, PartialEq, Eq, Debug)]
+#[derive(Clone, Copy)]
 pub enum Subject {
     /// Calls of users, over a store.
     Users(UserLoad, Store),

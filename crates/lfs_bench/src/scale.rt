@@ -9,7 +9,7 @@ pub const CALLS_MAX: u32 = 65_536;
 const BYTES_MAX: u32 = 71_680;
 
 /// How many times as large a run is as the first of its row.
-#[derive(Clone, Copy, PartialEq, Eq, Debug)]
+#[derive(Clone, Copy)]
 pub enum Factor {
     /// As large.
     One,
@@ -37,7 +37,7 @@ impl Factor {
 }
 
 /// What grows along a row of the table.
-#[derive(Clone, Copy, PartialEq, Eq, Debug)]
+#[derive(Clone, Copy, PartialEq, Eq)]
 pub enum Growth {
     /// How many calls are timed.
     Calls,
@@ -98,7 +98,7 @@ impl Growth {
 }
 
 /// How large a run is.
-#[derive(Clone, Copy, PartialEq, Eq, Debug)]
+#[derive(Clone, Copy)]
 pub struct Scale {
     /// How many calls are timed: at most 1,048,576.
     pub calls: u32,

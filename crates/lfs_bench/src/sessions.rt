@@ -36,7 +36,7 @@ const COMPONENTS: u32 = 2;
 const SEGMENTS: u32 = 256;
 
 /// Prints a row for each number of calls: how many were served in a second, of one session's and of eight sessions'.
-/// What does not vary with the schedule is counted on standard output.
+/// What was answered is counted on standard output; it varies with the schedule only where clean segments run out.
 pub fn print_sessions<R>(rt: &R, options: &Options) -> Result<()>
 where
     R: Threads + Wait + Sync + Clock + AllocGlobal + Print + Eprint,
@@ -73,10 +73,7 @@ where
     }
     let calls = each_of(&scale) * SESSIONS;
     println!(rt; "sessions, calls {calls}, one session: {}", one.counts)?;
-    println!(rt;
-        "sessions, calls {calls}, eight sessions: answered {:.0}",
-        eight.counts.total()
-    )?;
+    println!(rt; "sessions, calls {calls}, eight sessions: {}", eight.counts)?;
     let (alone, beside) = (one.served_a_second(), eight.served_a_second());
     let served = eight.counts.served;
     let ratio = beside / alone;

@@ -26,7 +26,7 @@ const CLEANER_CALLS: u32 = 16;
 pub const SESSION: u8 = 1;
 
 /// A store that volumes are timed over.
-#[derive(Clone, Copy, PartialEq, Eq, Debug)]
+#[derive(Clone, Copy)]
 pub enum Store {
     /// The plain store.
     Plain,

@@ -3,7 +3,7 @@
 ghost use Rattle.std.specs.Prelude.{◌≤◌};
 
 /// Calls of users on a tree that is made beforehand.
-#[derive(Clone, Copy, PartialEq, Eq, Debug)]
+#[derive(Clone, Copy)]
 pub enum UserLoad {
     /// A Stat of each file of a directory in turn, along seven components.
     StatDeep,
@@ -26,7 +26,7 @@ pub enum UserLoad {
 }
 
 /// What is timed.
-#[derive(Clone, Copy, PartialEq, Eq, Debug)]
+#[derive(Clone, Copy)]
 pub enum Workload {
     /// Calls of users.
     Users(UserLoad),
