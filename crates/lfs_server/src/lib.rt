@@ -13,5 +13,3 @@ pub mod serving;
 mod session;
 pub mod settle;
 mod stepping;
-#[cfg(test)]
-mod tests;

@@ -1,4 +1,4 @@
-//! Trials of volumes over the log store: worked runs of users' and cleaner's calls, with every answer compared. It has
+//! Trials of volumes, of sessions on threads and of the cleaner's passes: worked runs, with every answer compared. It has
 //! tests alone.
 #![tactic(auto)]
 

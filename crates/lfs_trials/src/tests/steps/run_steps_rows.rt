@@ -1,24 +1,20 @@
 //! Worked cases as runs of steps, with every answer compared.
 
-use super::{Ask, DEFAULTS, Row, Want, first_block, fresh, is_answer, request, run, run_fresh};
+use super::{DEFAULTS, Row, Want, first_block, is_answer, run, run_fresh};
+use crate::tests::asking::{Ask, request};
+use crate::tests::{SMALL, fresh};
 use lfs_logstore::LogStore;
-use lfs_types::answer::Resource;
+use lfs_types::answer::{Answer, Resource};
 use lfs_types::cleaner::{BlockInfo, CleanFault, CleanerCall};
 use lfs_types::cred::Cred;
+use lfs_types::request::Place;
 use lfs_types::rule::{Denial, Rule};
 use lfs_types::store::Params;
 use lfs_volume::journal::{Call, CleanerAnswer, CleanerKind, CleanerOutcome, Entry, Event};
 use lfs_volume::volume::Volume;
 use std::alloc::Global;
+use std::process::Abort;
 use std::test::Fail;
-
-/// A small volume.
-const SMALL: Params = Params {
-    segments: 6,
-    inodes: 64,
-    frames: 32,
-    journal: 4096,
-};
 
 /// That a user may not write `/a`.
 const DENIED_WRITE: Denial = Denial {
@@ -36,10 +32,14 @@ const DENIED_CLEANING: Denial = Denial {
 
 /// The superuser makes and writes a file; user 5 reads it, and may not write it.
 const OWNER_AND_STRANGER: [Row<'static>; 4] = [
-    (0, Ask::Create("/a"), Want::Done),
-    (0, Ask::Write("/a", 0, b"abc"), Want::Done),
-    (5, Ask::Read("/a", 0), Want::Bytes(b"abc")),
-    (5, Ask::Write("/a", 0, b"d"), Want::Denied(DENIED_WRITE)),
+    (0, Ask::Create("/a", 0o644), Want::Done),
+    (0, Ask::Write("/a", Place::At(0), b"abc"), Want::Done),
+    (5, Ask::Read("/a", 0, 512), Want::Bytes(b"abc")),
+    (
+        5,
+        Ask::Write("/a", Place::At(0), b"d"),
+        Want::Denied(DENIED_WRITE),
+    ),
 ];
 
 #[test]
@@ -49,18 +49,18 @@ fn owner_writes_and_stranger_only_reads(rt: HostRuntime) -> Result<(), Fail> {
 
 /// A file is written and removed, and another of its number is written.
 const NUMBER_GIVEN_OUT_AGAIN: [Row<'static>; 7] = [
-    (0, Ask::Create("/v"), Want::Done),
-    (0, Ask::Write("/v", 0, b"a"), Want::Done),
+    (0, Ask::Create("/v", 0o644), Want::Done),
+    (0, Ask::Write("/v", Place::At(0), b"a"), Want::Done),
     (0, Ask::Sync, Want::Done),
     (0, Ask::Unlink("/v"), Want::Done),
-    (0, Ask::Create("/v"), Want::Done),
-    (0, Ask::Write("/v", 0, b"b"), Want::Done),
+    (0, Ask::Create("/v", 0o644), Want::Done),
+    (0, Ask::Write("/v", Place::At(0), b"b"), Want::Done),
     (0, Ask::Sync, Want::Done),
 ];
 
 /// What is then read and shown of it.
 const SECOND_FILE: [Row<'static>; 2] = [
-    (0, Ask::Read("/v", 0), Want::Bytes(b"b")),
+    (0, Ask::Read("/v", 0, 512), Want::Bytes(b"b")),
     (0, Ask::Stat("/v"), Want::File(4, 1)),
 ];
 
@@ -73,17 +73,36 @@ fn stale_blocks(alloc: Global) -> Result<Vec<BlockInfo>, Fail> {
     Ok(infos)
 }
 
+/// Names the blocks eight at a time, and asserts that none is written again.
+fn mark_stale_blocks(
+    rt: &impl Abort,
+    alloc: Global,
+    volume: &mut Volume<LogStore>,
+) -> Result<(), Fail> {
+    let infos = stale_blocks(alloc)?;
+    for eight in infos.as_slice().chunks(8) {
+        let rows = [(0, Ask::Markv(eight), Want::Marked(0))];
+        run(rt, alloc, volume, &rows)?;
+    }
+    Ok(())
+}
+
+/// Has the number given out again, and names the first file's blocks.
+fn name_first_file(
+    rt: &impl Abort,
+    alloc: Global,
+    volume: &mut Volume<LogStore>,
+) -> Result<(), Fail> {
+    run(rt, alloc, volume, &NUMBER_GIVEN_OUT_AGAIN)?;
+    mark_stale_blocks(rt, alloc, volume)?;
+    run(rt, alloc, volume, &SECOND_FILE)
+}
+
 #[test]
 fn stale_info_of_a_number_given_out_again(rt: HostRuntime) -> Result<(), Fail> {
     let alloc = rt.alloc();
-    let infos = stale_blocks(alloc)?;
     let mut volume = fresh(alloc, DEFAULTS)?;
-    run(&rt, alloc, &mut volume, &NUMBER_GIVEN_OUT_AGAIN)?;
-    for eight in infos.as_slice().chunks(8) {
-        let rows = [(0, Ask::Markv(eight), Want::Marked(0))];
-        run(&rt, alloc, &mut volume, &rows)?;
-    }
-    run(&rt, alloc, &mut volume, &SECOND_FILE)
+    name_first_file(&rt, alloc, &mut volume)
 }
 
 /// The info of the first block of file 4 among those of segment 0.
@@ -102,36 +121,53 @@ fn info_in_first_segment(volume: &mut Volume<LogStore>) -> Result<BlockInfo, Fai
 
 /// A file is written, and another one made.
 const TWO_FILES: [Row<'static>; 4] = [
-    (0, Ask::Create("/a"), Want::Done),
-    (0, Ask::Write("/a", 0, b"old"), Want::Done),
+    (0, Ask::Create("/a", 0o644), Want::Done),
+    (0, Ask::Write("/a", Place::At(0), b"old"), Want::Done),
     (0, Ask::Sync, Want::Done),
-    (0, Ask::Create("/b"), Want::Done),
+    (0, Ask::Create("/b", 0o644), Want::Done),
 ];
 
 /// The other is written.
 const FURTHER_WRITE: [Row<'static>; 2] = [
-    (0, Ask::Write("/b", 0, b"b"), Want::Done),
+    (0, Ask::Write("/b", Place::At(0), b"b"), Want::Done),
     (0, Ask::Sync, Want::Done),
 ];
 
-// A segment has 64 blocks, and each Write takes three of them.
+/// Overwrites a block between its Bmapv and its Markv, and asserts that it isn't written again.
+fn overwrite_and_mark(
+    rt: &impl Abort,
+    alloc: Global,
+    volume: &mut Volume<LogStore>,
+) -> Result<(), Fail> {
+    let old = [info_in_first_segment(volume)?];
+    let rows = [
+        (0, Ask::Bmapv(&old), Want::Infos(&old)),
+        (0, Ask::Write("/a", Place::At(0), b"new"), Want::Done),
+        (0, Ask::Sync, Want::Done),
+        (0, Ask::Markv(&old), Want::Marked(0)),
+        (0, Ask::Read("/a", 0, 512), Want::Bytes(b"new")),
+    ];
+    run(rt, alloc, volume, &rows)
+}
+
+/// Fills the first segment, and goes on with its file's block. A segment has 64 blocks, and each Write takes three.
+fn leave_first_segment(
+    rt: &impl Abort,
+    alloc: Global,
+    volume: &mut Volume<LogStore>,
+) -> Result<(), Fail> {
+    run(rt, alloc, volume, &TWO_FILES)?;
+    for _ in 0..25 {
+        run(rt, alloc, volume, &FURTHER_WRITE)?;
+    }
+    overwrite_and_mark(rt, alloc, volume)
+}
+
 #[test]
 fn overwritten_block_is_not_written_again(rt: HostRuntime) -> Result<(), Fail> {
     let alloc = rt.alloc();
     let mut volume = fresh(alloc, SMALL)?;
-    run(&rt, alloc, &mut volume, &TWO_FILES)?;
-    for _ in 0..25 {
-        run(&rt, alloc, &mut volume, &FURTHER_WRITE)?;
-    }
-    let old = [info_in_first_segment(&mut volume)?];
-    let rows = [
-        (0, Ask::Bmapv(&old), Want::Infos(&old)),
-        (0, Ask::Write("/a", 0, b"new"), Want::Done),
-        (0, Ask::Sync, Want::Done),
-        (0, Ask::Markv(&old), Want::Marked(0)),
-        (0, Ask::Read("/a", 0), Want::Bytes(b"new")),
-    ];
-    run(&rt, alloc, &mut volume, &rows)
+    leave_first_segment(&rt, alloc, &mut volume)
 }
 
 /// A path of a name of so many bytes, which ends with this number.
@@ -155,10 +191,8 @@ fn long_paths(alloc: Global) -> Result<Vec<String>, Fail> {
     Ok(paths)
 }
 
-#[test]
-fn directory_of_long_names(rt: HostRuntime) -> Result<(), Fail> {
-    let alloc = rt.alloc();
-    let paths = long_paths(alloc)?;
+/// A file of each of these names is made, and the 141st is refused.
+fn long_rows(alloc: Global, paths: &[String]) -> Result<Vec<Row<'_>>, Fail> {
     let mut rows = Vec::new(alloc);
     for (number, path) in paths.iter().enumerate() {
         let want = if number == 140 {
@@ -166,8 +200,16 @@ fn directory_of_long_names(rt: HostRuntime) -> Result<(), Fail> {
         } else {
             Want::Done
         };
-        rows.push((0, Ask::Create(path.as_str()), want))?;
+        rows.push((0, Ask::Create(path.as_str(), 0o644), want))?;
     }
+    Ok(rows)
+}
+
+#[test]
+fn directory_of_long_names(rt: HostRuntime) -> Result<(), Fail> {
+    let alloc = rt.alloc();
+    let paths = long_paths(alloc)?;
+    let rows = long_rows(alloc, paths.as_slice())?;
     run_fresh(&rt, alloc, rows.as_slice())
 }
 
@@ -189,18 +231,29 @@ fn are_denied(journal: &[Entry], kinds: &[CleanerKind]) -> bool {
     journal.len() == kinds.len()
 }
 
+/// The kinds of these calls.
+const KINDS: [CleanerKind; 3] = [
+    CleanerKind::Ifile,
+    CleanerKind::Markv,
+    CleanerKind::Segclean,
+];
+
+/// Makes the calls, and asserts that each is entered as denied.
+fn deny_stranger(
+    rt: &impl Abort,
+    alloc: Global,
+    volume: &mut Volume<LogStore>,
+) -> Result<(), Fail> {
+    run(rt, alloc, volume, &STRANGERS_CLEANING)?;
+    assert!(rt; are_denied(volume.journal(), &KINDS));
+    Ok(())
+}
+
 #[test]
 fn cleaner_calls_by_a_stranger(rt: HostRuntime) -> Result<(), Fail> {
     let alloc = rt.alloc();
     let mut volume = fresh(alloc, DEFAULTS)?;
-    run(&rt, alloc, &mut volume, &STRANGERS_CLEANING)?;
-    let kinds = [
-        CleanerKind::Ifile,
-        CleanerKind::Markv,
-        CleanerKind::Segclean,
-    ];
-    assert!(rt; are_denied(volume.journal(), &kinds));
-    Ok(())
+    deny_stranger(&rt, alloc, &mut volume)
 }
 
 /// The superuser's calls where no segment is dirty.
@@ -236,35 +289,38 @@ fn calls(alloc: Global, rows: &[Row<'_>]) -> Result<Vec<Call>, Fail> {
     Ok(calls)
 }
 
-#[test]
-fn run_of_calls_over_a_log(rt: HostRuntime) -> Result<(), Fail> {
-    let alloc = rt.alloc();
-    let calls = calls(alloc, &OWNER_AND_STRANGER)?;
-    let mut volume = fresh(
-        alloc,
-        Params {
-            journal: 4,
-            ..SMALL
-        },
-    )?;
-    let answers = volume.run(calls)?;
-    assert_eq!(rt; answers.len(), 4);
-    for (given, (_, _, want)) in answers.iter().zip(OWNER_AND_STRANGER) {
-        assert!(rt; is_answer(given, want));
+/// The numbers of a volume whose journal has room for so many entries.
+fn with_journal(journal: u32) -> Params {
+    Params { journal, ..SMALL }
+}
+
+/// Asserts that each of these calls is answered as it must be.
+fn compare_answers(rt: &impl Abort, answers: &[Answer], rows: &[Row<'_>]) {
+    assert_eq!(rt; answers.len(), rows.len());
+    for (given, (_, _, want)) in answers.iter().zip(rows) {
+        assert!(rt; is_answer(given, *want));
     }
+}
+
+/// Makes the four calls in one run, and asserts that each is answered as it must be and entered.
+fn run_calls(rt: &impl Abort, alloc: Global, volume: &mut Volume<LogStore>) -> Result<(), Fail> {
+    let calls = calls(alloc, &OWNER_AND_STRANGER)?;
+    let answers = volume.run(calls)?;
+    compare_answers(rt, answers.as_slice(), &OWNER_AND_STRANGER);
     assert_eq!(rt; volume.journal().len(), 4);
     Ok(())
 }
 
 #[test]
+fn run_of_calls_over_a_log(rt: HostRuntime) -> Result<(), Fail> {
+    let alloc = rt.alloc();
+    let mut volume = fresh(alloc, with_journal(4))?;
+    run_calls(&rt, alloc, &mut volume)
+}
+
+#[test]
 fn volume_over_a_log_has_its_limit(rt: HostRuntime) -> Result<(), Fail> {
-    let volume = fresh(
-        rt.alloc(),
-        Params {
-            journal: 2,
-            ..SMALL
-        },
-    )?;
+    let volume = fresh(rt.alloc(), with_journal(2))?;
     assert_eq!(rt; volume.journal_limit(), 2);
     Ok(())
 }

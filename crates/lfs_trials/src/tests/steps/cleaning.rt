@@ -1,9 +1,12 @@
 //! Dirty segments that are emptied and cleaned by a cleaner's calls alone.
 
-use super::{Ask, Row, Want, fresh, run};
+use super::{Row, Want, run};
+use crate::tests::asking::Ask;
+use crate::tests::fresh;
 use lfs_logstore::LogStore;
 use lfs_types::cleaner::{CleanFault, CleanerCall, MarkList};
 use lfs_types::cred::Cred;
+use lfs_types::request::Place;
 use lfs_types::store::Params;
 use lfs_volume::journal::{CleanerAnswer, CleanerKind, CleanerOutcome, Entry, Event};
 use lfs_volume::volume::Volume;
@@ -44,8 +47,12 @@ fn keep(
     let path = kept_path(alloc, round)?;
     let bytes = [round; 512];
     let rows = [
-        (0, Ask::Create(path.as_str()), Want::Done),
-        (0, Ask::Write(path.as_str(), 0, &bytes), Want::Done),
+        (0, Ask::Create(path.as_str(), 0o644), Want::Done),
+        (
+            0,
+            Ask::Write(path.as_str(), Place::At(0), &bytes),
+            Want::Done,
+        ),
     ];
     run(rt, alloc, volume, &rows)
 }
@@ -60,10 +67,14 @@ fn write_round(
 ) -> Result<(), Fail> {
     let bytes = [round; 512];
     let rows = [
-        (0, Ask::Write("/a", place_of(round % 3), &bytes), Want::Done),
         (
             0,
-            Ask::Write("/b", place_of(round % 16), &bytes),
+            Ask::Write("/a", Place::At(place_of(round % 3)), &bytes),
+            Want::Done,
+        ),
+        (
+            0,
+            Ask::Write("/b", Place::At(place_of(round % 16)), &bytes),
             Want::Done,
         ),
     ];
@@ -76,18 +87,17 @@ fn write_round(
 
 /// The files that are written over and over.
 const FILES: [Row<'static>; 2] = [
-    (0, Ask::Create("/a"), Want::Done),
-    (0, Ask::Create("/b"), Want::Done),
+    (0, Ask::Create("/a", 0o644), Want::Done),
+    (0, Ask::Create("/b", 0o644), Want::Done),
 ];
 
-/// A volume whose files were written over and over.
-fn written(rt: &impl Abort, alloc: Global) -> Result<Volume<LogStore>, Fail> {
-    let mut volume = fresh(alloc, ROOMY)?;
-    run(rt, alloc, &mut volume, &FILES)?;
+/// Makes the files, and writes them over and over.
+fn write_rounds(rt: &impl Abort, alloc: Global, volume: &mut Volume<LogStore>) -> Result<(), Fail> {
+    run(rt, alloc, volume, &FILES)?;
     for round in 0..ROUNDS {
-        write_round(rt, alloc, &mut volume, round)?;
+        write_round(rt, alloc, volume, round)?;
     }
-    Ok(volume)
+    Ok(())
 }
 
 /// Reads a block, and asserts that it has the bytes of a round.
@@ -100,7 +110,11 @@ fn read_block(
     round: u8,
 ) -> Result<(), Fail> {
     let bytes = [round; 512];
-    let rows = [(0, Ask::Read(path, place_of(block)), Want::Bytes(&bytes))];
+    let rows = [(
+        0,
+        Ask::Read(path, place_of(block), 512),
+        Want::Bytes(&bytes),
+    )];
     run(rt, alloc, volume, &rows)
 }
 
@@ -195,24 +209,45 @@ fn cleanings(journal: &[Entry]) -> usize {
     count
 }
 
-// Six rounds take from 42 to 48 blocks, and a segment has 64: so 48 rounds leave at least four segments dirty, each
-// with a block of a file that is written once.
-#[test]
-fn each_dirty_segment_is_emptied_and_cleaned(rt: HostRuntime) -> Result<(), Fail> {
-    let alloc = rt.alloc();
-    let mut volume = written(&rt, alloc)?;
-    let dirty = dirty_segments(alloc, &mut volume)?;
-    let before = volume.clean_segments();
-    assert_eq!(rt; before as usize, 15usize.saturating_sub(dirty.len()));
-    assert!(rt; dirty.len() >= 4);
+/// Asserts that each of these segments is emptied and cleaned, and that no other becomes clean.
+fn clean_each(rt: &impl Abort, volume: &mut Volume<LogStore>, dirty: &[u32]) -> Result<(), Fail> {
     for segment in dirty.iter().copied() {
         assert!(rt;
-            is_emptied_and_cleaned(&mut volume, segment)?,
+            is_emptied_and_cleaned(volume, segment)?,
             "segment {segment}"
         );
     }
     assert_eq!(rt; cleanings(volume.journal()), dirty.len());
+    Ok(())
+}
+
+/// Asserts that at least four segments are dirty and all others but the active one clean, and that all become clean.
+fn clean_dirty(rt: &impl Abort, alloc: Global, volume: &mut Volume<LogStore>) -> Result<(), Fail> {
+    let dirty = dirty_segments(alloc, volume)?;
+    let before = volume.clean_segments();
+    assert_eq!(rt; before as usize, 15usize.saturating_sub(dirty.len()));
+    assert!(rt; dirty.len() >= 4);
+    clean_each(rt, volume, dirty.as_slice())?;
     assert!(rt; volume.clean_segments() > before);
-    read_files(&rt, alloc, &mut volume)?;
-    read_kept(&rt, alloc, &mut volume)
+    Ok(())
+}
+
+// Six rounds take from 42 to 48 blocks, and a segment has 64: so 48 rounds leave at least four segments dirty, each
+// with a block of a file that is written once.
+fn write_clean_and_read(
+    rt: &impl Abort,
+    alloc: Global,
+    volume: &mut Volume<LogStore>,
+) -> Result<(), Fail> {
+    write_rounds(rt, alloc, volume)?;
+    clean_dirty(rt, alloc, volume)?;
+    read_files(rt, alloc, volume)?;
+    read_kept(rt, alloc, volume)
+}
+
+#[test]
+fn each_dirty_segment_is_emptied_and_cleaned(rt: HostRuntime) -> Result<(), Fail> {
+    let alloc = rt.alloc();
+    let mut volume = fresh(alloc, ROOMY)?;
+    write_clean_and_read(&rt, alloc, &mut volume)
 }

@@ -1,10 +1,11 @@
 //! What no clause says of a pass: that it goes through to its third round, told what a volume may answer.
 
-use crate::pass::Pass;
-use lfs_model::journal::CleanerAnswer;
+use lfs_server::pass::Pass;
 use lfs_types::cleaner::{BlockInfo, CleanFault, CleanerCall, InfoList};
 use lfs_types::payload::Bytes;
+use lfs_volume::journal::CleanerAnswer;
 use std::alloc::Global;
+use std::process::Abort;
 use std::test::Fail;
 
 /// The bytes of an ifile of five segments: 1 is active, 2 and 4 are dirty with 512 live bytes, 3 with 768.
@@ -76,29 +77,49 @@ const CALLS: [(&str, u32); 5] = [
     ("segclean", 2),
 ];
 
+/// Asserts that a pass that is told this calls so next.
+fn next_is(
+    rt: &impl Abort,
+    pass: &mut Pass,
+    last: Option<&CleanerAnswer>,
+    call: (&'static str, u32),
+) {
+    assert_eq!(rt; told(pass.next(last)), call);
+}
+
+/// Asserts that a pass that asked for the ifile makes these calls behind it.
+fn round_is_made(rt: &impl Abort, pass: &mut Pass, answers: &[CleanerAnswer]) {
+    for (answer, call) in answers.iter().zip(&CALLS) {
+        next_is(rt, pass, Some(answer), *call);
+    }
+}
+
 #[test]
 fn pass_has_three_rounds(rt: HostRuntime) -> Result<(), Fail> {
     let answers = answers(rt.alloc())?;
     let mut pass = Pass::new();
-    assert_eq!(rt; told(pass.next(None)), ("ifile", 0));
+    next_is(&rt, &mut pass, None, ("ifile", 0));
     for more in ["ifile", "ifile", "over"] {
-        for (answer, call) in answers.as_slice().iter().zip(&CALLS) {
-            assert_eq!(rt; told(pass.next(Some(answer))), *call);
-        }
-        assert_eq!(rt; told(pass.next(Some(&CleanerAnswer::Cleaned))), (more, 0));
+        round_is_made(&rt, &mut pass, answers.as_slice());
+        next_is(&rt, &mut pass, Some(&CleanerAnswer::Cleaned), (more, 0));
     }
     Ok(())
+}
+
+/// Asserts that a pass is over, whatever it is told.
+fn is_over(rt: &impl Abort, pass: &mut Pass, answers: &[CleanerAnswer]) {
+    for answer in answers {
+        next_is(rt, pass, Some(answer), ("over", 0));
+    }
 }
 
 #[test]
 fn fault_ends_a_pass(rt: HostRuntime) -> Result<(), Fail> {
     let answers = answers(rt.alloc())?;
-    let fault = CleanerAnswer::Fault(CleanFault::NotDirty);
+    let fault = [CleanerAnswer::Fault(CleanFault::NotDirty)];
     let mut pass = Pass::new();
     pass.next(None);
-    assert_eq!(rt; told(pass.next(Some(&fault))), ("over", 0));
-    for answer in answers.as_slice() {
-        assert_eq!(rt; told(pass.next(Some(answer))), ("over", 0));
-    }
+    is_over(&rt, &mut pass, &fault);
+    is_over(&rt, &mut pass, answers.as_slice());
     Ok(())
 }
