@@ -78,7 +78,7 @@ impl<'a, R: Wait + Sync> Gate for Between<'a, R> {
     }
 }
 
-/// The places in a journal of the entries that are not the setup's: session 1's first, and the cleaner's first of a kind.
+/// Where in a journal the cleaner's first entry of a kind stands; without a kind, session 1's first.
 fn place_of(journal: &[Entry], kind: Option<CleanerKind>) -> Option<usize> {
     let mut place = 0usize;
     for entry in journal {
@@ -103,7 +103,7 @@ fn is_called_between(journal: &[Entry]) -> Result<bool, Fail> {
     Ok(bmapv < call && call < markv)
 }
 
-/// Asserts this, and that session 1 was answered as it must be.
+/// Asserts that session 1 called between the cleaner's Bmapv and Markv, and was answered as it must be.
 fn assert_called_between(
     rt: &impl Abort,
     alloc: Global,

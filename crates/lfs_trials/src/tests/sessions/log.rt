@@ -156,7 +156,7 @@ pub fn assert_served(
     Ok(())
 }
 
-/// Asserts this, and that other answers don't settle.
+/// Asserts that both were served so, and that other answers don't settle.
 fn assert_only_so_served(
     rt: &impl Abort,
     alloc: Global,

@@ -232,8 +232,8 @@ fn clean_dirty(rt: &impl Abort, alloc: Global, volume: &mut Volume<LogStore>) ->
     Ok(())
 }
 
-// Six rounds take from 42 to 48 blocks, and a segment has 64: so 48 rounds leave at least four segments dirty, each
-// with a block of a file that is written once.
+/// Writes the files, cleans, and reads them. Six rounds take from 42 to 48 blocks, and a segment has 64: so 48 rounds
+/// leave at least four segments dirty, each with a block of a file that is written once.
 fn write_clean_and_read(
     rt: &impl Abort,
     alloc: Global,
