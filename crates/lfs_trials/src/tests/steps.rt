@@ -88,8 +88,8 @@ fn run(
 /// Asserts that each of these steps is answered as it must be.
 fn compare(rt: &impl Abort, answers: &[StepAnswer], rows: &[Row<'_>]) {
     assert_eq!(rt; answers.len(), rows.len());
-    for (index, (given, (_, _, want))) in answers.iter().zip(rows).enumerate() {
-        assert!(rt; is_wanted(given, *want), "at step {index}");
+    for (index, (given, row)) in answers.iter().zip(rows).enumerate() {
+        assert!(rt; is_wanted(given, row.2), "at step {index}");
     }
 }
 
