@@ -24,10 +24,7 @@ struct Plain {
 }
 
 impl FileStore for Plain {
-    ghost use Rattle.std.specs.Vec.{vec_len};
-    ghost use Rattle.lfs_flatfiles.specs.FlatFiles.{state_of};
-
-    ghost state = { λ store. state_of (vec_len store.files.places) store.files.places.items };
+    ghost state = { λ store. ⟦<FlatFiles as FileStore>⟧.state store.files };
 
     fn attrs(&self, ino: u32) -> Option<Attrs> {
         self.files.attrs(ino)
@@ -55,15 +52,17 @@ impl FileStore for Plain {
 }
 
 impl CleanedStore for Plain {
-    ghost gives_ifile = { λ store bytes. Unit {0} };
+    ghost use Rattle.std.specs.Prelude.{⊤};
 
-    ghost gives_infos = { λ store segment result infos. Unit {0} };
+    ghost gives_ifile = { λ _ _. ⊤ };
 
-    ghost gives_addresses = { λ store asked present. Unit {0} };
+    ghost gives_infos = { λ _ _ _ _. ⊤ };
 
-    ghost writes_again = { λ store marks result after. Unit {0} };
+    ghost gives_addresses = { λ _ _ _. ⊤ };
 
-    ghost reclaims = { λ store segment result after. Unit {0} };
+    ghost writes_again = { λ _ _ _ _. ⊤ };
+
+    ghost reclaims = { λ _ _ _ _. ⊤ };
 
     fn ifile_bytes(&self) -> Result<Vec<u8>, AllocError> {
         Err(AllocError)
