@@ -17,8 +17,8 @@ use Rattle.lfs_model.specs.declared.steps.StepAnswer.TheVariants as told
 use Rattle.lfs_model.specs.Runs.{kept_step, kept_steps, kind_of}
 use Rattle.lfs_model.specs.Steps.{IsLegal, world_of}
 use Rattle.lfs_calls.specs.Volumes.{IsVolume}
-use Rattle.lfs_server.specs.Passing.{Steps, calls_left}
-use Rattle.lfs_server.specs.declared.pass.Pass.{Pass}
+use Rattle.lfs_cleaner.specs.Passing.{Steps, calls_left}
+use Rattle.lfs_cleaner.specs.declared.pass.Pass.{Pass}
 use Rattle.lfs_text.specs.AnswerText.{answer_line}
 use Rattle.lfs_text.specs.CleanerText.{cleaner_line}
 use Rattle.lfs_text.specs.ReportText.{report_text}

@@ -11,7 +11,7 @@ use Rattle.lfs_types.specs.StoreStates.{Shape}
 use Rattle.lfs_types.specs.declared.answer.Answer.{Answer}
 use Rattle.lfs_types.specs.declared.request.Request.{Request}
 use Rattle.lfs_model.specs.declared.journal.Entry.{Entry}
-use Rattle.lfs_server.specs.Interleaving.{Agrees, IsInterleaving, Run, is_full, later_entries, run_of}
+use Rattle.lfs_settle.specs.Interleaving.{Agrees, IsInterleaving, Run, is_full, later_entries, run_of}
 use Rattle.lfs_text.specs.AnswerText.{answer_line}
 use Rattle.lfs_text.specs.PlanTypes.{Planned}
 use Rattle.lfs_text.specs.Plans.{plan_of}

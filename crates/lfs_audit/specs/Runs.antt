@@ -11,9 +11,9 @@ use Rattle.lfs_model.specs.declared.steps.Step.{Step as Made}
 use Rattle.lfs_model.specs.declared.steps.StepAnswer.{StepAnswer}
 use Rattle.lfs_model.specs.declared.steps.StepAnswer.TheVariants as told
 use Rattle.lfs_model.specs.Runs.{kept_steps, kind_of}
-use Rattle.lfs_server.specs.Passing.{Steps, calls_left}
-use Rattle.lfs_server.specs.declared.pass.Pass.{Pass}
-use Rattle.lfs_server.specs.declared.pass.Stage.TheVariants.{Ready}
+use Rattle.lfs_cleaner.specs.Passing.{Steps, calls_left}
+use Rattle.lfs_cleaner.specs.declared.pass.Pass.{Pass}
+use Rattle.lfs_cleaner.specs.declared.pass.Stage.TheVariants.{Ready}
 use Rattle.lfs_text.specs.AnswerText.{answer_line}
 use Rattle.lfs_text.specs.CleanerText.{cleaner_line}
 use Rattle.lfs_text.specs.declared.plan.Act.{Act}

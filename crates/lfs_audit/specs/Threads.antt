@@ -8,7 +8,7 @@ use Rattle.lfs_types.specs.Tree.{opening_world}
 use Rattle.lfs_types.specs.declared.answer.Answer.{Answer}
 use Rattle.lfs_model.specs.Steps.{IsLegal}
 use Rattle.lfs_model.specs.declared.journal.Entry.{Entry}
-use Rattle.lfs_server.specs.Interleaving.{IsInterleaving, Run}
+use Rattle.lfs_settle.specs.Interleaving.{IsInterleaving, Run}
 use Rattle.lfs_text.specs.AnswerText.{answer_line}
 use Rattle.lfs_text.specs.PlanTypes.{Planned}
 use Rattle.lfs_text.specs.Plans.{plan_of}

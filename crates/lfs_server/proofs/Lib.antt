@@ -1,3 +1,0 @@
-pub mod ChoosingLemmas
-pub mod PassLemmas
-pub mod SettleLemmas

@@ -1,5 +1,1 @@
-pub mod Choosing
-pub mod Entering
-pub mod Interleaving
-pub mod Passing
 pub mod Serving

@@ -4,7 +4,7 @@ ghost use Rattle.std.specs.Prelude.{◌≡◌};
 
 use crate::doorbell::Rings;
 use crate::gate::Gate;
-use crate::pass::Pass;
+use lfs_cleaner::pass::Pass;
 use lfs_types::cleaned::CleanedStore;
 use lfs_types::cred::Cred;
 use lfs_volume::volume::Volume;

@@ -2,7 +2,7 @@
 
 ghost use Rattle.std.specs.Prelude.{◌≡◌, ◌≤◌, ◌<◌, IfErr, IfOk, OnOk, vec_len};
 ghost use Rattle.lfs_logstore.specs.States.{state_of};
-ghost use Rattle.lfs_server.specs.Interleaving.{IsInterleaving, run_of};
+ghost use Rattle.lfs_settle.specs.Interleaving.{IsInterleaving, run_of};
 ghost use Rattle.lfs_server.specs.Serving.{IsServeFault};
 ghost use Rattle.lfs_volume.specs.Journals.{IsJournal};
 

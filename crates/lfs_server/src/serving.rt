@@ -1,7 +1,7 @@
 //! A run: the setup, then sessions on threads and the cleaner beside them, over one volume; settled before it is handed out.
 
 ghost use Rattle.std.specs.Prelude.{◌≡◌, ◌⊎◌, ◌<◌, ◌≤◌, ◌↔◌, IfErr, IfOk, OnOk, vec_len, length};
-ghost use Rattle.lfs_server.specs.Interleaving.{IsInterleaving, run_of};
+ghost use Rattle.lfs_settle.specs.Interleaving.{IsInterleaving, run_of};
 ghost use Rattle.lfs_volume.specs.Journals.{IsJournal};
 ghost use Rattle.lfs_server.specs.Serving.{IsFaultOf, IsRunFault};
 ghost use Rattle.lfs_server.specs.declared.serving.ServeFault.TheVariants.{Memory};

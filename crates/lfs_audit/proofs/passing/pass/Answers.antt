@@ -1,5 +1,5 @@
 use Rattle.std.proofs.Common.{Some, refl, subst}
-use Rattle.lfs_server.specs.Passing.{Steps}
+use Rattle.lfs_cleaner.specs.Passing.{Steps}
 use Rattle.lfs_volume.specs.Cleanings.{cleaner_of}
 use Rattle.lfs_audit.proofs.RunLemmas.{pass_begins, pass_goes_on}
 use Rattle.lfs_audit.proofs.passing.pass.Goals as goal

@@ -1,4 +1,4 @@
-use Rattle.lfs_server.specs.Passing.{calls_left}
+use Rattle.lfs_cleaner.specs.Passing.{calls_left}
 use Rattle.lfs_volume.specs.Cleanings.{cleaner_of}
 use Rattle.lfs_audit.specs.Runs.{IsPassing}
 use Rattle.lfs_audit.proofs.passing.pass.Given as goal

@@ -3,7 +3,7 @@ use Rattle.std.proofs.lemmas.List.{length-map}
 use Rattle.std.specs.Global.{Vec}
 use Rattle.lfs_types.specs.declared.answer.Answer.{Answer}
 use Rattle.lfs_logstore.specs.States.{state_of}
-use Rattle.lfs_server.specs.Interleaving.{run_of}
+use Rattle.lfs_settle.specs.Interleaving.{run_of}
 use Rattle.lfs_audit.proofs.ThreadLemmas.{late_threads, ok_further, threads_run, transcripts_few}
 use Rattle.lfs_audit.proofs.threaded.run_threads.Goals as goal
 

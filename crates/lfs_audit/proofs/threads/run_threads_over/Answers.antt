@@ -2,7 +2,7 @@ use Rattle.std.proofs.Common.{◌≡◌, length, arith}
 use Rattle.std.proofs.lemmas.List.{length-map}
 use Rattle.std.specs.Global.{Vec}
 use Rattle.lfs_types.specs.declared.answer.Answer.{Answer}
-use Rattle.lfs_server.specs.Interleaving.{run_of}
+use Rattle.lfs_settle.specs.Interleaving.{run_of}
 use Rattle.lfs_audit.proofs.ThreadLemmas.{threads_run, transcripts_few}
 use Rattle.lfs_audit.proofs.threads.run_threads_over.Goals as goal
 

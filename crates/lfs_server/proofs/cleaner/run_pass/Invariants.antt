@@ -1,4 +1,4 @@
-use Rattle.lfs_server.specs.Passing.{calls_left}
+use Rattle.lfs_cleaner.specs.Passing.{calls_left}
 use Rattle.lfs_server.proofs.cleaner.run_pass.Given as goal
 
 abbrev pub decreases-loop-call : goal.decreases-loop-call
