@@ -1,12 +1,12 @@
 //! Runs of users' calls on a volume over a log, with a cleaner that keeps segments clean.
 
 ghost use Rattle.std.specs.Prelude.{◌≡◌, IfOk, length};
-ghost use Rattle.lfs_bench.specs.Counting.{total};
+ghost use Rattle.lfs_runs.specs.Counting.{total};
 
-use crate::counts::Counts;
-use crate::store::{Measure, Plan, SESSION};
-use crate::tree::Call;
+use crate::store::{Measure, Plan};
 use anyhow::Result;
+use lfs_runs::counts::Counts;
+use lfs_runs::playing::{Call, SESSION};
 use lfs_server::pass::Pass;
 use lfs_types::cleaned::CleanedStore;
 use lfs_types::cred::Cred;

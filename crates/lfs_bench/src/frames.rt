@@ -3,12 +3,12 @@
 ghost use Rattle.std.specs.Prelude.{◌≡◌, ◌≤◌, ◌<◌};
 ghost use Rattle.lfs_recency.specs.FrameLists.{frame_count};
 
-use crate::counts::Counts;
-use crate::scale::Scale;
 use crate::store::Measure;
 use anyhow::Result;
 use lfs_cache::{Cache, Key};
 use lfs_recency::{Frames, Queue};
+use lfs_runs::counts::Counts;
+use lfs_runs::scale::Scale;
 use std::rt::Clock;
 use std::time::Instant;
 

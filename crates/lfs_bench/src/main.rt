@@ -6,18 +6,12 @@
 #![tactic(auto)]
 
 mod cleaned;
-mod counts;
 mod frames;
-mod meeting;
 mod options;
 mod rows;
-mod scale;
 mod sessions;
 mod stopwatch;
 mod store;
-mod timed;
-mod tree;
-mod workload;
 
 use options::options_of;
 use std::env::{self, Env};

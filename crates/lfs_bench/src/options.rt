@@ -2,10 +2,10 @@
 
 ghost use Rattle.std.specs.Prelude.{◌≤◌};
 
-use crate::scale::CALLS_MAX;
-use crate::workload::Workload;
 use clap::builder::ValueParser;
 use clap::{Arg, ArgAction, ArgMatches, Command, Error, value_parser};
+use lfs_runs::scale::CALLS_MAX;
+use lfs_workloads::workload::Workload;
 use std::alloc::{AllocError, Global};
 use std::convert::AsStr;
 

@@ -4,10 +4,10 @@ ghost use Rattle.std.specs.Prelude.{◌≤◌};
 
 use crate::frames::{run_look_ups, run_moves};
 use crate::options::Options;
-use crate::scale::{Factor, Growth, Scale};
 use crate::store::{Measure, Store, run_on};
-use crate::workload::{UserLoad, Workload};
 use anyhow::Result;
+use lfs_runs::scale::{Factor, Growth, Scale};
+use lfs_workloads::workload::{UserLoad, Workload};
 use std::fmt;
 use std::rt::Clock;
 

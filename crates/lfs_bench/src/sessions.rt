@@ -1,29 +1,25 @@
 //! Calls of eight sessions on threads, with the cleaner beside them, against the same calls of one session without
 //! threads.
 
-ghost use Rattle.std.specs.Prelude.{◌≡◌, ◌≤◌, IfOk, length};
-ghost use Rattle.std.specs.Global.{Vec};
-ghost use Rattle.std.specs.List.{flat_map};
-ghost use Rattle.lfs_types.specs.declared.answer.Answer.{Answer};
-ghost use Rattle.lfs_bench.specs.Counting.{total};
+ghost use Rattle.std.specs.Prelude.{◌≤◌};
 
 use crate::cleaned::{make_pass, wants_pass};
-use crate::counts::Counts;
-use crate::meeting::{SESSIONS, each_of, lone_script, scripts_of, setup_of};
 use crate::options::Options;
-use crate::scale::{Factor, Growth, Scale};
 use crate::stopwatch::Stopwatch;
-use crate::store::{Measure, SESSION, log_params, log_volume};
-use crate::tree::Tree;
+use crate::store::{Measure, log_params, log_volume};
 use anyhow::Result;
 use lfs_logstore::LogStore;
+use lfs_runs::playing::{SESSION, counts_of, gathered};
+use lfs_runs::scale::{Factor, Growth, Scale};
 use lfs_server::serve::serve;
 use lfs_types::answer::Answer;
 use lfs_types::cleaned::CleanedStore;
 use lfs_types::cred::Cred;
 use lfs_types::script::Script;
 use lfs_volume::volume::Volume;
-use std::alloc::{AllocError, Global};
+use lfs_workloads::meeting::{SESSIONS, each_of, lone_script, scripts_of, setup_of};
+use lfs_workloads::tree::Tree;
+use std::alloc::Global;
 use std::rt::Clock;
 use std::sync::Wait;
 use std::thread::Threads;
@@ -158,27 +154,4 @@ fn answers_to<F: CleanedStore + Drop>(
         answers.push(volume.call(SESSION, cred, copy))?;
     }
     Ok(answers)
-}
-
-/// The answers of all sessions as one list.
-fn gathered(alloc: Global, transcripts: Vec<Vec<Answer>>) -> Result<Vec<Answer>, AllocError>
-    ensures { IfOk result (λ all. all.items
-        ≡ flat_map (λ (transcript : Vec Answer). transcript.items) transcripts.items) }
-{
-    let mut answers = Vec::new(alloc);
-    for mut transcript in transcripts {
-        answers.append(&mut transcript)?;
-    }
-    Ok(answers)
-}
-
-/// Counts answers.
-fn counts_of(answers: &[Answer]) -> Counts
-    ensures { total result ≡ length answers.now }
-{
-    let mut counts = Counts::default();
-    for answer in answers {
-        counts.add(answer);
-    }
-    counts
 }

@@ -1,19 +1,17 @@
 //! Runs of users' calls on a fresh volume over a store.
 
-ghost use Rattle.std.specs.Prelude.{◌≡◌, length};
-ghost use Rattle.lfs_bench.specs.Counting.{total};
-
 use crate::cleaned::{Passes, run_cleaned};
-use crate::counts::Counts;
-use crate::scale::Scale;
-use crate::timed::timed_calls;
-use crate::tree::{Call, Tree};
-use crate::workload::UserLoad;
 use anyhow::{Result, bail};
 use lfs_logstore::LogStore;
+use lfs_runs::counts::Counts;
+use lfs_runs::playing::{Call, play};
+use lfs_runs::scale::Scale;
 use lfs_types::store::{FileStore, Params};
 use lfs_volume::flat_files::FlatFiles;
 use lfs_volume::volume::Volume;
+use lfs_workloads::timed::timed_calls;
+use lfs_workloads::tree::Tree;
+use lfs_workloads::workload::UserLoad;
 use std::alloc::Global;
 use std::num::nearest_u64_to_f64;
 use std::rt::Clock;
@@ -21,9 +19,6 @@ use std::time::Instant;
 
 /// How many entries of the journal there is room for over a log, for each call of a user.
 const CLEANER_CALLS: u32 = 16;
-
-/// The session that makes all calls, where there is one.
-pub const SESSION: u8 = 1;
 
 /// A store that volumes are timed over.
 #[derive(Clone, Copy)]
@@ -147,15 +142,4 @@ fn run_calls<R: Clock, F: FileStore + Drop>(
     let counts = play(&mut volume, plan.timed);
     let seconds = start.elapsed(rt)?.as_secs_f64();
     Ok(Measure { counts, seconds })
-}
-
-/// Makes calls one after another, and counts their answers.
-fn play<F: FileStore + Drop>(volume: &mut Volume<F>, calls: Vec<Call>) -> Counts
-    ensures { total result ≡ length calls.items }
-{
-    let mut counts = Counts::default();
-    for (cred, request) in calls {
-        counts.add(&volume.call(SESSION, &cred, request));
-    }
-    counts
 }

@@ -1,5 +1,5 @@
 use Rattle.std.proofs.Common.{◌≡◌, ◌++◌, length}
-use Rattle.lfs_bench.specs.Counting.{total}
+use Rattle.lfs_runs.specs.Counting.{total}
 use Rattle.lfs_bench.proofs.cleaned.play_cleaned.Given as goal
 
 abbrev pub invariant-loop-cred : goal.invariant-loop-cred

@@ -1,7 +1,8 @@
 //! The tree that calls are timed on.
 
-use crate::scale::Scale;
 use anyhow::{Result, anyhow};
+use lfs_runs::playing::Call;
+use lfs_runs::scale::Scale;
 use lfs_types::cred::Cred;
 use lfs_types::limits::TRANSFER_BYTES;
 use lfs_types::mode::Mode;
@@ -18,9 +19,6 @@ pub const STRANGER: u32 = 2000;
 
 /// The superuser, who makes the first directory.
 const SUPERUSER: u32 = 0;
-
-/// A user's cred and what he asks for.
-pub type Call = (Cred, Request);
 
 /// A directory at the end of a path of directories, and files in it. All are the owner's.
 #[derive(Drop)]

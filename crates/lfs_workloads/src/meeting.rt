@@ -2,10 +2,11 @@
 
 ghost use Rattle.std.specs.Prelude.{◌≤◌};
 
-use crate::scale::Scale;
 use crate::timed::{SMALL, read, write};
-use crate::tree::{Call, OWNER, Tree, call_of};
+use crate::tree::{OWNER, Tree, call_of};
 use anyhow::Result;
+use lfs_runs::playing::Call;
+use lfs_runs::scale::Scale;
 use lfs_types::path::Path;
 use lfs_types::request::{Place, Request};
 use lfs_types::script::Script;

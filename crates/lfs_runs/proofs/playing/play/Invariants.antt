@@ -1,6 +1,6 @@
 use Rattle.std.proofs.Common.{◌≡◌, ◌++◌, length}
-use Rattle.lfs_bench.specs.Counting.{total}
-use Rattle.lfs_bench.proofs.store.play.Given as goal
+use Rattle.lfs_runs.specs.Counting.{total}
+use Rattle.lfs_runs.proofs.playing.play.Given as goal
 
 abbrev pub invariant-loop-cred : goal.invariant-loop-cred
 invariant-loop-cred g l =

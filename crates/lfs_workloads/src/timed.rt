@@ -2,9 +2,10 @@
 
 ghost use Rattle.std.specs.Prelude.{◌<◌};
 
-use crate::tree::{Call, OWNER, STRANGER, Tree, call_of};
+use crate::tree::{OWNER, STRANGER, Tree, call_of};
 use crate::workload::UserLoad;
 use anyhow::Result;
+use lfs_runs::playing::Call;
 use lfs_types::limits::TRANSFER_BYTES;
 use lfs_types::request::{Place, Request};
 use std::alloc::Global;
