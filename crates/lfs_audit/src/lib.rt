@@ -7,6 +7,7 @@ mod passing;
 mod read;
 pub mod run;
 pub mod scripts;
+pub mod tell;
 #[cfg(test)]
 mod tests;
 pub mod threaded;

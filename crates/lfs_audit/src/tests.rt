@@ -26,6 +26,14 @@ const PARAMS: Params = Params {
     journal: 4096,
 };
 
+use std::fmt::Debug;
+use std::process::Abort;
+
+/// Asserts that what was found is what is wanted. An assertion takes the prover a second or more, a call of this less.
+fn expect_eq<T: PartialEq + Debug + Drop>(rt: &impl Abort, found: T, wanted: T) {
+    assert_eq!(rt; found, wanted);
+}
+
 /// Runs a script over a fresh volume.
 fn run<R: Read, W: Write>(alloc: Global, reader: &mut R, writer: &mut W) -> Result<(), RunFault> {
     run_script(alloc, reader, writer, PARAMS)

@@ -2,13 +2,13 @@
 #![tactic(auto)]
 
 mod options;
-mod tell;
 #[cfg(test)]
 mod tests;
 
 use clap::error::ErrorKind;
 use lfs_audit::fault::{RunFault, ThreadsFault};
 use lfs_audit::scripts::run_script;
+use lfs_audit::tell;
 use lfs_audit::threaded::run_threads;
 use options::Options;
 use std::env::Env;

@@ -17,8 +17,14 @@ use lfs_audit::fault::RunFault;
 use lfs_audit::scripts::run_script;
 use lfs_types::store::Params;
 use std::alloc::Global;
+use std::fmt::Debug;
 use std::process::Abort;
 use std::test::Fail;
+
+/// Asserts that what was found is what is wanted. An assertion takes the prover a second or more, a call of this less.
+fn expect_eq<T: PartialEq + Debug + Drop>(rt: &impl Abort, found: T, wanted: T) {
+    assert_eq!(rt; found, wanted);
+}
 
 /// What a run of this script writes.
 fn output_with(alloc: Global, script: &str, params: Params) -> Result<Vec<u8>, RunFault> {

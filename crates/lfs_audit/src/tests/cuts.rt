@@ -1,7 +1,7 @@
 //! A script that is cut after each of its bytes.
 
 use super::fakes::Shut;
-use super::run;
+use super::{expect_eq, run};
 use crate::fault::RunFault;
 use lfs_text::fault::{FaultKind, ScriptFault};
 use std::test::Fail;
@@ -52,7 +52,7 @@ fn script_cut_within_each_line(rt: HostRuntime) -> Result<(), Fail> {
         let mut writer = Shut { is_asked: false };
         let result = run(alloc, &mut &*cut, &mut writer);
         let fault = RunFault::Script(ScriptFault { line, kind });
-        assert_eq!(rt; result, Err(fault), "{count}");
+        expect_eq(&rt, &result, &Err(fault));
         assert!(rt; !writer.is_asked);
     }
     Ok(())

@@ -1,7 +1,7 @@
 //! Which of several faults a run is given, and that nothing is written up to it.
 
 use super::fakes::{Failing, Shut};
-use super::{PARAMS, run, run_on_threads};
+use super::{PARAMS, expect_eq, run, run_on_threads};
 use crate::fault::{RunFault, ThreadsFault};
 use crate::scripts::run_script;
 use crate::threaded::run_threads;
@@ -41,10 +41,10 @@ fn reading_ends_at_its_first_fault(rt: HostRuntime) -> Result<(), Fail> {
         let kind = ErrorKind::Other;
         let mut writer = Shut { is_asked: false };
         let mut reader = Failing { rest, reads, kind };
-        assert_eq!(rt; run(alloc, &mut reader, &mut writer), Err(fault));
+        expect_eq(&rt, run(alloc, &mut reader, &mut writer), Err(fault));
         let mut reader = Failing { rest, reads, kind };
         let result = run_on_threads(&rt, alloc, &mut reader, &mut writer);
-        assert_eq!(rt; result, Err(ThreadsFault::Run(fault)));
+        expect_eq(&rt, &result, &Err(ThreadsFault::Run(fault)));
         assert!(rt; !writer.is_asked);
     }
     Ok(())
@@ -68,7 +68,7 @@ fn faults_on_threads_come_in_their_order(rt: HostRuntime) {
         for (script, fault) in &cases {
             let mut writer = Shut { is_asked: false };
             let result = run_threads(&rt, rt.alloc(), &mut &**script, &mut writer, params);
-            assert_eq!(rt; result, Err(*fault));
+            expect_eq(&rt, &result, &Err(*fault));
             assert!(rt; !writer.is_asked);
         }
     }
@@ -84,10 +84,10 @@ fn faults_of_the_format_come_before_writing(rt: HostRuntime) {
         let mut writer = Shut { is_asked: false };
         let script = b"session 1\nsync\n".as_slice();
         let result = run_script(alloc, &mut &*script, &mut writer, params);
-        assert_eq!(rt; result, Err(RunFault::Format(fault)));
+        expect_eq(&rt, &result, &Err(RunFault::Format(fault)));
         let result = run_threads(&rt, alloc, &mut &*script, &mut writer, params);
         let expected = ThreadsFault::Serve(ServeFault::Format(fault));
-        assert_eq!(rt; result, Err(expected));
+        expect_eq(&rt, &result, &Err(expected));
         assert!(rt; !writer.is_asked);
     }
 }
@@ -100,7 +100,7 @@ fn fault_of_a_line_comes_before_those_of_the_format(rt: HostRuntime) {
         let mut writer = Shut { is_asked: false };
         let script = b"sync\nshow\n".as_slice();
         let result = run_script(rt.alloc(), &mut &*script, &mut writer, params);
-        assert_eq!(rt; result, Err(fault));
+        expect_eq(&rt, &result, &Err(fault));
         assert!(rt; !writer.is_asked);
     }
 }

@@ -1,7 +1,7 @@
 //! Scripts with the cleaner's lines, and what they print.
 
 use super::store::Unswept;
-use super::{PARAMS, run_script};
+use super::{PARAMS, expect_eq, run_script};
 use crate::run::run_over;
 use lfs_types::store::Params;
 use lfs_volume::flat_files::FlatFiles;
@@ -47,7 +47,7 @@ rule U1 3
     let mut volume = Volume::new(alloc, store, PARAMS.journal)?;
     let mut writer = Vec::new(alloc);
     run_over(alloc, &mut script.as_slice(), &mut writer, &mut volume)?;
-    assert_eq!(rt; writer.as_slice(), expected.as_slice());
+    expect_eq(&rt, writer.as_slice(), expected.as_slice());
     Ok(())
 }
 
@@ -91,6 +91,6 @@ cleaner 0
     };
     let mut writer = Vec::new(rt.alloc());
     run_script(rt.alloc(), &mut script.as_slice(), &mut writer, params)?;
-    assert_eq!(rt; writer.as_slice(), expected.as_slice());
+    expect_eq(&rt, writer.as_slice(), expected.as_slice());
     Ok(())
 }

@@ -1,7 +1,7 @@
 //! Scripts run over readers and writers that fail, never end or take little.
 
 use super::fakes::{Endless, Failing, Full, Shut, Slow};
-use super::{push_long_reads, run};
+use super::{expect_eq, push_long_reads, run};
 use crate::fault::RunFault;
 use lfs_text::fault::{FaultKind, ScriptFault};
 use std::io::ErrorKind;
@@ -21,7 +21,7 @@ fn reader_that_fails_at_each_read(rt: HostRuntime) {
             };
             let mut writer = Shut { is_asked: false };
             let result = run(rt.alloc(), &mut reader, &mut writer);
-            assert_eq!(rt; result, Err(RunFault::Read), "{reads}");
+            expect_eq(&rt, &result, &Err(RunFault::Read));
             assert!(rt; !writer.is_asked);
         }
     }
@@ -32,7 +32,7 @@ fn reader_that_fails_at_each_read(rt: HostRuntime) {
     };
     let mut writer = Vec::new(rt.alloc());
     let result = run(rt.alloc(), &mut reader, &mut writer);
-    assert_eq!(rt; result, Ok(()));
+    expect_eq(&rt, &result, &Ok(()));
 }
 
 #[test]
@@ -43,8 +43,8 @@ fn reader_that_never_ends(rt: HostRuntime) {
     };
     let mut writer = Vec::new(rt.alloc());
     let result = run(rt.alloc(), &mut reader, &mut writer);
-    assert_eq!(rt; result, Err(RunFault::TooLong));
-    assert_eq!(rt; reader.reads, 1_048_577);
+    expect_eq(&rt, &result, &Err(RunFault::TooLong));
+    expect_eq(&rt, reader.reads, 1_048_577);
     assert!(rt; writer.is_empty());
 }
 
@@ -57,20 +57,20 @@ fn longest_script(rt: HostRuntime) -> Result<(), Fail> {
     }
     let mut writer = Vec::new(alloc);
     let result = run(alloc, &mut script.as_slice(), &mut writer);
-    assert_eq!(rt; result, Ok(()));
+    expect_eq(&rt, &result, &Ok(()));
     let report = b"entries 0\nserved 0\ndenied 0\nrefused 0\ncleaner 0\n";
-    assert_eq!(rt; writer.as_slice(), report.as_slice());
+    expect_eq(&rt, writer.as_slice(), report.as_slice());
     writer.clear();
     script.push(b'x')?;
     let result = run(alloc, &mut script.as_slice(), &mut writer);
-    assert_eq!(rt; result, Err(RunFault::TooLong));
+    expect_eq(&rt, &result, &Err(RunFault::TooLong));
     script.pop();
     script.pop();
     let line = 524_288;
     let kind = FaultKind::Cut;
     let fault = RunFault::Script(ScriptFault { line, kind });
     let result = run(alloc, &mut script.as_slice(), &mut writer);
-    assert_eq!(rt; result, Err(fault));
+    expect_eq(&rt, &result, &Err(fault));
     assert!(rt; writer.is_empty());
     Ok(())
 }
@@ -85,14 +85,14 @@ fn writer_that_fails_at_each_write(rt: HostRuntime) -> Result<(), Fail> {
             flushes: true,
         };
         let result = run(rt.alloc(), &mut script.as_bytes(), &mut writer);
-        assert_eq!(rt; result, Err(RunFault::Write), "{writes}");
-        assert_eq!(rt; writer.writes, 0);
+        expect_eq(&rt, &result, &Err(RunFault::Write));
+        expect_eq(&rt, writer.writes, 0);
     }
     for (flushes, expected) in [(true, Ok(())), (false, Err(RunFault::Write))] {
         let mut writer = Full { writes: 3, flushes };
         let result = run(rt.alloc(), &mut script.as_bytes(), &mut writer);
-        assert_eq!(rt; result, expected);
-        assert_eq!(rt; writer.writes, 0);
+        expect_eq(&rt, &result, &expected);
+        expect_eq(&rt, writer.writes, 0);
     }
     Ok(())
 }
@@ -103,7 +103,7 @@ fn writer_that_takes_a_byte_at_a_time(rt: HostRuntime) -> Result<(), Fail> {
         taken: Vec::new(rt.alloc()),
     };
     let result = run(rt.alloc(), &mut &*SCRIPT, &mut writer);
-    assert_eq!(rt; result, Ok(()));
+    expect_eq(&rt, &result, &Ok(()));
     let expected = b"\
 0 ok
 0 ok
@@ -115,6 +115,6 @@ denied 0
 refused 0
 cleaner 0
 ";
-    assert_eq!(rt; writer.taken.as_slice(), expected.as_slice());
+    expect_eq(&rt, writer.taken.as_slice(), expected.as_slice());
     Ok(())
 }

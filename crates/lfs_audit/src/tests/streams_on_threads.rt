@@ -1,7 +1,7 @@
 //! Scripts run on threads over readers and writers that fail, never end or take little.
 
 use super::fakes::{Endless, Failing, Full, Shut, Slow};
-use super::{push_long_reads, run_on_threads};
+use super::{expect_eq, push_long_reads, run_on_threads};
 use crate::fault::{RunFault, ThreadsFault};
 use std::io::ErrorKind;
 use std::test::Fail;
@@ -20,7 +20,7 @@ fn reader_on_threads_that_fails_at_each_read(rt: HostRuntime) {
             };
             let mut writer = Shut { is_asked: false };
             let result = run_on_threads(&rt, rt.alloc(), &mut reader, &mut writer);
-            assert_eq!(rt; result, Err(ThreadsFault::Run(RunFault::Read)), "{reads}");
+            expect_eq(&rt, &result, &Err(ThreadsFault::Run(RunFault::Read)));
             assert!(rt; !writer.is_asked);
         }
     }
@@ -31,7 +31,7 @@ fn reader_on_threads_that_fails_at_each_read(rt: HostRuntime) {
     };
     let mut writer = Vec::new(rt.alloc());
     let result = run_on_threads(&rt, rt.alloc(), &mut reader, &mut writer);
-    assert_eq!(rt; result, Ok(()));
+    expect_eq(&rt, &result, &Ok(()));
 }
 
 #[test]
@@ -42,8 +42,8 @@ fn reader_on_threads_that_never_ends(rt: HostRuntime) {
     };
     let mut writer = Shut { is_asked: false };
     let result = run_on_threads(&rt, rt.alloc(), &mut reader, &mut writer);
-    assert_eq!(rt; result, Err(ThreadsFault::Run(RunFault::TooLong)));
-    assert_eq!(rt; reader.reads, 1_048_577);
+    expect_eq(&rt, &result, &Err(ThreadsFault::Run(RunFault::TooLong)));
+    expect_eq(&rt, reader.reads, 1_048_577);
     assert!(rt; !writer.is_asked);
 }
 
@@ -59,14 +59,14 @@ fn writer_on_threads_that_fails_at_each_write(rt: HostRuntime) -> Result<(), Fai
             flushes: true,
         };
         let result = run_on_threads(&rt, rt.alloc(), &mut script.as_bytes(), &mut writer);
-        assert_eq!(rt; result, Err(fault), "{writes}");
-        assert_eq!(rt; writer.writes, 0);
+        expect_eq(&rt, &result, &Err(fault));
+        expect_eq(&rt, writer.writes, 0);
     }
     for (flushes, expected) in [(true, Ok(())), (false, Err(fault))] {
         let mut writer = Full { writes: 3, flushes };
         let result = run_on_threads(&rt, rt.alloc(), &mut script.as_bytes(), &mut writer);
-        assert_eq!(rt; result, expected);
-        assert_eq!(rt; writer.writes, 0);
+        expect_eq(&rt, &result, &expected);
+        expect_eq(&rt, writer.writes, 0);
     }
     Ok(())
 }
@@ -77,7 +77,7 @@ fn writer_on_threads_that_takes_a_byte_at_a_time(rt: HostRuntime) {
         taken: Vec::new(rt.alloc()),
     };
     let result = run_on_threads(&rt, rt.alloc(), &mut &*SCRIPT, &mut writer);
-    assert_eq!(rt; result, Ok(()));
+    expect_eq(&rt, &result, &Ok(()));
     let written = writer.taken.as_slice();
     assert!(rt; written.starts_with(b"0 ok\n1 ok\n1 bytes 616263\nentries "));
     // No session's call runs out of anything, so of the report only the cleaner's calls and the sum vary.

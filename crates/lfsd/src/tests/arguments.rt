@@ -1,5 +1,6 @@
 //! The program's arguments.
 
+use super::expect_eq;
 use crate::options::{DEFAULTS, Options, options_of};
 use clap::error::ErrorKind;
 use lfs_types::store::Params;
@@ -8,12 +9,13 @@ use std::test::Fail;
 #[test]
 fn parameters(rt: HostRuntime) -> Result<(), Fail> {
     let alloc = rt.alloc();
-    assert_eq!(rt;
+    expect_eq(
+        &rt,
         options_of(alloc, &["lfsd"])?,
         Options {
             params: DEFAULTS,
-            threads: false
-        }
+            threads: false,
+        },
     );
     let least = Params {
         segments: 6,
@@ -32,12 +34,13 @@ fn parameters(rt: HostRuntime) -> Result<(), Fail> {
         "--frames",
         "32",
     ];
-    assert_eq!(rt;
+    expect_eq(
+        &rt,
         options_of(alloc, &words)?,
         Options {
             params: least,
-            threads: false
-        }
+            threads: false,
+        },
     );
     let most = Params {
         segments: 1024,
@@ -53,12 +56,13 @@ fn parameters(rt: HostRuntime) -> Result<(), Fail> {
         "--segments=1024",
         "--frames=1024",
     ];
-    assert_eq!(rt;
+    expect_eq(
+        &rt,
         options_of(alloc, &words)?,
         Options {
             params: most,
-            threads: true
-        }
+            threads: true,
+        },
     );
     Ok(())
 }
@@ -87,7 +91,7 @@ fn usage_faults(rt: HostRuntime) {
     ];
     for words in cases {
         let code = options_of(rt.alloc(), words).map_err(|error| error.exit_code());
-        assert_eq!(rt; code, Err(2), "{words:?}");
+        expect_eq(&rt, &code, &Err(2));
     }
 }
 
@@ -96,8 +100,8 @@ fn help(rt: HostRuntime) -> Result<(), Fail> {
     let Err(error) = options_of(rt.alloc(), &["lfsd", "--help"]) else {
         return Err(Fail::from("no help"));
     };
-    assert_eq!(rt; error.kind(), ErrorKind::DisplayHelp);
-    assert_eq!(rt; error.exit_code(), 0);
+    expect_eq(&rt, error.kind(), ErrorKind::DisplayHelp);
+    expect_eq(&rt, error.exit_code(), 0);
     assert!(rt; !error.use_stderr());
     let text = format!(in rt.alloc(); "{error}")?;
     for told in [

@@ -1,6 +1,6 @@
 //! Worked scripts and the lines that they must print.
 
-use super::{expect, output, output_with};
+use super::{expect, expect_eq, output, output_with};
 use crate::options::DEFAULTS;
 use lfs_audit::fault::RunFault;
 use lfs_text::fault::{FaultKind, ScriptFault};
@@ -40,7 +40,11 @@ refused 0
 cleaner 0
 rule M2 1
 ";
-    assert_eq!(rt; output(rt.alloc(), script)?.as_slice(), expected.as_slice());
+    expect_eq(
+        &rt,
+        output(rt.alloc(), script)?.as_slice(),
+        expected.as_slice(),
+    );
     Ok(())
 }
 
@@ -84,7 +88,7 @@ refused 0
 cleaner 0
 ";
     let written = output_with(rt.alloc(), script, params)?;
-    assert_eq!(rt; written.as_slice(), expected.as_slice());
+    expect_eq(&rt, written.as_slice(), expected.as_slice());
     Ok(())
 }
 
@@ -107,7 +111,7 @@ refused 0
 cleaner 0
 ";
     let written = output_with(rt.alloc(), script, params)?;
-    assert_eq!(rt; written.as_slice(), expected.as_slice());
+    expect_eq(&rt, written.as_slice(), expected.as_slice());
     Ok(())
 }
 
@@ -128,7 +132,7 @@ fn inode_limit(rt: HostRuntime) -> Result<(), Fail> {
     expected.push_str("0 refused NoInodes\n0 denied M2 EACCES 0 0\n")?;
     expected.push_str("entries 14\nserved 12\ndenied 1\nrefused 1\ncleaner 0\nrule M2 1\n")?;
     let written = output_with(alloc, script.as_str(), params)?;
-    assert_eq!(rt; written.as_slice(), expected.as_bytes());
+    expect_eq(&rt, written.as_slice(), expected.as_bytes());
     Ok(())
 }
 
@@ -137,13 +141,13 @@ fn line_without_line_feed(rt: HostRuntime) {
     let kind = FaultKind::Cut;
     let fault = RunFault::Script(ScriptFault { line: 1, kind });
     let result = output(rt.alloc(), "create /a 0644");
-    assert_eq!(rt; result.err(), Some(fault));
+    expect_eq(&rt, result.err(), Some(fault));
 }
 
 #[test]
 fn empty_script(rt: HostRuntime) -> Result<(), Fail> {
     let expected = b"entries 0\nserved 0\ndenied 0\nrefused 0\ncleaner 0\n";
-    assert_eq!(rt; output(rt.alloc(), "")?.as_slice(), expected.as_slice());
+    expect_eq(&rt, output(rt.alloc(), "")?.as_slice(), expected.as_slice());
     Ok(())
 }
 

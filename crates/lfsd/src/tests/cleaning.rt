@@ -1,6 +1,6 @@
 //! Lines of the cleaner, and what a user sees after a pass.
 
-use super::output;
+use super::{expect_eq, output};
 use std::alloc::AllocError;
 use std::test::Fail;
 
@@ -19,7 +19,11 @@ denied 0
 refused 0
 cleaner 5
 ";
-    assert_eq!(rt; output(rt.alloc(), script)?.as_slice(), expected.as_slice());
+    expect_eq(
+        &rt,
+        output(rt.alloc(), script)?.as_slice(),
+        expected.as_slice(),
+    );
     Ok(())
 }
 
@@ -37,7 +41,11 @@ refused 0
 cleaner 3
 rule U1 3
 ";
-    assert_eq!(rt; output(rt.alloc(), script)?.as_slice(), expected.as_slice());
+    expect_eq(
+        &rt,
+        output(rt.alloc(), script)?.as_slice(),
+        expected.as_slice(),
+    );
     Ok(())
 }
 
@@ -68,9 +76,10 @@ fn stale_info_of_a_number_given_out_again(rt: HostRuntime) -> Result<(), Fail> {
     script.push_str("read /v 0 1\nstat /v\n")?;
     expected.push_str("0 bytes 62\n0 stat 4 file 0 0 0644 00000000 1\n")?;
     expected.push_str("entries 17\nserved 9\ndenied 0\nrefused 0\ncleaner 8\n")?;
-    assert_eq!(rt;
+    expect_eq(
+        &rt,
         output(alloc, script.as_str())?.as_slice(),
-        expected.as_bytes()
+        expected.as_bytes(),
     );
     Ok(())
 }

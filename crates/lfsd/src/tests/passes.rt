@@ -1,6 +1,6 @@
 //! Full volumes and passes of the cleaner.
 
-use super::{expect, output, output_with};
+use super::{expect, expect_eq, output, output_with};
 use crate::options::DEFAULTS;
 use lfs_types::store::Params;
 use std::alloc::{AllocError, Global};
@@ -125,6 +125,10 @@ refused 0
 cleaner 7
 rule U1 1
 ";
-    assert_eq!(rt; output(rt.alloc(), script)?.as_slice(), expected.as_slice());
+    expect_eq(
+        &rt,
+        output(rt.alloc(), script)?.as_slice(),
+        expected.as_slice(),
+    );
     Ok(())
 }

@@ -1,7 +1,8 @@
 //! The status of a run, and faults that can't be told.
 
-use crate::tell::{end, tell};
+use super::expect_eq;
 use lfs_audit::fault::{RunFault, ThreadsFault};
+use lfs_audit::tell::{end, tell};
 use std::io;
 use std::io::{ErrorKind, Write};
 
@@ -28,10 +29,14 @@ impl Write for Full {
 #[test]
 fn status_of_a_run(rt: HostRuntime) {
     let mut told = Vec::new(rt.alloc());
-    assert_eq!(rt; end(&mut told, Ok(())), 0);
+    expect_eq(&rt, end(&mut told, Ok(())), 0);
     assert!(rt; told.is_empty());
-    assert_eq!(rt; end(&mut told, Err(ThreadsFault::Run(RunFault::Write))), 1);
-    assert_eq!(rt; told.as_slice(), b"lfsd: write failed\n".as_slice());
+    expect_eq(
+        &rt,
+        end(&mut told, Err(ThreadsFault::Run(RunFault::Write))),
+        1,
+    );
+    expect_eq(&rt, told.as_slice(), b"lfsd: write failed\n".as_slice());
 }
 
 #[test]
@@ -39,6 +44,6 @@ fn tell_to_a_writer_that_fails(rt: HostRuntime) {
     for writes in 0..3 {
         let mut writer = Full { writes };
         let fault = ThreadsFault::Run(RunFault::Read);
-        assert_eq!(rt; tell(&mut writer, &fault), 1);
+        expect_eq(&rt, tell(&mut writer, &fault), 1);
     }
 }

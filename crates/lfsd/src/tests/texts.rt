@@ -1,7 +1,8 @@
 //! The texts of faults.
 
-use crate::tell::tell;
+use super::expect_eq;
 use lfs_audit::fault::{RunFault, ThreadsFault};
+use lfs_audit::tell::tell;
 use lfs_text::fault::{FaultKind, ScriptFault};
 use lfs_types::cred::BadCred;
 use lfs_types::fault::FormatFault;
@@ -31,8 +32,8 @@ fn faults(rt: HostRuntime) {
     ];
     for (fault, text) in &cases {
         let mut writer = Vec::new(rt.alloc());
-        assert_eq!(rt; tell(&mut writer, &ThreadsFault::Run(*fault)), 1);
-        assert_eq!(rt; writer.as_slice(), *text);
+        expect_eq(&rt, tell(&mut writer, &ThreadsFault::Run(*fault)), 1);
+        expect_eq(&rt, writer.as_slice(), *text);
     }
 }
 
@@ -57,9 +58,9 @@ fn script_faults(rt: HostRuntime) -> Result<(), Fail> {
             line: 1_048_576,
             kind,
         });
-        assert_eq!(rt; tell(&mut writer, &ThreadsFault::Run(fault)), 1);
+        expect_eq(&rt, tell(&mut writer, &ThreadsFault::Run(fault)), 1);
         let text = format!(in alloc; "lfsd: script line 1048576: {name}\n")?;
-        assert_eq!(rt; writer.as_slice(), text.as_bytes());
+        expect_eq(&rt, writer.as_slice(), text.as_bytes());
     }
     Ok(())
 }
@@ -67,7 +68,7 @@ fn script_faults(rt: HostRuntime) -> Result<(), Fail> {
 #[test]
 fn cleaner_line_with_threads(rt: HostRuntime) {
     let mut writer = Vec::new(rt.alloc());
-    assert_eq!(rt; tell(&mut writer, &ThreadsFault::CleanerLine), 1);
+    expect_eq(&rt, tell(&mut writer, &ThreadsFault::CleanerLine), 1);
     let text = b"lfsd: cleaner line with --threads\n";
-    assert_eq!(rt; writer.as_slice(), text.as_slice());
+    expect_eq(&rt, writer.as_slice(), text.as_slice());
 }

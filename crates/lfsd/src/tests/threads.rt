@@ -1,5 +1,6 @@
 //! Sessions on threads, as the program runs them.
 
+use super::expect_eq;
 use crate::options::DEFAULTS;
 use lfs_audit::fault::ThreadsFault;
 use lfs_audit::threaded::run_threads;
@@ -24,7 +25,7 @@ read /x/a 0 9
         &mut written,
         DEFAULTS,
     );
-    assert_eq!(rt; outcome, Ok(()));
+    expect_eq(&rt, &outcome, &Ok(()));
     assert!(rt;
         written
             .as_slice()
@@ -44,7 +45,11 @@ fn threads_without_a_session(rt: HostRuntime) -> Result<(), Fail> {
         &mut written,
         DEFAULTS,
     );
-    assert_eq!(rt; outcome, Err(ThreadsFault::Serve(ServeFault::Sessions)));
+    expect_eq(
+        &rt,
+        &outcome,
+        &Err(ThreadsFault::Serve(ServeFault::Sessions)),
+    );
     assert!(rt; written.is_empty());
     Ok(())
 }

@@ -1,5 +1,6 @@
 //! A run of calls over a volume on the plain store, and its journal.
 
+use super::expect_eq;
 use lfs_types::answer::{Answer, Served};
 use lfs_types::cred::Cred;
 use lfs_types::level::Level;
@@ -79,11 +80,11 @@ fn run_answers_each_call_and_enters_it(rt: HostRuntime) -> Result<(), Fail> {
         Answer::Served(Served::Bytes(Bytes::from(Vec::from_slice(alloc, b"abc")?))),
         denied(Rule::GrantsWrite),
     ];
-    assert_eq!(rt; answers.as_slice(), expected.as_slice());
-    assert_eq!(rt; volume.journal().len(), 4);
-    assert_eq!(rt; volume.journal_limit(), 4);
-    assert_eq!(rt; volume.level(), Level::Insecure);
-    assert_eq!(rt; volume.clean_segments(), 1024);
+    expect_eq(&rt, answers.as_slice(), expected.as_slice());
+    expect_eq(&rt, volume.journal().len(), 4);
+    expect_eq(&rt, volume.journal_limit(), 4);
+    expect_eq(&rt, volume.level(), Level::Insecure);
+    expect_eq(&rt, volume.clean_segments(), 1024);
     Ok(())
 }
 

@@ -1,8 +1,8 @@
-//! Telling a fault.
+//! Telling how a run ended: a fault's line, and the status of the program.
 
 ghost use Rattle.std.specs.Prelude.{◌≡◌, MatchResult};
 
-use lfs_audit::fault::ThreadsFault;
+use crate::fault::ThreadsFault;
 use std::io::Write;
 
 /// Writes a fault's line, whatever the writer answers, and gives the status with which the program ends.
