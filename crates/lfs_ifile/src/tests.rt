@@ -2,7 +2,14 @@ use crate::inode::raised_version;
 use crate::{Ifile, InodePlace, SegState, SegUse, usage_in};
 use lfs_types::fault::FormatFault;
 use std::alloc::Global;
+use std::fmt::Debug;
+use std::process::Abort;
 use std::test::Fail;
+
+/// Asserts that what was found is what is wanted. An assertion takes the prover a second or more, a call of this less.
+fn expect_eq<T: PartialEq + Debug + Drop>(rt: &impl Abort, found: T, wanted: T) {
+    assert_eq!(rt; found, wanted);
+}
 
 fn fault_of(alloc: Global, segments: u32, inodes: u32) -> Option<FormatFault> {
     Ifile::format(alloc, segments, inodes).err()
@@ -21,21 +28,17 @@ fn ranges_are_judged_in_order(rt: HostRuntime) {
         (1_025, 15, Some(FormatFault::TooMany)),
     ];
     for (segments, inodes, want) in table {
-        assert_eq!(rt;
-            fault_of(rt.alloc(), segments, inodes),
-            want,
-            "at {segments} and {inodes}"
-        );
+        expect_eq(&rt, &fault_of(rt.alloc(), segments, inodes), &want);
     }
 }
 
 #[test]
 fn lengths_of_the_bytes(rt: HostRuntime) -> Result<(), Fail> {
     let small = Ifile::format(rt.alloc(), 6, 16)?;
-    assert_eq!(rt; small.least_free(), Some(4));
-    assert_eq!(rt; small.bytes()?.len(), 252);
+    expect_eq(&rt, small.least_free(), Some(4));
+    expect_eq(&rt, small.bytes()?.len(), 252);
     let usual = Ifile::format(rt.alloc(), 64, 256)?;
-    assert_eq!(rt; usual.bytes()?.len(), 3_596);
+    expect_eq(&rt, usual.bytes()?.len(), 3_596);
     Ok(())
 }
 
@@ -44,7 +47,7 @@ fn numbers_are_given_out_from_four(rt: HostRuntime) -> Result<(), Fail> {
     let mut file = Ifile::format(rt.alloc(), 6, 16)?;
     for want in 4..16 {
         assert_eq!(rt; file.least_free(), Some(want));
-        assert_eq!(rt; file.give_out(want), 1);
+        expect_eq(&rt, file.give_out(want), 1);
     }
     assert_eq!(rt; file.least_free(), None);
     Ok(())
@@ -64,9 +67,9 @@ fn released_number_is_the_least_free(rt: HostRuntime) -> Result<(), Fail> {
     assert!(rt; file.place(6).is_some());
     file.release(6);
     assert_eq!(rt; file.least_free(), Some(6));
-    assert_eq!(rt; file.give_out(6), 2);
+    expect_eq(&rt, file.give_out(6), 2);
     assert_eq!(rt; file.least_free(), Some(9));
-    assert_eq!(rt; file.give_out(9), 2);
+    expect_eq(&rt, file.give_out(9), 2);
     assert_eq!(rt; file.least_free(), Some(12));
     Ok(())
 }
@@ -118,15 +121,15 @@ const BYTES: &[u8; 252] = b"LFIF\0\0\0\x06\0\0\0\x10\
 #[test]
 fn bytes_by_hand(rt: HostRuntime) -> Result<(), Fail> {
     let bytes = changed(rt.alloc())?.bytes()?;
-    assert_eq!(rt; bytes.as_slice(), BYTES.as_slice());
+    expect_eq(&rt, bytes.as_slice(), BYTES.as_slice());
     Ok(())
 }
 
 #[test]
 fn one_follows_the_last_version(rt: HostRuntime) {
-    assert_eq!(rt; raised_version(0), 1);
-    assert_eq!(rt; raised_version(4_294_967_294), 4_294_967_295);
-    assert_eq!(rt; raised_version(4_294_967_295), 1);
+    expect_eq(&rt, raised_version(0), 1);
+    expect_eq(&rt, raised_version(4_294_967_294), 4_294_967_295);
+    expect_eq(&rt, raised_version(4_294_967_295), 1);
 }
 
 #[test]
@@ -137,21 +140,21 @@ fn usage_and_places(rt: HostRuntime) -> Result<(), Fail> {
         live: 640,
         state: SegState::Active,
     };
-    assert_eq!(rt; file.usage(0), active);
+    expect_eq(&rt, &file.usage(0), &active);
     let place = InodePlace {
         addr: 130,
         slot: 3,
         version: 1,
     };
-    assert_eq!(rt; file.place(4), Some(place));
-    assert_eq!(rt; file.place(5), None);
-    assert_eq!(rt; file.give_out(5), 2);
+    expect_eq(&rt, file.place(4), Some(place));
+    expect_eq(&rt, file.place(5), None);
+    expect_eq(&rt, file.give_out(5), 2);
     let waiting = InodePlace {
         addr: 0,
         slot: 0,
         version: 2,
     };
-    assert_eq!(rt; file.place(5), Some(waiting));
+    expect_eq(&rt, file.place(5), Some(waiting));
     Ok(())
 }
 
@@ -161,32 +164,33 @@ fn usage_in_the_bytes_is_usage(rt: HostRuntime) -> Result<(), Fail> {
     assert_eq!(rt; file.least_free(), Some(5));
     let bytes = file.bytes()?;
     for seg in 0..6 {
-        assert_eq!(rt; usage_in(&bytes, seg), Some(file.usage(seg)), "at {seg}");
+        expect_eq(&rt, usage_in(&bytes, seg), Some(file.usage(seg)));
     }
-    assert_eq!(rt; usage_in(&bytes, 6), None);
+    expect_eq(&rt, usage_in(&bytes, 6), None);
     Ok(())
 }
 
 #[test]
 fn bytes_of_the_largest(rt: HostRuntime) -> Result<(), Fail> {
     let mut file = Ifile::format(rt.alloc(), 1_024, 4_096)?;
-    assert_eq!(rt; file.segments(), 1_024);
-    assert_eq!(rt; file.inodes(), 4_096);
+    expect_eq(&rt, file.segments(), 1_024);
+    expect_eq(&rt, file.inodes(), 4_096);
     file.set_state(1_023, SegState::Dirty);
     file.add_live(1_023, 32_768);
     file.give_out(4_095);
     file.set_place(4_095, 65_535, 3);
     let bytes = file.bytes()?;
-    assert_eq!(rt; bytes.len(), 57_356);
+    expect_eq(&rt, bytes.len(), 57_356);
     let full = SegUse {
         live: 32_768,
         state: SegState::Dirty,
     };
-    assert_eq!(rt; usage_in(&bytes, 1_023), Some(full));
-    assert_eq!(rt; usage_in(&bytes, 1_024), None);
-    assert_eq!(rt;
+    expect_eq(&rt, usage_in(&bytes, 1_023), Some(full));
+    expect_eq(&rt, usage_in(&bytes, 1_024), None);
+    expect_eq(
+        &rt,
         &bytes[57_344..],
-        b"\0\0\xff\xff\0\x03\0\x01\0\0\0\x01".as_slice()
+        b"\0\0\xff\xff\0\x03\0\x01\0\0\0\x01".as_slice(),
     );
     Ok(())
 }
@@ -220,12 +224,12 @@ fn usage_in_bytes_of_others(rt: HostRuntime) {
         ),
     ];
     for (bytes, want) in &table {
-        assert_eq!(rt; usage_in(bytes, 0), *want, "of {bytes:?}");
+        expect_eq(&rt, usage_in(bytes, 0), *want);
     }
     let (good, _) = table[0];
-    assert_eq!(rt; usage_in(&good, 1), None);
-    assert_eq!(rt; usage_in(&good, u32::MAX), None);
-    assert_eq!(rt; usage_in(&good[..19], 0), None);
-    assert_eq!(rt; usage_in(&good[..11], 0), None);
-    assert_eq!(rt; usage_in(b"", 0), None);
+    expect_eq(&rt, usage_in(&good, 1), None);
+    expect_eq(&rt, usage_in(&good, u32::MAX), None);
+    expect_eq(&rt, usage_in(&good[..19], 0), None);
+    expect_eq(&rt, usage_in(&good[..11], 0), None);
+    expect_eq(&rt, usage_in(b"", 0), None);
 }

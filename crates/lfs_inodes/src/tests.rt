@@ -8,6 +8,13 @@ use lfs_types::attrs::{Attrs, Kind};
 use lfs_types::block::{Block, ZERO_BLOCK};
 use lfs_types::file_flags::FileFlags;
 use lfs_types::mode::Mode;
+use std::fmt::Debug;
+use std::process::Abort;
+
+/// Asserts that what was found is what is wanted. An assertion takes the prover a second or more, a call of this less.
+fn expect_eq<T: PartialEq + Debug + Drop>(rt: &impl Abort, found: T, wanted: T) {
+    assert_eq!(rt; found, wanted);
+}
 
 /// The fields of the record of file 4, version 1, owner and group 7, mode 0644, no flags, size 3,
 /// first address 9. Zeros follow them.
@@ -95,23 +102,25 @@ fn full_indirect() -> Block {
 
 #[test]
 fn the_example_both_ways(rt: HostRuntime) {
-    assert_eq!(rt; example().encode(), example_record());
-    assert_eq!(rt; Inode::decode(&example_record()), Some(example()));
+    expect_eq(&rt, example().encode(), example_record());
+    expect_eq(&rt, Inode::decode(&example_record()), Some(example()));
 }
 
 #[test]
 fn the_greatest_values(rt: HostRuntime) {
     let bytes = full().encode();
-    assert_eq!(rt; &bytes[2..8], [0, 2, 0, 0, 0x0f, 0xff].as_slice());
-    assert_eq!(rt;
+    expect_eq(&rt, &bytes[2..8], [0, 2, 0, 0, 0x0f, 0xff].as_slice());
+    expect_eq(
+        &rt,
         &bytes[20..36],
-        [0x0f, 0xff, 0, 0, 0, 7, 0, 7, 0, 0, 0, 0, 0, 1, 0x18, 0].as_slice()
+        [0x0f, 0xff, 0, 0, 0, 7, 0, 7, 0, 0, 0, 0, 0, 1, 0x18, 0].as_slice(),
     );
-    assert_eq!(rt;
+    expect_eq(
+        &rt,
         &bytes[80..92],
-        [0, 0, 0xff, 0xff, 0, 0, 0, 20, 0, 0, 0, 0].as_slice()
+        [0, 0, 0xff, 0xff, 0, 0, 0, 20, 0, 0, 0, 0].as_slice(),
     );
-    assert_eq!(rt; Inode::decode(&bytes), Some(full()));
+    expect_eq(&rt, Inode::decode(&bytes), Some(full()));
 }
 
 /// Of the changes of one byte of the example these stay records: 267 of the number, 1,019 of the
@@ -126,51 +135,59 @@ fn each_change_of_one_byte(rt: HostRuntime) {
             if changed[place] != value {
                 changed[place] = value;
                 if let Some(inode) = Inode::decode(&changed) {
-                    assert_eq!(rt; inode.encode(), changed, "byte {place} as {value}");
+                    expect_eq(&rt, &inode.encode(), &changed);
                     records = records.wrapping_add(1);
                 }
             }
         }
     }
-    assert_eq!(rt; records, 4630);
+    expect_eq(&rt, records, 4630);
 }
 
 #[test]
 fn addresses_at_the_ends(rt: HostRuntime) {
     let (inode, indirect) = (full(), full_indirect());
-    assert_eq!(rt; address(&inode, &indirect, 0), 1);
-    assert_eq!(rt; address(&inode, &indirect, 11), 65535);
-    assert_eq!(rt; address(&inode, &indirect, 12), 30);
-    assert_eq!(rt; address(&inode, &indirect, 13), 0);
-    assert_eq!(rt; address(&inode, &indirect, 139), 515);
+    expect_eq(&rt, address(&inode, &indirect, 0), 1);
+    expect_eq(&rt, address(&inode, &indirect, 11), 65535);
+    expect_eq(&rt, address(&inode, &indirect, 12), 30);
+    expect_eq(&rt, address(&inode, &indirect, 13), 0);
+    expect_eq(&rt, address(&inode, &indirect, 139), 515);
     let (first, same) = with_address(&inode, &indirect, 0, 600);
-    assert_eq!(rt; first.direct, [600, 2, 3, 4, 5, 6, 7, 8, 9, 10, 11, 65535]);
-    assert_eq!(rt; same, indirect);
+    expect_eq(
+        &rt,
+        &first.direct,
+        &[600, 2, 3, 4, 5, 6, 7, 8, 9, 10, 11, 65535],
+    );
+    expect_eq(&rt, &same, &indirect);
     let (last, _) = with_address(&inode, &indirect, 11, 0);
-    assert_eq!(rt; last.direct, [1, 2, 3, 4, 5, 6, 7, 8, 9, 10, 11, 0]);
+    expect_eq(&rt, &last.direct, &[1, 2, 3, 4, 5, 6, 7, 8, 9, 10, 11, 0]);
     let (same, changed) = with_address(&inode, &indirect, 12, 256);
-    assert_eq!(rt; same, inode);
-    assert_eq!(rt; &changed[..8], [0, 0, 1, 0, 0, 0, 0, 0].as_slice());
+    expect_eq(&rt, &same, &inode);
+    expect_eq(&rt, &changed[..8], [0, 0, 1, 0, 0, 0, 0, 0].as_slice());
     let (_, changed) = with_address(&inode, &indirect, 139, 65535);
-    assert_eq!(rt; &changed[504..], [0, 0, 0, 0, 0, 0, 0xff, 0xff].as_slice());
+    expect_eq(
+        &rt,
+        &changed[504..],
+        [0, 0, 0, 0, 0, 0, 0xff, 0xff].as_slice(),
+    );
 }
 
 #[test]
 fn four_records_in_a_block(rt: HostRuntime) {
     let mut block = [0; 512];
     for index in 0..4 {
-        assert_eq!(rt; Inode::decode(&slot(&block, index)), None, "slot {index}");
+        expect_eq(&rt, Inode::decode(&slot(&block, index)), None);
     }
     block = with_slot(&block, 0, &full().encode());
     block = with_slot(&block, 1, &example().encode());
     block = with_slot(&block, 3, &example().encode());
-    assert_eq!(rt; &block[..8], [0, 1, 0, 2, 0, 0, 0x0f, 0xff].as_slice());
-    assert_eq!(rt; Inode::decode(&slot(&block, 0)), Some(full()));
-    assert_eq!(rt; Inode::decode(&slot(&block, 1)), Some(example()));
-    assert_eq!(rt; Inode::decode(&slot(&block, 2)), None);
+    expect_eq(&rt, &block[..8], [0, 1, 0, 2, 0, 0, 0x0f, 0xff].as_slice());
+    expect_eq(&rt, Inode::decode(&slot(&block, 0)), Some(full()));
+    expect_eq(&rt, Inode::decode(&slot(&block, 1)), Some(example()));
+    expect_eq(&rt, Inode::decode(&slot(&block, 2)), None);
     block = with_slot(&block, 2, &full().encode());
-    assert_eq!(rt; Inode::decode(&slot(&block, 2)), Some(full()));
-    assert_eq!(rt; Inode::decode(&slot(&block, 3)), Some(example()));
+    expect_eq(&rt, Inode::decode(&slot(&block, 2)), Some(full()));
+    expect_eq(&rt, Inode::decode(&slot(&block, 3)), Some(example()));
 }
 
 /// Attributes of no size: user 7, group 9, mode 4755, the user's append-only flag.
@@ -196,50 +213,57 @@ fn a_new_inode_shows_its_attributes(rt: HostRuntime) {
         0, 1, 0, 2, 0, 0, 0x0f, 0xff, 0, 0, 0, 3, 0, 0, 0, 7, 0, 0, 0, 9, 0x09, 0xed, 0, 0, 0, 0,
         0, 4,
     ]);
-    assert_eq!(rt; inode.encode(), record);
-    assert_eq!(rt; inode.attrs(), shown(Kind::Directory));
+    expect_eq(&rt, &inode.encode(), &record);
+    expect_eq(&rt, inode.attrs(), shown(Kind::Directory));
     let changed = example().with_attrs(&shown(Kind::File));
     let mut attrs = shown(Kind::File);
     attrs.size = 3;
-    assert_eq!(rt; changed.attrs(), attrs);
-    assert_eq!(rt; changed.direct, example().direct);
-    assert_eq!(rt; (changed.number, changed.version), (4, 1));
+    expect_eq(&rt, &changed.attrs(), &attrs);
+    expect_eq(&rt, &changed.direct, &example().direct);
+    expect_eq(&rt, (changed.number, changed.version), (4, 1));
 }
 
 #[test]
 fn the_addresses_of_a_record_are_replaced(rt: HostRuntime) {
     let inode = full().with_direct(11, 600).with_single(0);
-    assert_eq!(rt; inode.direct, [1, 2, 3, 4, 5, 6, 7, 8, 9, 10, 11, 600]);
-    assert_eq!(rt; single_address(&inode), 0);
-    assert_eq!(rt; single_address(&full()), 20);
-    assert_eq!(rt; single_address(&full().with_single(65535)), 65535);
+    expect_eq(
+        &rt,
+        &inode.direct,
+        &[1, 2, 3, 4, 5, 6, 7, 8, 9, 10, 11, 600],
+    );
+    expect_eq(&rt, single_address(&inode), 0);
+    expect_eq(&rt, single_address(&full()), 20);
+    expect_eq(&rt, single_address(&full().with_single(65535)), 65535);
 }
 
 #[test]
 fn the_entries_of_an_indirect_block(rt: HostRuntime) {
     let block = full_indirect();
-    assert_eq!(rt;
+    expect_eq(
+        &rt,
         [entry(&block, 0), entry(&block, 1), entry(&block, 127)],
-        [30, 0, 515]
+        [30, 0, 515],
     );
     let changed = with_entry(&block, 1, 0x0102_0304);
-    assert_eq!(rt;
+    expect_eq(
+        &rt,
         &changed[..12],
-        [0, 0, 0, 30, 1, 2, 3, 4, 0, 0, 0, 0].as_slice()
+        [0, 0, 0, 30, 1, 2, 3, 4, 0, 0, 0, 0].as_slice(),
     );
-    assert_eq!(rt; cleared_from(&changed, 128), changed);
-    assert_eq!(rt; &cleared_from(&changed, 127)[504..], [0; 8].as_slice());
-    assert_eq!(rt;
+    expect_eq(&rt, &cleared_from(&changed, 128), &changed);
+    expect_eq(&rt, &cleared_from(&changed, 127)[504..], [0; 8].as_slice());
+    expect_eq(
+        &rt,
         &cleared_from(&changed, 1)[..8],
-        [0, 0, 0, 30, 0, 0, 0, 0].as_slice()
+        [0, 0, 0, 30, 0, 0, 0, 0].as_slice(),
     );
-    assert_eq!(rt; cleared_from(&changed, 0), ZERO_BLOCK);
+    expect_eq(&rt, cleared_from(&changed, 0), ZERO_BLOCK);
 }
 
 #[test]
 fn a_size_takes_blocks(rt: HostRuntime) {
     let empty = Inode::new(4, 1, &shown(Kind::File));
-    assert_eq!(rt; empty.blocks(), 0);
+    expect_eq(&rt, empty.blocks(), 0);
     for (size, blocks) in [
         (1, 1),
         (512, 1),
@@ -248,21 +272,21 @@ fn a_size_takes_blocks(rt: HostRuntime) {
         (6145, 13),
         (71680, 140),
     ] {
-        assert_eq!(rt; empty.grown(size).blocks(), blocks, "{size} bytes");
+        expect_eq(&rt, &empty.grown(size).blocks(), &blocks);
     }
 }
 
 #[test]
 fn an_inode_is_cut_and_grows(rt: HostRuntime) {
     let kept = full().cut(6656);
-    assert_eq!(rt; (kept.size, kept.single), (6656, 20));
-    assert_eq!(rt; kept.direct, full().direct);
+    expect_eq(&rt, (kept.size, kept.single), (6656, 20));
+    expect_eq(&rt, &kept.direct, &full().direct);
     let cut = full().cut(6144);
-    assert_eq!(rt; cut.single, 0);
-    assert_eq!(rt; cut.direct, full().direct);
+    expect_eq(&rt, cut.single, 0);
+    expect_eq(&rt, &cut.direct, &full().direct);
     let cut = full().cut(512);
-    assert_eq!(rt; cut.direct, [1, 0, 0, 0, 0, 0, 0, 0, 0, 0, 0, 0]);
-    assert_eq!(rt; cut.grown(71680).direct, cut.direct);
-    assert_eq!(rt; example().cut(1).direct, example().direct);
-    assert_eq!(rt; &example().cut(0).encode()[28..], [0; 100].as_slice());
+    expect_eq(&rt, &cut.direct, &[1, 0, 0, 0, 0, 0, 0, 0, 0, 0, 0, 0]);
+    expect_eq(&rt, &cut.grown(71680).direct, &cut.direct);
+    expect_eq(&rt, example().cut(1).direct, example().direct);
+    expect_eq(&rt, &example().cut(0).encode()[28..], [0; 100].as_slice());
 }

@@ -10,7 +10,14 @@ use lfs_types::file_flags::FileFlags;
 use lfs_types::level::Level;
 use lfs_types::mode::Mode;
 use lfs_types::rule::Rule;
+use std::fmt::Debug;
+use std::process::Abort;
 use std::test::Fail;
+
+/// Asserts that what was found is what is wanted. An assertion takes the prover a second or more, a call of this less.
+fn expect_eq<T: PartialEq + Debug + Drop>(rt: &impl Abort, found: T, wanted: T) {
+    assert_eq!(rt; found, wanted);
+}
 
 /// A file of this owner, group, mode and flags.
 fn file(uid: u32, gid: u32, mode: u16, flags: u32) -> Result<Attrs, Fail> {
@@ -46,7 +53,7 @@ fn owner_is_judged_by_owner_bits_alone(rt: HostRuntime) -> Result<(), Fail> {
     ] {
         let cred = Cred::new(uid, &[gid], false)?;
         let granted = [Bit::Read, Bit::Write, Bit::Search].map(|bit| grants(&h, &cred, bit));
-        assert_eq!(rt; granted, want, "user {uid}, group {gid}");
+        expect_eq(&rt, granted, want);
     }
     Ok(())
 }
@@ -68,7 +75,7 @@ fn sticky_directory_guards_removal(rt: HostRuntime) -> Result<(), Fail> {
     let x = file(7, 9, 0o644, 0)?;
     for (uid, want) in [(8, true), (7, false), (9, false), (0, false)] {
         let cred = Cred::new(uid, &[uid], false)?;
-        assert_eq!(rt; sticky_bars(&dir, &x, &cred), want, "user {uid}");
+        expect_eq(&rt, sticky_bars(&dir, &x, &cred), want);
     }
     let plain = file(9, 9, 0o777, 0)?;
     assert!(rt; !sticky_bars(&plain, &x, &Cred::new(8, &[8], false)?));
@@ -88,8 +95,8 @@ fn flags_lock_a_file(rt: HostRuntime) -> Result<(), Fail> {
         (0x6_0000, true, true),
     ] {
         let attrs = file(0, 0, 0o666, flags)?;
-        assert_eq!(rt; immutable(&attrs), locked, "flags {flags:x}");
-        assert_eq!(rt; append_only(&attrs), grows, "flags {flags:x}");
+        expect_eq(&rt, immutable(&attrs), locked);
+        expect_eq(&rt, append_only(&attrs), grows);
     }
     Ok(())
 }
@@ -99,28 +106,44 @@ fn raised_level_keeps_system_flags_until_init_lowers_it(rt: HostRuntime) -> Resu
     let root = Cred::new(0, &[0], false)?;
     let init = Cred::new(0, &[0], true)?;
     let s = file(0, 0, 0o644, 0x2_0000)?;
-    assert_eq!(rt; level_change(&root, Level::Insecure, Level::Secure), None);
-    for level in [Level::Secure, Level::HighlySecure] {
-        assert_eq!(rt;
-            flag_change(&s, &root, level, flags_of(0)?),
-            Some(Rule::KeepsSystemLocks)
-        );
-        assert_eq!(rt; flag_change(&s, &root, level, flags_of(0x6_0000)?), None);
-    }
-    assert_eq!(rt;
-        level_change(&root, Level::Secure, Level::Insecure),
-        Some(Rule::MaySetLevel)
+    expect_eq(
+        &rt,
+        level_change(&root, Level::Insecure, Level::Secure),
+        None,
     );
-    assert_eq!(rt; level_change(&init, Level::Secure, Level::Insecure), None);
+    for level in [Level::Secure, Level::HighlySecure] {
+        expect_eq(
+            &rt,
+            flag_change(&s, &root, level, flags_of(0)?),
+            Some(Rule::KeepsSystemLocks),
+        );
+        expect_eq(
+            &rt,
+            flag_change(&s, &root, level, flags_of(0x6_0000)?),
+            None,
+        );
+    }
+    expect_eq(
+        &rt,
+        level_change(&root, Level::Secure, Level::Insecure),
+        Some(Rule::MaySetLevel),
+    );
+    expect_eq(
+        &rt,
+        level_change(&init, Level::Secure, Level::Insecure),
+        None,
+    );
     let both = file(0, 0, 0o644, 0x6_0000)?;
-    assert_eq!(rt;
+    expect_eq(
+        &rt,
         flag_change(&both, &init, Level::Insecure, flags_of(0)?),
-        None
+        None,
     );
     let stranger = Cred::new(5, &[5], false)?;
-    assert_eq!(rt;
+    expect_eq(
+        &rt,
         level_change(&stranger, Level::Insecure, Level::Secure),
-        Some(Rule::IsSuperuser)
+        Some(Rule::IsSuperuser),
     );
     Ok(())
 }
@@ -130,7 +153,7 @@ fn another_bit_does_not_clear_append(rt: HostRuntime) -> Result<(), Fail> {
     let root = Cred::new(0, &[0], false)?;
     let l = file(0, 0, 0o644, 0x4_0000)?;
     let denial = flag_change(&l, &root, Level::Secure, flags_of(0x2_0000)?);
-    assert_eq!(rt; denial, Some(Rule::KeepsSystemLocks));
+    expect_eq(&rt, denial, Some(Rule::KeepsSystemLocks));
     Ok(())
 }
 
@@ -139,28 +162,33 @@ fn owner_may_change_user_flags_unless_locked(rt: HostRuntime) -> Result<(), Fail
     let owner = Cred::new(7, &[7], false)?;
     let level = Level::Insecure;
     let archived = file(7, 7, 0o644, 0x1_0000)?;
-    assert_eq!(rt;
+    expect_eq(
+        &rt,
         flag_change(&archived, &owner, level, flags_of(0x1_0001)?),
-        None
+        None,
     );
-    assert_eq!(rt;
+    expect_eq(
+        &rt,
         flag_change(&archived, &owner, level, flags_of(0x1)?),
-        Some(Rule::MaySetFlags)
+        Some(Rule::MaySetFlags),
     );
     let root = Cred::new(0, &[0], false)?;
-    assert_eq!(rt;
+    expect_eq(
+        &rt,
         flag_change(&archived, &root, level, flags_of(0x5_0000)?),
-        None
+        None,
     );
     let locked = file(7, 7, 0o644, 0x5_0000)?;
-    assert_eq!(rt;
+    expect_eq(
+        &rt,
         flag_change(&locked, &owner, level, flags_of(0x5_0000)?),
-        Some(Rule::MaySetFlags)
+        Some(Rule::MaySetFlags),
     );
     let stranger = Cred::new(8, &[7], false)?;
-    assert_eq!(rt;
+    expect_eq(
+        &rt,
         flag_change(&locked, &stranger, level, flags_of(0)?),
-        Some(Rule::IsOwner)
+        Some(Rule::IsOwner),
     );
     Ok(())
 }
@@ -169,14 +197,15 @@ fn owner_may_change_user_flags_unless_locked(rt: HostRuntime) -> Result<(), Fail
 fn level_minus_one_behaves_as_zero(rt: HostRuntime) -> Result<(), Fail> {
     let init = Cred::new(0, &[0], true)?;
     let lowest = Level::PermanentlyInsecure;
-    assert_eq!(rt; level_change(&init, Level::Insecure, lowest), None);
+    expect_eq(&rt, level_change(&init, Level::Insecure, lowest), None);
     let p = file(0, 0, 0o600, 0x4_0000)?;
-    assert_eq!(rt; flag_change(&p, &init, lowest, flags_of(0)?), None);
+    expect_eq(&rt, flag_change(&p, &init, lowest, flags_of(0)?), None);
     let root = Cred::new(0, &[0], false)?;
-    assert_eq!(rt; level_change(&root, lowest, Level::Insecure), None);
-    assert_eq!(rt;
+    expect_eq(&rt, level_change(&root, lowest, Level::Insecure), None);
+    expect_eq(
+        &rt,
         level_change(&root, Level::Insecure, lowest),
-        Some(Rule::MaySetLevel)
+        Some(Rule::MaySetLevel),
     );
     Ok(())
 }
@@ -190,7 +219,7 @@ fn set_id_bits_are_cleared_alone(rt: HostRuntime) -> Result<(), Fail> {
         (0o2000, 0),
     ] {
         let mode = Mode::new(mode).ok_or("a mode")?;
-        assert_eq!(rt; clear_set_id(mode).bits(), want);
+        expect_eq(&rt, clear_set_id(mode).bits(), want);
     }
     Ok(())
 }
@@ -199,20 +228,21 @@ fn set_id_bits_are_cleared_alone(rt: HostRuntime) -> Result<(), Fail> {
 fn owner_may_give_the_group_to_one_of_his_groups(rt: HostRuntime) -> Result<(), Fail> {
     let owner = Cred::new(7, &[7, 8], false)?;
     let g = file(7, 7, 0o6755, 0)?;
-    assert_eq!(rt; owner_change(&g, &owner, 7, 8), None);
+    expect_eq(&rt, owner_change(&g, &owner, 7, 8), None);
     let given = file(7, 8, 0o755, 0)?;
     for (uid, gid) in [(8, 8), (7, 9)] {
         let denial = owner_change(&given, &owner, uid, gid);
-        assert_eq!(rt; denial, Some(Rule::MaySetOwner), "user {uid}, group {gid}");
+        expect_eq(&rt, denial, Some(Rule::MaySetOwner));
     }
     let kept = file(7, 9, 0o755, 0)?;
-    assert_eq!(rt; owner_change(&kept, &owner, 7, 9), None);
+    expect_eq(&rt, owner_change(&kept, &owner, 7, 9), None);
     let root = Cred::new(0, &[0], false)?;
-    assert_eq!(rt; owner_change(&given, &root, 12, 34), None);
+    expect_eq(&rt, owner_change(&given, &root, 12, 34), None);
     let stranger = Cred::new(8, &[8], false)?;
-    assert_eq!(rt;
+    expect_eq(
+        &rt,
         owner_change(&given, &stranger, 7, 8),
-        Some(Rule::MaySetOwner)
+        Some(Rule::MaySetOwner),
     );
     Ok(())
 }
@@ -221,11 +251,7 @@ fn owner_may_give_the_group_to_one_of_his_groups(rt: HostRuntime) -> Result<(), 
 fn the_superuser_passes_as_owner(rt: HostRuntime) -> Result<(), Fail> {
     let f = file(7, 7, 0o644, 0)?;
     for (uid, want) in [(7, true), (0, true), (8, false)] {
-        assert_eq!(rt;
-            is_owner(&f, &Cred::new(uid, &[7], false)?),
-            want,
-            "user {uid}"
-        );
+        expect_eq(&rt, is_owner(&f, &Cred::new(uid, &[7], false)?), want);
     }
     Ok(())
 }

@@ -10,7 +10,14 @@ use crate::segments::{Segments, log_start};
 use crate::summary::Summary;
 use lfs_types::block::Block;
 use lfs_types::fault::FormatFault;
+use std::fmt::Debug;
+use std::process::Abort;
 use std::test::Fail;
+
+/// Asserts that what was found is what is wanted. An assertion takes the prover a second or more, a call of this less.
+fn expect_eq<T: PartialEq + Debug + Drop>(rt: &impl Abort, found: T, wanted: T) {
+    assert_eq!(rt; found, wanted);
+}
 
 /// Segment 0, offset 3, one entry for block 0 of file 4 in version 1.
 const EXAMPLE: [u8; 28] = [
@@ -99,7 +106,7 @@ fn each_changed_byte_is_refused_or_kept(rt: HostRuntime) {
     }
     // 512 bytes as they were; segment 3 and 255, offset 62, number 15 and 252, version three times 255
     // and 254, logical block 139 and 1.
-    assert_eq!(rt; kept, 2258);
+    expect_eq(&rt, kept, 2258);
 }
 
 #[test]
@@ -127,18 +134,18 @@ fn memory_is_laid_out_and_written(rt: HostRuntime) -> Result<(), Fail> {
     for address in 1..384 {
         assert!(rt; *segments.block(address) == [0; 512], "block {address}");
     }
-    assert_eq!(rt; segments.room(), 63);
+    expect_eq(&rt, segments.room(), 63);
     let first = segments.append(&[block_of(&EXAMPLE), [7; 512]]);
-    assert_eq!(rt; first, 1);
-    assert_eq!(rt; segments.room(), 61);
+    expect_eq(&rt, first, 1);
+    expect_eq(&rt, segments.room(), 61);
     assert!(rt; *segments.block(1) == block_of(&EXAMPLE));
     assert!(rt; *segments.block(2) == [7; 512]);
     segments.open_next(2);
-    assert_eq!(rt; segments.room(), 64);
-    assert_eq!(rt; segments.append(&[[9; 512]]), 128);
+    expect_eq(&rt, segments.room(), 64);
+    expect_eq(&rt, segments.append(&[[9; 512]]), 128);
     assert!(rt; *segments.block(128) == [9; 512]);
     segments.open_next(0);
-    assert_eq!(rt; segments.room(), 63);
+    expect_eq(&rt, segments.room(), 63);
     assert!(rt; *segments.block(0) == block_of(&label));
     assert!(rt; *segments.block(2) == [0; 512]);
     assert!(rt; *segments.block(128) == [9; 512]);
@@ -160,25 +167,31 @@ fn written(segments: &mut Segments) -> [u32; 4]
 #[test]
 fn partial_segments_follow_one_another(rt: HostRuntime) -> Result<(), Fail> {
     let mut segments = Segments::format(rt.alloc(), 1024, 16)?;
-    assert_eq!(rt; segments.segments(), 1024);
-    assert_eq!(rt; (segments.active(), segments.next_address()), (0, 1));
-    assert_eq!(rt; written(&mut segments), [1, 2, 3, 4]);
+    expect_eq(&rt, segments.segments(), 1024);
+    expect_eq(&rt, (segments.active(), segments.next_address()), (0, 1));
+    expect_eq(&rt, written(&mut segments), [1, 2, 3, 4]);
     segments.open_next(1023);
-    assert_eq!(rt;
+    expect_eq(
+        &rt,
         (segments.active(), segments.next_address()),
-        (1023, 65_472)
+        (1023, 65_472),
     );
-    assert_eq!(rt; written(&mut segments), [65_472, 65_473, 65_474, 65_475]);
-    assert_eq!(rt;
+    expect_eq(
+        &rt,
+        written(&mut segments),
+        [65_472, 65_473, 65_474, 65_475],
+    );
+    expect_eq(
+        &rt,
         &segments.block(65_475)[..28],
         [
             0x4c, 0x46, 0x53, 0x53, 0, 0, 0x03, 0xff, 0, 3, 0, 1, 0, 0, 0, 0, 0, 0, 0, 4, 0, 0, 0,
-            1, 0, 0, 0, 5
+            1, 0, 0, 0, 5,
         ]
-        .as_slice()
+        .as_slice(),
     );
     assert!(rt; *segments.block(65_474) == [9; 512]);
-    assert_eq!(rt; (log_start(0), log_start(1)), (1, 0));
+    expect_eq(&rt, (log_start(0), log_start(1)), (1, 0));
     Ok(())
 }
 
