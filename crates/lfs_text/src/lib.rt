@@ -10,6 +10,4 @@ pub mod report;
 mod requests;
 pub mod script;
 pub mod split;
-#[cfg(test)]
-mod tests;
 mod verb;

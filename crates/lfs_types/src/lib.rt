@@ -20,5 +20,3 @@ pub mod request;
 pub mod rule;
 pub mod script;
 pub mod store;
-#[cfg(test)]
-mod tests;

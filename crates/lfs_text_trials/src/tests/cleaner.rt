@@ -1,10 +1,11 @@
 //! Lists of infos take as many as they may, and a script gives its calls back.
 
-use crate::cleaner::{BlockInfo, CleanerCall, InfoList, MarkList};
-use crate::cred::Cred;
-use crate::path::Path;
-use crate::request::Request;
-use crate::script::Script;
+use super::expect_eq;
+use lfs_types::cleaner::{BlockInfo, CleanerCall, InfoList, MarkList};
+use lfs_types::cred::Cred;
+use lfs_types::path::Path;
+use lfs_types::request::Request;
+use lfs_types::script::Script;
 use std::test::Fail;
 
 fn infos(alloc: std::alloc::Global, count: u32) -> Result<Vec<BlockInfo>, Fail> {
@@ -25,7 +26,7 @@ fn a_list_of_infos_takes_248(rt: HostRuntime) -> Result<(), Fail> {
     for count in [0, 1, 247, 248] {
         let infos = infos(rt.alloc(), count)?;
         let list = InfoList::new(infos.as_slice()).ok_or("a list")?;
-        assert_eq!(rt; list.items(), infos.as_slice());
+        expect_eq(&rt, list.items(), infos.as_slice());
     }
     let many = infos(rt.alloc(), 249)?;
     assert!(rt; InfoList::new(many.as_slice()).is_none());
@@ -36,7 +37,7 @@ fn a_list_of_infos_takes_248(rt: HostRuntime) -> Result<(), Fail> {
 fn a_list_of_marks_takes_8(rt: HostRuntime) -> Result<(), Fail> {
     let eight = infos(rt.alloc(), 8)?;
     let list = MarkList::new(eight.as_slice()).ok_or("a list")?;
-    assert_eq!(rt; list.items(), eight.as_slice());
+    expect_eq(&rt, list.items(), eight.as_slice());
     let nine = infos(rt.alloc(), 9)?;
     assert!(rt; MarkList::new(nine.as_slice()).is_none());
     Ok(())
@@ -54,9 +55,9 @@ fn infos_are_added_behind_others(rt: HostRuntime) -> Result<(), Fail> {
     let mut list = InfoList::empty();
     list.push(first);
     list.push(second);
-    assert_eq!(rt; list.items(), [first, second].as_slice());
+    expect_eq(&rt, list.items(), [first, second].as_slice());
     let mut again = InfoList::from(list.into_items());
-    assert_eq!(rt; again.items().len(), 2);
+    expect_eq(&rt, again.items().len(), 2);
     again.clear();
     assert!(rt; again.items().is_empty());
     Ok(())
@@ -72,13 +73,13 @@ fn a_script_gives_its_calls_back(rt: HostRuntime) -> Result<(), Fail> {
     let script = Script::from(calls);
     match script.as_slice() {
         [(first, Request::Stat { path }), (second, Request::Sync)] => {
-            assert_eq!(rt; *first, cred);
-            assert_eq!(rt; *second, cred);
-            assert_eq!(rt; path.names().len(), 1);
+            expect_eq(&rt, first, &cred);
+            expect_eq(&rt, second, &cred);
+            expect_eq(&rt, path.names().len(), 1);
         }
         _ => return Err(Fail::from("another script")),
     }
-    assert_eq!(rt; script.into_vec().len(), 2);
+    expect_eq(&rt, script.into_vec().len(), 2);
     Ok(())
 }
 
@@ -87,7 +88,7 @@ fn a_call_of_the_cleaner_holds_its_list(rt: HostRuntime) -> Result<(), Fail> {
     let two = infos(rt.alloc(), 2)?;
     let marks = MarkList::new(two.as_slice()).ok_or("a list")?;
     match CleanerCall::Markv(marks) {
-        CleanerCall::Markv(list) => assert_eq!(rt; list.items(), two.as_slice()),
+        CleanerCall::Markv(list) => expect_eq(&rt, list.items(), two.as_slice()),
         _ => return Err(Fail::from("another call")),
     }
     Ok(())

@@ -1,8 +1,9 @@
 //! What scripts without a fault ask.
 
-use crate::plan::{Act, Step};
-use crate::script::parse_script;
-use crate::split::SplitFault;
+use super::expect_eq;
+use lfs_text::plan::{Act, Step};
+use lfs_text::script::parse_script;
+use lfs_text::split::SplitFault;
 use lfs_types::cleaner::CleanerCall;
 use lfs_types::cred::Cred;
 use lfs_types::file_flags::FileFlags;
@@ -40,8 +41,8 @@ fn sixteen_groups(rt: HostRuntime) -> Result<(), Fail> {
     let plan = parse_script(alloc, script.as_bytes())?;
     let steps = plan.steps();
     assert_eq!(rt; steps.len(), 2);
-    assert_eq!(rt; steps[0].cred, Cred::new(0, &[0], false)?);
-    assert_eq!(rt; steps[1].cred, Cred::new(0, &groups, true)?);
+    expect_eq(&rt, &steps[0].cred, &Cred::new(0, &[0], false)?);
+    expect_eq(&rt, &steps[1].cred, &Cred::new(0, &groups, true)?);
     Ok(())
 }
 
@@ -136,7 +137,7 @@ fn levels_by_value(rt: HostRuntime) -> Result<(), Fail> {
     for (line, level) in cases {
         let requests = requests_of(alloc, line)?;
         assert_eq!(rt; requests.len(), 1);
-        assert_eq!(rt; requests[0], Request::SetLevel { level }, "{line}");
+        expect_eq(&rt, &requests[0], &Request::SetLevel { level });
     }
     Ok(())
 }
@@ -164,7 +165,7 @@ fn cleaner_calls_as_they_are_written(rt: HostRuntime) -> Result<(), Fail> {
     let script =
         "ifile\nsession 8\ninfos 3\nas 7 7\nbmapv 4:1:2147483648:65 4:1:4294967295:66\nbmapv\nsession 2\nmarkv 5:2:139:0\nsegclean 1023\npass\n";
     let plan = parse_script(alloc, script.as_bytes())?;
-    assert_eq!(rt; plan.sessions(), 8);
+    expect_eq(&rt, plan.sessions(), 8);
     let mut seen = String::new(alloc);
     for step in plan.steps() {
         let session = step.session;
@@ -180,7 +181,7 @@ fn cleaner_calls_as_they_are_written(rt: HostRuntime) -> Result<(), Fail> {
     }
     let expected =
         "0 0 ifile\n8 0 infos 3\n8 7 bmapv [BlockInfo { ino: 4, version: 1, lbn: 2147483648, addr: 65 }, BlockInfo { ino: 4, version: 1, lbn: 4294967295, addr: 66 }]\n8 7 bmapv []\n2 7 markv [BlockInfo { ino: 5, version: 2, lbn: 139, addr: 0 }]\n2 7 segclean 1023\n2 7 pass\n";
-    assert_eq!(rt; seen.as_str(), expected);
+    expect_eq(&rt, &seen.as_str(), &expected);
     Ok(())
 }
 
@@ -192,17 +193,19 @@ fn a_script_for_each_session(rt: HostRuntime) -> Result<(), Fail> {
     let root = Cred::new(0, &[0], false)?;
     let user = Cred::new(7, &[8], false)?;
     let setup = setup.into_vec();
-    assert_eq!(rt;
+    expect_eq(
+        &rt,
         setup.as_slice(),
-        [(root, Request::Sync), (user, Request::Sync)].as_slice()
+        [(root, Request::Sync), (user, Request::Sync)].as_slice(),
     );
     assert_eq!(rt; scripts.len(), 3);
-    assert_eq!(rt; scripts[0].as_slice().len(), 0);
-    assert_eq!(rt;
+    expect_eq(&rt, scripts[0].as_slice().len(), 0);
+    expect_eq(
+        &rt,
         scripts[1].as_slice(),
-        [(user, Request::Sync), (user, Request::Sync)].as_slice()
+        [(user, Request::Sync), (user, Request::Sync)].as_slice(),
     );
-    assert_eq!(rt; scripts[2].as_slice().len(), 0);
+    expect_eq(&rt, scripts[2].as_slice().len(), 0);
     Ok(())
 }
 
@@ -218,11 +221,7 @@ fn cleaner_lines_have_no_session(rt: HostRuntime) -> Result<(), Fail> {
         "pass\n",
     ] {
         let plan = parse_script(alloc, line.as_bytes())?;
-        assert_eq!(rt;
-            plan.split(alloc).err(),
-            Some(SplitFault::CleanerLine),
-            "{line}"
-        );
+        expect_eq(&rt, plan.split(alloc).err(), Some(SplitFault::CleanerLine));
     }
     Ok(())
 }

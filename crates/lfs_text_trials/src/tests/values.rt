@@ -1,13 +1,14 @@
 //! Modes, flags, levels, credentials, payloads and lists.
 
-use crate::attrs::Kind;
-use crate::cred::{BadCred, Cred};
-use crate::fault::FormatFault;
-use crate::file_flags::{FileFlags, FlagBits};
-use crate::level::Level;
-use crate::mode::{Mode, ModeBits};
-use crate::name::Name;
-use crate::payload::{BadSize, Bytes, Names, Payload};
+use super::expect_eq;
+use lfs_types::attrs::Kind;
+use lfs_types::cred::{BadCred, Cred};
+use lfs_types::fault::FormatFault;
+use lfs_types::file_flags::{FileFlags, FlagBits};
+use lfs_types::level::Level;
+use lfs_types::mode::{Mode, ModeBits};
+use lfs_types::name::Name;
+use lfs_types::payload::{BadSize, Bytes, Names, Payload};
 use std::alloc::AllocError;
 use std::test::Fail;
 
@@ -15,15 +16,15 @@ use std::test::Fail;
 fn modes_are_at_most_07777(rt: HostRuntime) -> Result<(), Fail> {
     for bits in [0, 0o644, 0o1777, 0o7777] {
         let mode = Mode::new(bits).ok_or("a mode")?;
-        assert_eq!(rt; mode.bits(), bits);
+        expect_eq(&rt, &mode.bits(), &bits);
     }
     for bits in [0o10000, 0o10644, 0xffff] {
-        assert_eq!(rt; Mode::new(bits), None);
+        expect_eq(&rt, Mode::new(bits), None);
     }
     let mode = Mode::new(0o4750).ok_or("a mode")?;
     assert!(rt; mode.contains(ModeBits::S_IRUSR));
     assert!(rt; !mode.contains(ModeBits::S_IWGRP));
-    assert_eq!(rt; mode.without(ModeBits::S_ISUID).bits(), 0o750);
+    expect_eq(&rt, mode.without(ModeBits::S_ISUID).bits(), 0o750);
     Ok(())
 }
 
@@ -31,10 +32,10 @@ fn modes_are_at_most_07777(rt: HostRuntime) -> Result<(), Fail> {
 fn flags_are_the_known_ones_alone(rt: HostRuntime) -> Result<(), Fail> {
     for bits in [0, 0x1, 0x2, 0x4, 0x1_0000, 0x2_0000, 0x4_0000, 0x7_0007] {
         let flags = FileFlags::new(bits).ok_or("flags")?;
-        assert_eq!(rt; flags.bits(), bits);
+        expect_eq(&rt, &flags.bits(), &bits);
     }
     for bits in [0x8, 0xf, 0x8000, 0x8_0000, 0x7_000f, 0xffff_ffff] {
-        assert_eq!(rt; FileFlags::new(bits), None, "{bits:x}");
+        expect_eq(&rt, FileFlags::new(bits), None);
     }
     let flags = FileFlags::new(0x2_0001).ok_or("flags")?;
     assert!(rt; flags.contains(FlagBits::UF_NODUMP));
@@ -56,7 +57,7 @@ fn levels_go_from_minus_one_to_two(rt: HostRuntime) {
         (2, Some(Level::HighlySecure)),
         (3, None),
     ] {
-        assert_eq!(rt; Level::new(number), level, "{number}");
+        expect_eq(&rt, &Level::new(number), &level);
     }
     assert!(rt; Level::PermanentlyInsecure < Level::Insecure);
     assert!(rt; Level::Secure < Level::HighlySecure);
@@ -71,13 +72,13 @@ fn credentials_have_1_to_16_groups(rt: HostRuntime) -> Result<(), Fail> {
         (5, &[7; 17], true, BadCred::TooManyGroups),
         (5, &[5], true, BadCred::InitNotRoot),
     ] {
-        assert_eq!(rt; Cred::new(uid, groups, init), Err(fault));
+        expect_eq(&rt, Cred::new(uid, groups, init), Err(fault));
     }
     let most = [1, 2, 3, 4, 5, 6, 7, 8, 9, 10, 11, 12, 13, 14, 15, 16];
     let cred = Cred::new(7, &most, false)?;
     assert!(rt; most.iter().all(|gid| cred.is_member(*gid)));
     assert!(rt; !cred.is_member(0));
-    assert_eq!(rt; cred.uid(), 7);
+    expect_eq(&rt, cred.uid(), 7);
     assert!(rt; !cred.is_superuser() && !cred.is_init());
     let init = Cred::new(0, &[3], true)?;
     assert!(rt; init.is_superuser() && init.is_init());
@@ -93,13 +94,13 @@ fn payloads_have_at_most_4096_bytes(rt: HostRuntime) -> Result<(), Fail> {
         Err(_) => return Err("4,096 bytes are taken".into()),
     };
     let copy = payload.try_clone(alloc)?;
-    assert_eq!(rt; copy, payload);
-    assert_eq!(rt; copy.as_slice(), [b'x'; 4096].as_slice());
-    assert_eq!(rt; payload.into_vec().len(), 4096);
+    expect_eq(&rt, &copy, &payload);
+    expect_eq(&rt, copy.as_slice(), [b'x'; 4096].as_slice());
+    expect_eq(&rt, payload.into_vec().len(), 4096);
     let Err(BadSize(back)) = Payload::new(vec![in alloc; b'y'; 4097]?) else {
         return Err("4,097 bytes are refused".into());
     };
-    assert_eq!(rt; back.as_slice(), [b'y'; 4097].as_slice());
+    expect_eq(&rt, back.as_slice(), [b'y'; 4097].as_slice());
     Ok(())
 }
 
@@ -107,30 +108,30 @@ fn payloads_have_at_most_4096_bytes(rt: HostRuntime) -> Result<(), Fail> {
 fn copied_lists_are_equal(rt: HostRuntime) -> Result<(), Fail> {
     let alloc = rt.alloc();
     let bytes = Bytes::from(vec![in alloc; 0x61, 0x62, 0x63]?);
-    assert_eq!(rt; bytes.try_clone(alloc)?, bytes);
+    expect_eq(&rt, &bytes.try_clone(alloc)?, &bytes);
     assert_ne!(rt; bytes, Bytes::from(vec![in alloc; 0x61, 0x62]?));
-    assert_eq!(rt; bytes.as_slice(), b"abc".as_slice());
-    assert_eq!(rt; bytes.into_vec().len(), 3);
+    expect_eq(&rt, bytes.as_slice(), b"abc".as_slice());
+    expect_eq(&rt, bytes.into_vec().len(), 3);
     let names = Names::from(vec![in alloc; Name::parse(alloc, b"b")?, Name::parse(alloc, b"c")?]?);
-    assert_eq!(rt; names.try_clone(alloc)?, names);
+    expect_eq(&rt, &names.try_clone(alloc)?, &names);
     assert_ne!(rt;
         names,
         Names::from(vec![in alloc; Name::parse(alloc, b"b")?]?)
     );
-    assert_eq!(rt; names.as_slice().len(), 2);
-    assert_eq!(rt; names.into_vec().len(), 2);
+    expect_eq(&rt, names.as_slice().len(), 2);
+    expect_eq(&rt, names.into_vec().len(), 2);
     Ok(())
 }
 
 #[test]
 fn want_of_memory_is_a_fault_of_a_format(rt: HostRuntime) -> Result<(), Fail> {
-    assert_eq!(rt; FormatFault::from(AllocError), FormatFault::Memory);
+    expect_eq(&rt, FormatFault::from(AllocError), FormatFault::Memory);
     for (fault, text) in [
         (FormatFault::TooFew, "TooFew"),
         (FormatFault::TooMany, "TooMany"),
         (FormatFault::Memory, "Memory"),
     ] {
-        assert_eq!(rt; format!(in rt.alloc(); "{fault}")?.as_str(), text);
+        expect_eq(&rt, &format!(in rt.alloc(); "{fault}")?.as_str(), &text);
     }
     assert!(rt; Kind::Directory.is_directory());
     assert!(rt; !Kind::File.is_directory());

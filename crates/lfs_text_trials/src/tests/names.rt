@@ -1,7 +1,8 @@
 //! Names and paths.
 
-use crate::name::{BadName, Name, clone_names};
-use crate::path::{BadPath, Path};
+use super::expect_eq;
+use lfs_types::name::{BadName, Name, clone_names};
+use lfs_types::path::{BadPath, Path};
 use std::test::Fail;
 
 #[test]
@@ -16,7 +17,7 @@ fn names_are_taken_or_refused_by_the_first_fault(rt: HostRuntime) -> Result<(), 
         b"\xff \n",
     ] {
         let name = Name::parse(alloc, taken)?;
-        assert_eq!(rt; name.as_bytes(), taken);
+        expect_eq(&rt, &name.as_bytes(), &taken);
     }
     for (refused, fault) in [
         (b"".as_slice(), BadName::Empty),
@@ -28,7 +29,7 @@ fn names_are_taken_or_refused_by_the_first_fault(rt: HostRuntime) -> Result<(), 
         (b".", BadName::Dot),
         (b"..", BadName::Dot),
     ] {
-        assert_eq!(rt; Name::parse(alloc, refused), Err(fault), "{refused:?}");
+        expect_eq(&rt, Name::parse(alloc, refused), Err(fault));
     }
     Ok(())
 }
@@ -45,7 +46,7 @@ fn paths_are_refused_by_the_first_fault(rt: HostRuntime) -> Result<(), Fail> {
         ("/a/b/../\0", BadPath::Name(3, BadName::Dot)),
         ("/\0", BadPath::Name(1, BadName::Nul)),
     ] {
-        assert_eq!(rt; Path::parse(alloc, text), Err(fault), "{text}");
+        expect_eq(&rt, Path::parse(alloc, text), Err(fault));
     }
     let mut long = String::new(alloc);
     for _ in 0..4 {
@@ -54,16 +55,16 @@ fn paths_are_refused_by_the_first_fault(rt: HostRuntime) -> Result<(), Fail> {
             long.push('a')?;
         }
     }
-    assert_eq!(rt; long.len(), 1024);
-    assert_eq!(rt; Path::parse(alloc, long.as_str())?.names().len(), 4);
+    expect_eq(&rt, long.len(), 1024);
+    expect_eq(&rt, Path::parse(alloc, long.as_str())?.names().len(), 4);
     long.push('/')?;
-    assert_eq!(rt; Path::parse(alloc, long.as_str()), Err(BadPath::Long));
+    expect_eq(&rt, Path::parse(alloc, long.as_str()), Err(BadPath::Long));
     let mut name = String::from_str(alloc, "/")?;
     for _ in 0..256 {
         name.push('b')?;
     }
     let fault = BadPath::Name(1, BadName::Long);
-    assert_eq!(rt; Path::parse(alloc, name.as_str()), Err(fault));
+    expect_eq(&rt, Path::parse(alloc, name.as_str()), Err(fault));
     Ok(())
 }
 
@@ -71,21 +72,21 @@ fn paths_are_refused_by_the_first_fault(rt: HostRuntime) -> Result<(), Fail> {
 fn paths_have_their_names_in_order(rt: HostRuntime) -> Result<(), Fail> {
     let alloc = rt.alloc();
     let root = Path::parse(alloc, "/")?;
-    assert_eq!(rt; root.names().len(), 0);
+    expect_eq(&rt, root.names().len(), 0);
     let a = Path::parse(alloc, "/a")?;
     let [name] = a.names() else {
         return Err("one name".into());
     };
-    assert_eq!(rt; name.as_bytes(), b"a".as_slice());
+    expect_eq(&rt, name.as_bytes(), b"a".as_slice());
     let deep = Path::parse(alloc, "/one/2/three")?;
     let [one, two, three] = deep.names() else {
         return Err("three names".into());
     };
-    assert_eq!(rt; one.as_bytes(), b"one".as_slice());
-    assert_eq!(rt; two.as_bytes(), b"2".as_slice());
-    assert_eq!(rt; three.as_bytes(), b"three".as_slice());
+    expect_eq(&rt, one.as_bytes(), b"one".as_slice());
+    expect_eq(&rt, two.as_bytes(), b"2".as_slice());
+    expect_eq(&rt, three.as_bytes(), b"three".as_slice());
     let copy = deep.try_clone(alloc)?;
-    assert_eq!(rt; copy, deep);
+    expect_eq(&rt, &copy, &deep);
     assert_ne!(rt; copy, a);
     assert_ne!(rt; copy, root);
     Ok(())
@@ -95,9 +96,9 @@ fn paths_have_their_names_in_order(rt: HostRuntime) -> Result<(), Fail> {
 fn copied_names_are_equal(rt: HostRuntime) -> Result<(), Fail> {
     let alloc = rt.alloc();
     let a = Name::parse(alloc, b"a")?;
-    assert_eq!(rt; a.try_clone(alloc)?, a);
+    expect_eq(&rt, &a.try_clone(alloc)?, &a);
     let names = vec![in alloc; a, Name::parse(alloc, b"bc")?]?;
     let copies = clone_names(alloc, names.as_slice())?;
-    assert_eq!(rt; copies, names);
+    expect_eq(&rt, &copies, &names);
     Ok(())
 }

@@ -1,6 +1,7 @@
 //! The table of rules.
 
-use crate::rule::{Errno, Rule};
+use super::expect_eq;
+use lfs_types::rule::{Errno, Rule};
 use std::test::Fail;
 
 #[test]
@@ -27,8 +28,8 @@ fn rules_have_their_code_and_error(rt: HostRuntime) {
         (Rule::MaySetLevel, b"L3", Errno::EPERM),
         (Rule::FitsFile, b"Z1", Errno::EFBIG),
     ] {
-        assert_eq!(rt; rule.code().as_bytes(), code.as_slice());
-        assert_eq!(rt; rule.error(), error, "{rule:?}");
+        expect_eq(&rt, rule.code().as_bytes(), code.as_slice());
+        expect_eq(&rt, &rule.error(), &error);
     }
 }
 
@@ -46,8 +47,8 @@ fn errors_print_their_name(rt: HostRuntime) -> Result<(), Fail> {
         (Errno::EFBIG, b"EFBIG"),
         (Errno::ENOTEMPTY, b"ENOTEMPTY"),
     ] {
-        assert_eq!(rt; error.name().as_bytes(), name);
-        assert_eq!(rt; format!(in rt.alloc(); "{error}")?.as_bytes(), name);
+        expect_eq(&rt, &error.name().as_bytes(), &name);
+        expect_eq(&rt, &format!(in rt.alloc(); "{error}")?.as_bytes(), &name);
     }
     Ok(())
 }

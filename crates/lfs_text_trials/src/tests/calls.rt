@@ -1,15 +1,16 @@
 //! Copies of requests and answers.
 
-use crate::answer::{Answer, Resource, Served};
-use crate::attrs::{Attrs, Kind};
-use crate::file_flags::FileFlags;
-use crate::level::Level;
-use crate::mode::Mode;
-use crate::name::clone_names;
-use crate::path::Path;
-use crate::payload::{Bytes, Names, Payload};
-use crate::request::{Place, Request};
-use crate::rule::{Denial, Rule};
+use super::expect_eq;
+use lfs_types::answer::{Answer, Resource, Served};
+use lfs_types::attrs::{Attrs, Kind};
+use lfs_types::file_flags::FileFlags;
+use lfs_types::level::Level;
+use lfs_types::mode::Mode;
+use lfs_types::name::clone_names;
+use lfs_types::path::Path;
+use lfs_types::payload::{Bytes, Names, Payload};
+use lfs_types::request::{Place, Request};
+use lfs_types::rule::{Denial, Rule};
 use std::alloc::Global;
 use std::test::Fail;
 
@@ -149,11 +150,11 @@ fn copied_requests_are_equal_to_their_own_alone(rt: HostRuntime) -> Result<(), F
     requests.append(&mut changes(alloc)?)?;
     requests.append(&mut moves(alloc)?)?;
     requests.append(&mut modes(alloc)?)?;
-    assert_eq!(rt; requests.len(), 17);
+    expect_eq(&rt, requests.len(), 17);
     for (i, request) in requests.iter().enumerate() {
         let copy = request.try_clone(alloc)?;
         for (j, other) in requests.iter().enumerate() {
-            assert_eq!(rt; copy == *other, i == j, "{i}, {j}");
+            expect_eq(&rt, copy == *other, i == j);
         }
     }
     Ok(())
@@ -165,7 +166,7 @@ fn copied_answers_are_equal_to_their_own_alone(rt: HostRuntime) -> Result<(), Fa
     for (i, answer) in answers.iter().enumerate() {
         let copy = answer.try_clone(rt.alloc())?;
         for (j, other) in answers.iter().enumerate() {
-            assert_eq!(rt; copy == *other, i == j, "{i}, {j}");
+            expect_eq(&rt, copy == *other, i == j);
         }
     }
     Ok(())
@@ -179,7 +180,7 @@ fn copied_names_are_served_again(rt: HostRuntime) -> Result<(), Fail> {
     };
     let served = Served::Names(names("/a/b")?);
     let copy = served.try_clone(alloc)?;
-    assert_eq!(rt; copy, served);
+    expect_eq(&rt, &copy, &served);
     assert_ne!(rt; copy, Served::Names(names("/b/a")?));
     Ok(())
 }
@@ -189,7 +190,7 @@ fn copied_bytes_are_served_again(rt: HostRuntime) -> Result<(), Fail> {
     let alloc = rt.alloc();
     let served = Served::Bytes(Bytes::from(Vec::from_slice(alloc, b"abc")?));
     let copy = served.try_clone(alloc)?;
-    assert_eq!(rt; copy, served);
+    expect_eq(&rt, &copy, &served);
     assert_ne!(rt;
         copy,
         Served::Bytes(Bytes::from(Vec::from_slice(alloc, b"abd")?))

@@ -1,7 +1,8 @@
 //! The first fault of a script, and what one without a fault asks.
 
-use crate::fault::{FaultKind, ScriptFault};
-use crate::script::parse_script;
+use super::expect_eq;
+use lfs_text::fault::{FaultKind, ScriptFault};
+use lfs_text::script::parse_script;
 use lfs_types::cred::BadCred;
 use lfs_types::name::BadName;
 use lfs_types::path::BadPath;
@@ -35,7 +36,7 @@ fn expect_kind(
             return Err(Fail::from("a long script"));
         }
         let fault = ScriptFault { line: 2, kind };
-        assert_eq!(rt; parse_script(alloc, text).err(), Some(fault), "{line}");
+        expect_eq(rt, parse_script(alloc, text).err(), Some(fault));
     }
     Ok(())
 }
@@ -46,7 +47,7 @@ fn cut(rt: HostRuntime) {
         let kind = FaultKind::Cut;
         let fault = ScriptFault { line, kind };
         let result = parse_script(rt.alloc(), script.as_bytes());
-        assert_eq!(rt; result.err(), Some(fault));
+        expect_eq(&rt, result.err(), Some(fault));
     }
 }
 

@@ -1,0 +1,19 @@
+//! What values are taken, what rules print, that copies are equal; worked scripts and their first faults, the texts of answers,
+//! and the report.
+
+mod calls;
+mod cleaner;
+mod faults;
+mod names;
+mod plans;
+mod rules;
+mod texts;
+mod values;
+
+use std::fmt::Debug;
+use std::process::Abort;
+
+/// Asserts that what was found is what is wanted. An assertion takes the prover a second or more, a call of this less.
+fn expect_eq<T: PartialEq + Debug + Drop>(rt: &impl Abort, found: T, wanted: T) {
+    assert_eq!(rt; found, wanted);
+}
