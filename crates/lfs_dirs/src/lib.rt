@@ -6,8 +6,6 @@
 #![tactic(auto)]
 
 mod reading;
-#[cfg(test)]
-mod tests;
 mod writing;
 
 pub use reading::{BlockEntries, entries, find, is_directory_block};

@@ -44,7 +44,7 @@ impl InodeRow {
 }
 
 /// The version after this one.
-pub(crate) fn raised_version(version: u32) -> u32
+pub fn raised_version(version: u32) -> u32
     ensures { result ≡ raised_version version }
 {
     if version == u32::MAX { 1 } else { version + 1 }

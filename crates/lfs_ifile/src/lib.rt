@@ -9,10 +9,7 @@ mod segment;
 mod tables;
 mod writing;
 
-pub use inode::{InodePlace, InodeRow};
+pub use inode::{InodePlace, InodeRow, raised_version};
 pub use reading::usage_in;
 pub use segment::{SEGMENT_BYTES, SegState, SegUse};
 pub use tables::Ifile;
-
-#[cfg(test)]
-mod tests;

@@ -9,5 +9,3 @@ pub mod inode;
 pub mod record;
 pub mod size;
 pub mod slots;
-#[cfg(test)]
-mod tests;

@@ -8,8 +8,6 @@ mod infos;
 mod live;
 mod log;
 pub mod packing;
-#[cfg(test)]
-mod tests;
 mod writing;
 
 pub use log::Log;

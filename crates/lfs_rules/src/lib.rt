@@ -6,5 +6,3 @@ pub mod access;
 pub mod flags;
 pub mod level;
 pub mod owner;
-#[cfg(test)]
-mod tests;

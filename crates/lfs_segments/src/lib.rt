@@ -8,5 +8,3 @@ pub mod entry;
 pub mod log;
 pub mod segments;
 pub mod summary;
-#[cfg(test)]
-mod tests;

@@ -1,15 +1,8 @@
-use crate::inode::raised_version;
-use crate::{Ifile, InodePlace, SegState, SegUse, usage_in};
+use super::expect_eq;
+use lfs_ifile::{Ifile, InodePlace, SegState, SegUse, raised_version, usage_in};
 use lfs_types::fault::FormatFault;
 use std::alloc::Global;
-use std::fmt::Debug;
-use std::process::Abort;
 use std::test::Fail;
-
-/// Asserts that what was found is what is wanted. An assertion takes the prover a second or more, a call of this less.
-fn expect_eq<T: PartialEq + Debug + Drop>(rt: &impl Abort, found: T, wanted: T) {
-    assert_eq!(rt; found, wanted);
-}
 
 fn fault_of(alloc: Global, segments: u32, inodes: u32) -> Option<FormatFault> {
     Ifile::format(alloc, segments, inodes).err()

@@ -2,7 +2,7 @@ use Rattle.std.proofs.Common.{◌≡◌, ℕ, suc, zero, ◌<◌, [], ◌∷◌,
 use Rattle.lfs_segments.specs.declared.entry.LogicalBlock.TheVariants.{Data, Inodes, Single}
 use Rattle.lfs_segments.specs.declared.entry.SummaryEntry.{SummaryEntry}
 use Rattle.lfs_segments.specs.Entry.{IsEntry, IsFileNumber}
-use Rattle.lfs_log.proofs.tests.entries.Goals as goal
+use Rattle.lfs_layer_trials.proofs.tests.log.entries.Goals as goal
 
 of_four : IsFileNumber 4
 of_four = record { above = omega arith; not_three = λ e. absurd (omega arith); below = omega arith }

@@ -4,10 +4,11 @@ ghost use Rattle.std.specs.Prelude.{◌≤◌, ◌<◌, All};
 ghost use Rattle.lfs_segments.specs.Entry.{IsEntry};
 ghost use Rattle.lfs_inodes.specs.Facts.{IsInodeNumber};
 
-use crate::log::Log;
-use crate::packing::{inode_in, packed};
+use super::expect_eq;
 use lfs_ifile::{SegState, SegUse};
 use lfs_inodes::inode::Inode;
+use lfs_log::Log;
+use lfs_log::packing::{inode_in, packed};
 use lfs_segments::entry::{LogicalBlock, SummaryEntry};
 use lfs_types::attrs::Kind;
 use lfs_types::cleaner::BlockInfo;
@@ -65,13 +66,13 @@ fn records_share_a_block(rt: HostRuntime) {
     .iter()
     .enumerate()
     {
-        assert_eq!(rt; &block[128 * slot..128 * slot + 12], start.as_slice());
+        expect_eq(&rt, &block[128 * slot..128 * slot + 12], start.as_slice());
     }
     let [root, last, again] = three();
-    assert_eq!(rt; inode_in(&block, 0), Some(root));
-    assert_eq!(rt; inode_in(&block, 1), Some(last));
-    assert_eq!(rt; inode_in(&block, 2), Some(again));
-    assert_eq!(rt; inode_in(&block, 3), None);
+    expect_eq(&rt, inode_in(&block, 0), Some(root));
+    expect_eq(&rt, inode_in(&block, 1), Some(last));
+    expect_eq(&rt, inode_in(&block, 2), Some(again));
+    expect_eq(&rt, inode_in(&block, 3), None);
 }
 
 /// What is to be found of a block or a record.
@@ -112,17 +113,18 @@ fn entries() -> [SummaryEntry; 3]
 fn what_is_put_is_found(rt: HostRuntime) -> Result<(), Fail> {
     let mut log = Log::format(rt.alloc(), 6, 16)?;
     assert_eq!(rt; log.room(), 63);
-    assert_eq!(rt; log.begin(&entries()), 1);
+    expect_eq(&rt, log.begin(&entries()), 1);
     for (address, block) in [(2, [7; 512]), (3, [8; 512])] {
         assert!(rt; log.room() > 0);
-        assert_eq!(rt; log.put(&block), address);
-        assert_eq!(rt; *log.block(address), block);
+        expect_eq(&rt, log.put(&block), address);
+        expect_eq(&rt, *log.block(address), block);
     }
     assert!(rt; log.room() > 0);
-    assert_eq!(rt; log.put_inodes(&three()), 4);
-    assert_eq!(rt; *log.block(4), packed(&three()));
-    assert_eq!(rt; log.next_address(), 5);
-    assert_eq!(rt;
+    expect_eq(&rt, log.put_inodes(&three()), 4);
+    expect_eq(&rt, *log.block(4), packed(&three()));
+    expect_eq(&rt, log.next_address(), 5);
+    expect_eq(
+        &rt,
         log.infos(0).items(),
         [
             info(4, 2, 139, 2),
@@ -131,7 +133,7 @@ fn what_is_put_is_found(rt: HostRuntime) -> Result<(), Fail> {
             info(4095, 4_294_967_295, 0xffff_ffff, 4),
             info(4, 2, 0xffff_ffff, 4),
         ]
-        .as_slice()
+        .as_slice(),
     );
     assert!(rt; log.infos(1).items().is_empty());
     Ok(())
@@ -143,7 +145,7 @@ fn segments_are_opened_in_turn(rt: HostRuntime) -> Result<(), Fail> {
     assert_eq!(rt; log.clean(), 5);
     for want in 1..6 {
         assert_eq!(rt; log.open(), Some(want));
-        assert_eq!(rt; log.active(), want);
+        expect_eq(&rt, log.active(), want);
         assert_eq!(rt; log.clean(), 5 - want);
     }
     assert_eq!(rt; log.open(), None);
@@ -164,7 +166,7 @@ fn live_bytes_follow_the_keys(rt: HostRuntime) -> Result<(), Fail> {
     assert_eq!(rt; log.segments(), 6);
     assert_eq!(rt; log.inodes(), 16);
     assert_eq!(rt; log.least_free(), Some(4));
-    assert_eq!(rt; log.give_out(4), 1);
+    expect_eq(&rt, log.give_out(4), 1);
     assert_eq!(rt; log.usage(2).live, 0);
     log.place_record(4, 130, 3);
     assert_eq!(rt; log.usage(2).live, 128);
@@ -174,6 +176,6 @@ fn live_bytes_follow_the_keys(rt: HostRuntime) -> Result<(), Fail> {
     log.move_live(FileBlock::Data(0), 131, 64);
     assert_eq!(rt; log.usage(2).live, 128);
     assert_eq!(rt; log.usage(1).live, 512);
-    assert_eq!(rt; log.ifile_bytes()?.len(), 252);
+    expect_eq(&rt, log.ifile_bytes()?.len(), 252);
     Ok(())
 }

@@ -1,20 +1,16 @@
 ghost use Rattle.std.specs.Prelude.{◌≡◌, ◌<◌};
 ghost use Rattle.lfs_types.specs.FlagNumbers.{IsKnown};
 
-use crate::addresses::{address, cleared_from, entry, single_address, with_address, with_entry};
-use crate::inode::Inode;
-use crate::slots::{slot, with_slot};
+use super::expect_eq;
+use lfs_inodes::addresses::{
+    address, cleared_from, entry, single_address, with_address, with_entry,
+};
+use lfs_inodes::inode::Inode;
+use lfs_inodes::slots::{slot, with_slot};
 use lfs_types::attrs::{Attrs, Kind};
 use lfs_types::block::{Block, ZERO_BLOCK};
 use lfs_types::file_flags::FileFlags;
 use lfs_types::mode::Mode;
-use std::fmt::Debug;
-use std::process::Abort;
-
-/// Asserts that what was found is what is wanted. An assertion takes the prover a second or more, a call of this less.
-fn expect_eq<T: PartialEq + Debug + Drop>(rt: &impl Abort, found: T, wanted: T) {
-    assert_eq!(rt; found, wanted);
-}
 
 /// The fields of the record of file 4, version 1, owner and group 7, mode 0644, no flags, size 3,
 /// first address 9. Zeros follow them.

@@ -1,23 +1,17 @@
 //! Worked cases, as direct calls.
 
-use crate::access::{clear_set_id, grants, sticky_bars};
-use crate::flags::{append_only, flag_change, immutable};
-use crate::level::level_change;
-use crate::owner::{is_owner, owner_change};
+use super::expect_eq;
+use lfs_rules::access::{clear_set_id, grants, sticky_bars};
+use lfs_rules::flags::{append_only, flag_change, immutable};
+use lfs_rules::level::level_change;
+use lfs_rules::owner::{is_owner, owner_change};
 use lfs_types::attrs::{Attrs, Bit, Kind};
 use lfs_types::cred::Cred;
 use lfs_types::file_flags::FileFlags;
 use lfs_types::level::Level;
 use lfs_types::mode::Mode;
 use lfs_types::rule::Rule;
-use std::fmt::Debug;
-use std::process::Abort;
 use std::test::Fail;
-
-/// Asserts that what was found is what is wanted. An assertion takes the prover a second or more, a call of this less.
-fn expect_eq<T: PartialEq + Debug + Drop>(rt: &impl Abort, found: T, wanted: T) {
-    assert_eq!(rt; found, wanted);
-}
 
 /// A file of this owner, group, mode and flags.
 fn file(uid: u32, gid: u32, mode: u16, flags: u32) -> Result<Attrs, Fail> {

@@ -2,7 +2,8 @@
 
 ghost use Rattle.std.specs.Prelude.{◌≤◌, length};
 
-use crate::{added, entries, find, is_directory_block, removed};
+use super::expect_eq;
+use lfs_dirs::{added, entries, find, is_directory_block, removed};
 use lfs_types::block::{BLOCK_SIZE, Block};
 use lfs_types::name::Name;
 use std::alloc::Global;
@@ -50,9 +51,9 @@ fn add(
 fn example_block(rt: HostRuntime) -> Result<(), Fail> {
     let block = add(rt.alloc(), &rt, &[0; BLOCK_SIZE], b"ab", 4)?.ok_or("no room")?;
     let expected = block_of(b"\x00\x00\x00\x04\x02ab");
-    assert_eq!(rt; block.as_slice(), expected.as_slice());
-    assert_eq!(rt; find(&block, &Name::parse(rt.alloc(), b"ab")?), Some(4));
-    assert_eq!(rt; find(&block, &Name::parse(rt.alloc(), b"a")?), None);
+    expect_eq(&rt, block.as_slice(), expected.as_slice());
+    expect_eq(&rt, find(&block, &Name::parse(rt.alloc(), b"ab")?), Some(4));
+    expect_eq(&rt, find(&block, &Name::parse(rt.alloc(), b"a")?), None);
     Ok(())
 }
 
@@ -60,8 +61,8 @@ fn example_block(rt: HostRuntime) -> Result<(), Fail> {
 fn two_names_of_251_bytes_fill_a_block(rt: HostRuntime) -> Result<(), Fail> {
     let one = add(rt.alloc(), &rt, &[0; BLOCK_SIZE], &[b'a'; 251], 7)?.ok_or("no room for one")?;
     let two = add(rt.alloc(), &rt, &one, &[b'b'; 251], 9)?.ok_or("no room for two")?;
-    assert_eq!(rt; two.as_slice(), two_long_names(251, 251).as_slice());
-    assert_eq!(rt; entries(&two).count(), 2);
+    expect_eq(&rt, two.as_slice(), two_long_names(251, 251).as_slice());
+    expect_eq(&rt, entries(&two).count(), 2);
     assert!(rt; add(rt.alloc(), &rt, &two, b"c", 11)?.is_none());
     Ok(())
 }
@@ -72,9 +73,9 @@ fn removal_closes_the_list_up(rt: HostRuntime) -> Result<(), Fail> {
     assert!(rt; is_directory_block(&block));
     let first = removed(&block, &Name::parse(rt.alloc(), b"ab")?);
     let expected = block_of(b"\x00\x00\x0f\xff\x01c\x00\x00\x00\x05\x03xyz");
-    assert_eq!(rt; first.as_slice(), expected.as_slice());
+    expect_eq(&rt, first.as_slice(), expected.as_slice());
     let other = removed(&block, &Name::parse(rt.alloc(), b"unknown")?);
-    assert_eq!(rt; other.as_slice(), block.as_slice());
+    expect_eq(&rt, other.as_slice(), block.as_slice());
     Ok(())
 }
 
@@ -83,8 +84,8 @@ fn entries_of_any_block_end(rt: HostRuntime) -> Result<(), Fail> {
     let ones = [0xff; BLOCK_SIZE];
     let mut listed = entries(&ones);
     let (number, name) = listed.next().ok_or("no entry")?;
-    assert_eq!(rt; number, u32::MAX);
-    assert_eq!(rt; name, [0xff; 255].as_slice());
+    expect_eq(&rt, number, u32::MAX);
+    expect_eq(&rt, name, [0xff; 255].as_slice());
     assert!(rt; listed.next().is_none());
 
     let counts = [
@@ -104,7 +105,7 @@ fn entries_of_any_block_end(rt: HostRuntime) -> Result<(), Fail> {
         (two_long_names(250, 253), 1, "a name that runs over the end"),
     ];
     for (block, count, what) in &counts {
-        assert_eq!(rt; entries(block).count(), *count, "{what}");
+        expect_eq(&rt, entries(block).count(), *count);
     }
     Ok(())
 }
@@ -142,14 +143,14 @@ fn other_blocks_are_no_directory_blocks(rt: HostRuntime) {
         (block_of(b"\x00\x00\x00\x04\x02.."), false, "two dots"),
     ];
     for (block, is_one, what) in &blocks {
-        assert_eq!(rt; is_directory_block(block), *is_one, "{what}");
+        expect_eq(&rt, is_directory_block(block), *is_one);
     }
 }
 
 #[test]
 fn the_first_entry_of_a_name_is_found(rt: HostRuntime) -> Result<(), Fail> {
     let block = block_of(b"\x00\x00\x00\x04\x01a\x00\x00\x00\x05\x01b\x00\x00\x00\x06\x01b");
-    assert_eq!(rt; find(&block, &Name::parse(rt.alloc(), b"b")?), Some(5));
-    assert_eq!(rt; find(&block, &Name::parse(rt.alloc(), b"c")?), None);
+    expect_eq(&rt, find(&block, &Name::parse(rt.alloc(), b"b")?), Some(5));
+    expect_eq(&rt, find(&block, &Name::parse(rt.alloc(), b"c")?), None);
     Ok(())
 }

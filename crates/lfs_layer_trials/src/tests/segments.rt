@@ -5,19 +5,13 @@ ghost use Rattle.lfs_segments.specs.Entry.{IsEntry};
 ghost use Rattle.lfs_segments.specs.Log.{Expects};
 ghost use Rattle.lfs_segments.specs.Memory.{room_of};
 
-use crate::entry::{LogicalBlock, SummaryEntry};
-use crate::segments::{Segments, log_start};
-use crate::summary::Summary;
+use super::expect_eq;
+use lfs_segments::entry::{LogicalBlock, SummaryEntry};
+use lfs_segments::segments::{Segments, log_start};
+use lfs_segments::summary::Summary;
 use lfs_types::block::Block;
 use lfs_types::fault::FormatFault;
-use std::fmt::Debug;
-use std::process::Abort;
 use std::test::Fail;
-
-/// Asserts that what was found is what is wanted. An assertion takes the prover a second or more, a call of this less.
-fn expect_eq<T: PartialEq + Debug + Drop>(rt: &impl Abort, found: T, wanted: T) {
-    assert_eq!(rt; found, wanted);
-}
 
 /// Segment 0, offset 3, one entry for block 0 of file 4 in version 1.
 const EXAMPLE: [u8; 28] = [
