@@ -8,8 +8,6 @@ mod read;
 pub mod run;
 pub mod scripts;
 pub mod tell;
-#[cfg(test)]
-mod tests;
 pub mod threaded;
 pub mod threads;
 

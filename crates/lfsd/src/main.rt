@@ -1,16 +1,12 @@
 //! A file server that runs a script: it reads lines of calls from standard input and prints the answer to each.
 #![tactic(auto)]
 
-mod options;
-#[cfg(test)]
-mod tests;
-
 use clap::error::ErrorKind;
 use lfs_audit::fault::{RunFault, ThreadsFault};
 use lfs_audit::scripts::run_script;
 use lfs_audit::tell;
 use lfs_audit::threaded::run_threads;
-use options::Options;
+use lfs_options::{Options, options_of};
 use std::env::Env;
 use std::process::ExitCode;
 use std::{env, io};
@@ -22,7 +18,7 @@ fn main(rt: HostRuntime) -> ExitCode {
     let Ok(words) = program_words(&rt) else {
         return ExitCode::from(tell::tell(&mut stderr, &no_memory));
     };
-    let options = match options::options_of(alloc, words.as_slice()) {
+    let options = match options_of(alloc, words.as_slice()) {
         Ok(options) => options,
         Err(error) if error.kind() == ErrorKind::OutOfMemory => {
             return ExitCode::from(tell::tell(&mut stderr, &no_memory));

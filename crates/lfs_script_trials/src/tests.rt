@@ -1,0 +1,60 @@
+//! Scripts that are too long to be stored, arguments, the texts of faults, the status of a run, and runs over readers and
+//! writers that fail.
+
+mod arguments;
+mod log;
+mod passes;
+mod runs;
+mod sizes;
+mod status;
+mod texts;
+mod threads;
+mod volume;
+
+use lfs_audit::fault::RunFault;
+use lfs_audit::scripts::run_script;
+use lfs_options::DEFAULTS;
+use lfs_types::store::Params;
+use std::alloc::Global;
+use std::fmt::Debug;
+use std::process::Abort;
+use std::test::Fail;
+
+/// Asserts that what was found is what is wanted. An assertion takes the prover a second or more, a call of this less.
+fn expect_eq<T: PartialEq + Debug + Drop>(rt: &impl Abort, found: T, wanted: T) {
+    assert_eq!(rt; found, wanted);
+}
+
+/// What a run of this script writes.
+fn output_with(alloc: Global, script: &str, params: Params) -> Result<Vec<u8>, RunFault> {
+    let mut reader = script.as_bytes();
+    let mut writer = Vec::new(alloc);
+    run_script(alloc, &mut reader, &mut writer, params)?;
+    Ok(writer)
+}
+
+/// What a run of this script writes where the program has no arguments.
+fn output(alloc: Global, script: &str) -> Result<Vec<u8>, RunFault> {
+    output_with(alloc, script, DEFAULTS)
+}
+
+/// Asserts that a run of this script with these parameters writes these lines, and then a report.
+fn expect_with(
+    rt: &impl Abort,
+    alloc: Global,
+    script: &str,
+    params: Params,
+    expected: &str,
+) -> Result<(), Fail> {
+    let written = output_with(alloc, script, params)?;
+    let Some(report) = written.as_slice().strip_prefix(expected.as_bytes()) else {
+        return Err(Fail::from("other lines"));
+    };
+    assert!(rt; report.starts_with(b"entries "));
+    Ok(())
+}
+
+/// Asserts that a run of this script writes these lines, and then a report, where the program has no arguments.
+fn expect(rt: &impl Abort, alloc: Global, script: &str, expected: &str) -> Result<(), Fail> {
+    expect_with(rt, alloc, script, DEFAULTS, expected)
+}

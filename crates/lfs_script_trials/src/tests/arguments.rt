@@ -1,0 +1,145 @@
+//! The program's arguments.
+
+use super::expect_eq;
+use clap::error::ErrorKind;
+use lfs_options::{DEFAULTS, Options, options_of};
+use lfs_types::store::Params;
+use std::test::Fail;
+
+#[test]
+fn parameters(rt: HostRuntime) -> Result<(), Fail> {
+    let alloc = rt.alloc();
+    expect_eq(
+        &rt,
+        options_of(alloc, &["lfsd"])?,
+        Options {
+            params: DEFAULTS,
+            threads: false,
+        },
+    );
+    let least = Params {
+        segments: 6,
+        inodes: 16,
+        frames: 32,
+        journal: 1,
+    };
+    let words = [
+        "lfsd",
+        "--inodes",
+        "16",
+        "--journal",
+        "1",
+        "--segments",
+        "6",
+        "--frames",
+        "32",
+    ];
+    expect_eq(
+        &rt,
+        options_of(alloc, &words)?,
+        Options {
+            params: least,
+            threads: false,
+        },
+    );
+    let most = Params {
+        segments: 1024,
+        inodes: 4096,
+        frames: 1024,
+        journal: 100_000,
+    };
+    let words = [
+        "lfsd",
+        "--threads",
+        "--journal=100000",
+        "--inodes=0004096",
+        "--segments=1024",
+        "--frames=1024",
+    ];
+    expect_eq(
+        &rt,
+        options_of(alloc, &words)?,
+        Options {
+            params: most,
+            threads: true,
+        },
+    );
+    Ok(())
+}
+
+#[test]
+fn usage_faults(rt: HostRuntime) {
+    let cases: [&[&str]; 18] = [
+        &["lfsd", "--inodes", "15"],
+        &["lfsd", "--inodes", "4097"],
+        &["lfsd", "--inodes", "+16"],
+        &["lfsd", "--inodes", "-16"],
+        &["lfsd", "--inodes=-16"],
+        &["lfsd", "--inodes", "0x20"],
+        &["lfsd", "--inodes", "4294967312"],
+        &["lfsd", "--inodes", ""],
+        &["lfsd", "--inodes"],
+        &["lfsd", "--journal", "0"],
+        &["lfsd", "--journal", "100001"],
+        &["lfsd", "--journal=+1"],
+        &["lfsd", "script"],
+        &["lfsd", "--threads=1"],
+        &["lfsd", "--segments", "5"],
+        &["lfsd", "--segments", "1025"],
+        &["lfsd", "--frames", "31"],
+        &["lfsd", "--frames", "1025"],
+    ];
+    for words in cases {
+        let code = options_of(rt.alloc(), words).map_err(|error| error.exit_code());
+        expect_eq(&rt, &code, &Err(2));
+    }
+}
+
+#[test]
+fn help(rt: HostRuntime) -> Result<(), Fail> {
+    let Err(error) = options_of(rt.alloc(), &["lfsd", "--help"]) else {
+        return Err(Fail::from("no help"));
+    };
+    expect_eq(&rt, error.kind(), ErrorKind::DisplayHelp);
+    expect_eq(&rt, error.exit_code(), 0);
+    assert!(rt; !error.use_stderr());
+    let text = format!(in rt.alloc(); "{error}")?;
+    for told in [
+        "--threads",
+        "--segments",
+        "6 to 1024",
+        "--frames",
+        "32 to 1024",
+        "--inodes",
+        "16 to 4096",
+        "--journal",
+        "1 to 100000",
+        "Example: ",
+        "docs/FORMATS.md",
+    ] {
+        assert!(rt; text.contains(told), "{told}");
+    }
+    Ok(())
+}
+
+#[test]
+fn usage_fault_names_the_range(rt: HostRuntime) -> Result<(), Fail> {
+    let cases = [
+        ("--inodes=15", "16..=4096"),
+        ("--inodes=4097", "16..=4096"),
+        ("--segments=5", "6..=1024"),
+        ("--frames=31", "32..=1024"),
+        ("--frames=+32", "from 32 to 1024"),
+        ("--journal=0", "1..=100000"),
+        ("--inodes=+16", "from 16 to 4096"),
+        ("--journal=+1", "from 1 to 100000"),
+    ];
+    for (word, range) in cases {
+        let Err(error) = options_of(rt.alloc(), &["lfsd", word]) else {
+            return Err(Fail::from("no fault"));
+        };
+        let text = format!(in rt.alloc(); "{error}")?;
+        assert!(rt; text.contains(range), "{text}");
+    }
+    Ok(())
+}

@@ -1,0 +1,96 @@
+//! Scripts with the cleaner's lines, and what they print.
+
+use super::store::Unswept;
+use super::{PARAMS, expect_eq, run_script};
+use lfs_audit::run::run_over;
+use lfs_types::store::Params;
+use lfs_volume::flat_files::FlatFiles;
+use lfs_volume::volume::Volume;
+use std::test::Fail;
+
+#[test]
+fn cleaner_lines(rt: HostRuntime) -> Result<(), Fail> {
+    let script = b"session 3
+create /a 0644
+segclean 1
+infos 2
+bmapv 4:1:0:70
+markv 4:1:0:70
+ifile
+session 2
+pass
+as 5 5
+pass
+segclean 0
+markv
+";
+    let expected = b"\
+3 ok
+3 cleaner segclean fault NotDirty
+3 cleaner infos fault NotDirty
+3 cleaner bmapv ok 1
+3 cleaner markv ok 0
+3 cleaner ifile refused NoMemory
+2 cleaner ifile refused NoMemory
+2 cleaner ifile denied U1
+2 cleaner segclean denied U1
+2 cleaner markv denied U1
+entries 8
+served 1
+denied 0
+refused 0
+cleaner 7
+rule U1 3
+";
+    let alloc = rt.alloc();
+    let store = Unswept::new(FlatFiles::new(alloc, 64)?);
+    let mut volume = Volume::new(alloc, store, PARAMS.journal)?;
+    let mut writer = Vec::new(alloc);
+    run_over(alloc, &mut script.as_slice(), &mut writer, &mut volume)?;
+    expect_eq(&rt, writer.as_slice(), expected.as_slice());
+    Ok(())
+}
+
+#[test]
+fn lines_behind_a_full_journal(rt: HostRuntime) -> Result<(), Fail> {
+    let script = b"create /a 0644
+create /a 0644
+stat /none
+session 2
+as 5 5
+write /a at 0 61
+level 1
+segclean 9999
+pass
+session 0
+as 0 0
+bmapv
+pass
+unlink /a
+";
+    let expected = b"\
+0 ok
+0 refused JournalFull
+0 refused JournalFull
+2 refused JournalFull
+2 refused JournalFull
+2 cleaner segclean refused JournalFull
+2 cleaner ifile refused JournalFull
+0 cleaner bmapv refused JournalFull
+0 cleaner ifile refused JournalFull
+0 refused JournalFull
+entries 1
+served 1
+denied 0
+refused 0
+cleaner 0
+";
+    let params = Params {
+        journal: 1,
+        ..PARAMS
+    };
+    let mut writer = Vec::new(rt.alloc());
+    run_script(rt.alloc(), &mut script.as_slice(), &mut writer, params)?;
+    expect_eq(&rt, writer.as_slice(), expected.as_slice());
+    Ok(())
+}
