@@ -1,68 +1,41 @@
 //! Copies of requests and answers.
 
 use super::expect_eq;
+use super::plans::requests_of;
 use lfs_types::answer::{Answer, Resource, Served};
 use lfs_types::attrs::{Attrs, Kind};
 use lfs_types::file_flags::FileFlags;
-use lfs_types::level::Level;
 use lfs_types::mode::Mode;
 use lfs_types::name::clone_names;
 use lfs_types::path::Path;
-use lfs_types::payload::{Bytes, Names, Payload};
-use lfs_types::request::{Place, Request};
+use lfs_types::payload::{Bytes, Names};
 use lfs_types::rule::{Denial, Rule};
 use std::alloc::Global;
 use std::test::Fail;
 
-fn path(alloc: Global) -> Result<Path, Fail> {
-    Ok(Path::parse(alloc, "/a")?)
-}
+/// A call of each kind, some of them twice with other values or at other paths.
+const CALLS: &str = "\
+create /a 644
+write /a at 0 616263
+read /a 0 10
+write /a at 0 64
+write /a end 64
+stat /a
+length /a 3
+chown /a 7 8
+chflags /a 4
+level 1
+list /a
+unlink /a
+rmdir /a
+rename /a /b
+mkdir /a 755
+chmod /a 755
+rename /b /a
+sync
+";
 
-fn payload(alloc: Global, bytes: &[u8]) -> Result<Payload, Fail> {
-    match Payload::new(Vec::from_slice(alloc, bytes)?) {
-        Ok(payload) => Ok(payload),
-        Err(_) => Err("few bytes are a payload".into()),
-    }
-}
-
-/// Creates `/a`, writes to it and reads it.
-fn requests(alloc: Global) -> Result<Vec<Request>, Fail> {
-    let mut requests = Vec::new(alloc);
-    requests.push(Request::Create {
-        path: path(alloc)?,
-        mode: Mode::new(0o644).ok_or("a mode")?,
-    })?;
-    requests.push(Request::Write {
-        path: path(alloc)?,
-        place: Place::At(0),
-        bytes: payload(alloc, b"abc")?,
-    })?;
-    requests.push(Request::Read {
-        path: path(alloc)?,
-        off: 0,
-        len: 10,
-    })?;
-    Ok(requests)
-}
-
-/// Writes to `/a` again, at its end too, and shows it.
-fn later_requests(alloc: Global) -> Result<Vec<Request>, Fail> {
-    let mut requests = Vec::new(alloc);
-    requests.push(Request::Write {
-        path: path(alloc)?,
-        place: Place::At(0),
-        bytes: payload(alloc, b"d")?,
-    })?;
-    requests.push(Request::Write {
-        path: path(alloc)?,
-        place: Place::End,
-        bytes: payload(alloc, b"d")?,
-    })?;
-    requests.push(Request::Stat { path: path(alloc)? })?;
-    Ok(requests)
-}
-
-/// The answers to these, the last two to other calls.
+/// Answers of each kind but names.
 fn answers(alloc: Global) -> Result<Vec<Answer>, Fail> {
     let attrs = Attrs {
         kind: Kind::File,
@@ -87,70 +60,11 @@ fn answers(alloc: Global) -> Result<Vec<Answer>, Fail> {
     Ok(answers)
 }
 
-/// The calls that change what is there already, at two paths.
-fn changes(alloc: Global) -> Result<Vec<Request>, Fail> {
-    let flags = FileFlags::new(4).ok_or("flags")?;
-    let mut changes = Vec::new(alloc);
-    changes.push(Request::SetLength {
-        path: path(alloc)?,
-        len: 3,
-    })?;
-    changes.push(Request::Chown {
-        path: path(alloc)?,
-        uid: 7,
-        gid: 8,
-    })?;
-    changes.push(Request::Chflags {
-        path: path(alloc)?,
-        flags,
-    })?;
-    changes.push(Request::SetLevel {
-        level: Level::Secure,
-    })?;
-    Ok(changes)
-}
-
-/// The calls that make and take away names.
-fn moves(alloc: Global) -> Result<Vec<Request>, Fail> {
-    let mut moves = Vec::new(alloc);
-    moves.push(Request::List { path: path(alloc)? })?;
-    moves.push(Request::Unlink { path: path(alloc)? })?;
-    moves.push(Request::Rmdir { path: path(alloc)? })?;
-    moves.push(Request::Rename {
-        from: path(alloc)?,
-        to: Path::parse(alloc, "/b")?,
-    })?;
-    Ok(moves)
-}
-
-/// The calls that give a mode.
-fn modes(alloc: Global) -> Result<Vec<Request>, Fail> {
-    let mode = Mode::new(0o755).ok_or("a mode")?;
-    let mut modes = Vec::new(alloc);
-    modes.push(Request::Mkdir {
-        path: path(alloc)?,
-        mode,
-    })?;
-    modes.push(Request::Chmod {
-        path: path(alloc)?,
-        mode,
-    })?;
-    modes.push(Request::Rename {
-        from: Path::parse(alloc, "/b")?,
-        to: path(alloc)?,
-    })?;
-    Ok(modes)
-}
-
 #[test]
 fn copied_requests_are_equal_to_their_own_alone(rt: HostRuntime) -> Result<(), Fail> {
     let alloc = rt.alloc();
-    let mut requests = requests(alloc)?;
-    requests.append(&mut later_requests(alloc)?)?;
-    requests.append(&mut changes(alloc)?)?;
-    requests.append(&mut moves(alloc)?)?;
-    requests.append(&mut modes(alloc)?)?;
-    expect_eq(&rt, requests.len(), 17);
+    let requests = requests_of(alloc, CALLS)?;
+    expect_eq(&rt, requests.len(), 18);
     for (i, request) in requests.iter().enumerate() {
         let copy = request.try_clone(alloc)?;
         for (j, other) in requests.iter().enumerate() {

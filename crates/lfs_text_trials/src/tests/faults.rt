@@ -22,14 +22,9 @@ fn is_taken(alloc: Global, script: &str) -> Result<bool, Fail> {
     Ok(parse_script(alloc, text).is_ok())
 }
 
-/// Asserts that each of these lines, as the second of a script, has this fault.
-fn expect_kind(
-    rt: &impl Abort,
-    alloc: Global,
-    lines: &[&str],
-    kind: FaultKind,
-) -> Result<(), Fail> {
-    for line in lines {
+/// Asserts that each line of this text, as the second of a script, has this fault.
+fn expect_kind(rt: &impl Abort, alloc: Global, lines: &str, kind: FaultKind) -> Result<(), Fail> {
+    for line in lines.split('\n') {
         let script = format!(in alloc; "# a comment\n{line}\nlist\n")?;
         let text = script.as_bytes();
         if text.len() > MOST_BYTES {
@@ -53,156 +48,158 @@ fn cut(rt: HostRuntime) {
 
 #[test]
 fn bytes(rt: HostRuntime) -> Result<(), Fail> {
-    let lines = ["stat /a\tb", "#\u{7f}", "\r", "list \u{1f}", "# é"];
-    expect_kind(&rt, rt.alloc(), lines.as_slice(), FaultKind::Bytes)
+    let lines = "\
+stat /a\tb
+#\u{7f}
+\r
+list \u{1f}
+# é";
+    expect_kind(&rt, rt.alloc(), lines, FaultKind::Bytes)
 }
 
 #[test]
 fn words(rt: HostRuntime) -> Result<(), Fail> {
-    let lines = [
-        " ",
-        "sync ",
-        "sync /",
-        "Stat /",
-        "session",
-        "session 1 2",
-        "ifile 0",
-        "infos",
-        "infos 0 1",
-        "segclean",
-        "segclean 0 x",
-        "bmapv  1:1:1:1",
-        "markv 1:1:1:1 ",
-        "pass 1",
-        "mount /",
-        "stat",
-        "stat /a /b",
-        "stat a ",
-        " stat a",
-        "stat  a",
-        "as x",
-        "as 0 0 Init",
-        "as 0 0 init init",
-        "create /a",
-        "create a x y",
-        "read /a 0",
-        "read /a 0 1 2",
-        "write /a in 0 61",
-        "write a at x",
-        "write /a end",
-        "write /a end 61 62",
-        "write /a at 0 61 62",
-        "write /a at 0 61 62 63 64",
-        "as 0 0 ",
-        "list",
-        "list a b",
-        "unlink",
-        "unlink a 0",
-        "rmdir",
-        "rmdir a b",
-        "length a",
-        "length a x y",
-        "mkdir a",
-        "mkdir a x y",
-        "chmod a",
-        "chmod a x y",
-        "rename a",
-        "rename a b c",
-        "chown a x",
-        "chown a x y z",
-        "chflags a",
-        "chflags a x y",
-        "level",
-        "level x y",
-    ];
-    expect_kind(&rt, rt.alloc(), lines.as_slice(), FaultKind::Words)
+    let lines = "\
+\x20
+sync\x20
+sync /
+Stat /
+session
+session 1 2
+ifile 0
+infos
+infos 0 1
+segclean
+segclean 0 x
+bmapv  1:1:1:1
+markv 1:1:1:1\x20
+pass 1
+mount /
+stat
+stat /a /b
+stat a\x20
+\x20stat a
+stat  a
+as x
+as 0 0 Init
+as 0 0 init init
+create /a
+create a x y
+read /a 0
+read /a 0 1 2
+write /a in 0 61
+write a at x
+write /a end
+write /a end 61 62
+write /a at 0 61 62
+write /a at 0 61 62 63 64
+as 0 0\x20
+list
+list a b
+unlink
+unlink a 0
+rmdir
+rmdir a b
+length a
+length a x y
+mkdir a
+mkdir a x y
+chmod a
+chmod a x y
+rename a
+rename a b c
+chown a x
+chown a x y z
+chflags a
+chflags a x y
+level
+level x y";
+    expect_kind(&rt, rt.alloc(), lines, FaultKind::Words)
 }
 
 #[test]
 fn number(rt: HostRuntime) -> Result<(), Fail> {
-    let lines = [
-        "read /a x 1",
-        "read /a +1 1",
-        "read /a -1 1",
-        "read /a 1 1x",
-        "read /a 0x1 1",
-        "read /a 000000000000000000001 1",
-        "create /a 0000644",
-        "create /a 8",
-        "create /a 0o644",
-        "as -1 0",
-        "as 0 ,",
-        "as 0 1,",
-        "as 0 ,1",
-        "as 0 1,,2",
-        "as 0 4294967296,x",
-        "as 5 x init",
-        "write /a at x zz",
-        "as x 4294967296",
-        "length /a -1",
-        "length /a 000000000000000000001",
-        "mkdir /a 8",
-        "mkdir /a 0000755",
-        "chmod /a 08",
-        "chmod /a -1",
-        "chown /a x 4294967296",
-        "chown /a 0 1,2",
-        "chflags /a 000000000",
-        "chflags /a 0x2",
-        "chflags /a 4A",
-        "chflags /a -",
-        "level -",
-        "level --1",
-        "level +1",
-        "level 1-",
-        "level x",
-        "level 000000000000000000001",
-        "level -000000000000000000001",
-        "session x",
-        "session 000000000000000000001",
-        "infos -1",
-        "segclean 0x1",
-        "bmapv 1:1:1",
-        "bmapv 1:1:1:1:1",
-        "bmapv 1:1:1:",
-        "markv 4294967296:1:1:x",
-        "markv 1:1:1:1 x",
-    ];
-    expect_kind(&rt, rt.alloc(), lines.as_slice(), FaultKind::Number)
+    let lines = "\
+read /a x 1
+read /a +1 1
+read /a -1 1
+read /a 1 1x
+read /a 0x1 1
+read /a 000000000000000000001 1
+create /a 0000644
+create /a 8
+create /a 0o644
+as -1 0
+as 0 ,
+as 0 1,
+as 0 ,1
+as 0 1,,2
+as 0 4294967296,x
+as 5 x init
+write /a at x zz
+as x 4294967296
+length /a -1
+length /a 000000000000000000001
+mkdir /a 8
+mkdir /a 0000755
+chmod /a 08
+chmod /a -1
+chown /a x 4294967296
+chown /a 0 1,2
+chflags /a 000000000
+chflags /a 0x2
+chflags /a 4A
+chflags /a -
+level -
+level --1
+level +1
+level 1-
+level x
+level 000000000000000000001
+level -000000000000000000001
+session x
+session 000000000000000000001
+infos -1
+segclean 0x1
+bmapv 1:1:1
+bmapv 1:1:1:1:1
+bmapv 1:1:1:
+markv 4294967296:1:1:x
+markv 1:1:1:1 x";
+    expect_kind(&rt, rt.alloc(), lines, FaultKind::Number)
 }
 
 #[test]
 fn range(rt: HostRuntime) -> Result<(), Fail> {
-    let lines = [
-        "read /a 18446744073709551616 x",
-        "read /a 99999999999999999999 1",
-        "read /a 0 4294967296",
-        "create /a 10000",
-        "create /a 777777",
-        "as 4294967296 x",
-        "as 0 4294967296",
-        "as 5 1,4294967296 init",
-        "write /a at 18446744073709551616 zz",
-        "length /a 18446744073709551616",
-        "mkdir /a 10000",
-        "chmod /a 777777",
-        "chown /a 4294967296 x",
-        "chown /a 0 4294967296",
-        "chflags /a 8",
-        "chflags /a a",
-        "chflags /a 00080000",
-        "chflags /a ffffffff",
-        "level 3",
-        "level -2",
-        "level 18446744073709551616",
-        "level -99999999999999999999",
-        "session 9",
-        "infos 4294967296",
-        "segclean 4294967296",
-        "bmapv 4294967296:1:1:1 x",
-        "markv 1:1:1:4294967296",
-    ];
-    expect_kind(&rt, rt.alloc(), lines.as_slice(), FaultKind::Range)
+    let lines = "\
+read /a 18446744073709551616 x
+read /a 99999999999999999999 1
+read /a 0 4294967296
+create /a 10000
+create /a 777777
+as 4294967296 x
+as 0 4294967296
+as 5 1,4294967296 init
+write /a at 18446744073709551616 zz
+length /a 18446744073709551616
+mkdir /a 10000
+chmod /a 777777
+chown /a 4294967296 x
+chown /a 0 4294967296
+chflags /a 8
+chflags /a a
+chflags /a 00080000
+chflags /a ffffffff
+level 3
+level -2
+level 18446744073709551616
+level -99999999999999999999
+session 9
+infos 4294967296
+segclean 4294967296
+bmapv 4294967296:1:1:1 x
+markv 1:1:1:4294967296";
+    expect_kind(&rt, rt.alloc(), lines, FaultKind::Range)
 }
 
 #[test]
@@ -215,8 +212,9 @@ fn range_of_bytes(rt: HostRuntime) -> Result<(), Fail> {
     let more = format!(in alloc; "{most}7a")?;
     let odd = format!(in alloc; "{most}z")?;
     let wrong = format!(in alloc; "{most}zz")?;
-    let lines = [more.as_str(), odd.as_str(), wrong.as_str()];
-    expect_kind(&rt, alloc, lines.as_slice(), FaultKind::Range)?;
+    expect_kind(&rt, alloc, more.as_str(), FaultKind::Range)?;
+    expect_kind(&rt, alloc, odd.as_str(), FaultKind::Range)?;
+    expect_kind(&rt, alloc, wrong.as_str(), FaultKind::Range)?;
     most.push('\n')?;
     assert!(rt; is_taken(alloc, most.as_str())?);
     Ok(())
@@ -243,7 +241,7 @@ fn path(rt: HostRuntime) -> Result<(), Fail> {
     ];
     for (line, fault) in cases {
         let kind = FaultKind::Path(fault);
-        expect_kind(&rt, rt.alloc(), [line].as_slice(), kind)?;
+        expect_kind(&rt, rt.alloc(), line, kind)?;
     }
     Ok(())
 }
@@ -258,32 +256,31 @@ fn long_path(rt: HostRuntime) -> Result<(), Fail> {
     let most = format!(in alloc; "{line}\n")?;
     line.push('a')?;
     let kind = FaultKind::Path(BadPath::Long);
-    expect_kind(&rt, alloc, [line.as_str()].as_slice(), kind)?;
+    expect_kind(&rt, alloc, line.as_str(), kind)?;
     assert!(rt; is_taken(alloc, most.as_str())?);
     Ok(())
 }
 
 #[test]
 fn hex(rt: HostRuntime) -> Result<(), Fail> {
-    let lines = [
-        "write /a end 6",
-        "write /a end 6g",
-        "write /a end 6A",
-        "write /a end --",
-        "write /a end -6",
-        "write /a at 0 616",
-        "write /a at 0 0x",
-    ];
-    expect_kind(&rt, rt.alloc(), lines.as_slice(), FaultKind::Hex)
+    let lines = "\
+write /a end 6
+write /a end 6g
+write /a end 6A
+write /a end --
+write /a end -6
+write /a at 0 616
+write /a at 0 0x";
+    expect_kind(&rt, rt.alloc(), lines, FaultKind::Hex)
 }
 
 #[test]
 fn cred(rt: HostRuntime) -> Result<(), Fail> {
     let kind = FaultKind::Cred(BadCred::InitNotRoot);
-    expect_kind(&rt, rt.alloc(), ["as 5 5 init"].as_slice(), kind)?;
-    let lines = ["as 5 1,2,3,4,5,6,7,8,9,10,11,12,13,14,15,16,17 init"];
+    expect_kind(&rt, rt.alloc(), "as 5 5 init", kind)?;
+    let line = "as 5 1,2,3,4,5,6,7,8,9,10,11,12,13,14,15,16,17 init";
     let kind = FaultKind::Cred(BadCred::TooManyGroups);
-    expect_kind(&rt, rt.alloc(), lines.as_slice(), kind)
+    expect_kind(&rt, rt.alloc(), line, kind)
 }
 
 #[test]
@@ -297,9 +294,9 @@ fn many(rt: HostRuntime) -> Result<(), Fail> {
         let script = format!(in alloc; "{line}\n")?;
         assert!(rt; is_taken(alloc, script.as_str())?);
         let more = format!(in alloc; "{line} x")?;
-        expect_kind(&rt, alloc, [more.as_str()].as_slice(), FaultKind::Many)?;
+        expect_kind(&rt, alloc, more.as_str(), FaultKind::Many)?;
         let bare = format!(in alloc; "{line} x ")?;
-        expect_kind(&rt, alloc, [bare.as_str()].as_slice(), FaultKind::Words)?;
+        expect_kind(&rt, alloc, bare.as_str(), FaultKind::Words)?;
     }
     Ok(())
 }

@@ -16,7 +16,7 @@ use std::alloc::{AllocError, Global};
 use std::test::Fail;
 
 /// The users' calls of a script.
-fn requests_of(alloc: Global, script: &str) -> Result<Vec<Request>, Fail> {
+pub fn requests_of(alloc: Global, script: &str) -> Result<Vec<Request>, Fail> {
     let text = script.as_bytes();
     if text.len() > 4096 {
         return Err(Fail::from("a long script"));
