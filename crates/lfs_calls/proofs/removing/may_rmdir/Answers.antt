@@ -1,12 +1,19 @@
-use Rattle.std.proofs.Common.{◌≡◌, true, [], ◌∷◌, sym, ap, ◌∙◌}
+use Rattle.std.proofs.Common.{◌≡◌, true, [], ◌∷◌, Err, sym, ap, ◌∙◌}
 use Rattle.std.proofs.lemmas.Bool.{cond-true}
+use Rattle.std.proofs.lemmas.Result.{err_from_is_err_and}
 use Rattle.lfs_types.specs.Kinds.{is_directory_kind}
 use Rattle.lfs_types.specs.declared.rule.Rule.TheVariants.{IsEmpty}
 use Rattle.lfs_model.specs.Rules.{asks, judged}
 use Rattle.lfs_model.proofs.Deciding.{ask_met}
 use Rattle.lfs_calls.proofs.Directories.{dir_stored}
 use Rattle.lfs_calls.proofs.RowLemmas.{directory_empty}
+use Rattle.lfs_calls.proofs.TestLemmas.{ask_stops}
 use Rattle.lfs_calls.proofs.removing.may_rmdir.Goals as goal
+
+pub returns-in_err-ask-clause-judge : goal.returns-in_err-ask-clause-judge
+returns-in_err-ask-clause-judge g c w v =
+    let p = err_from_is_err_and c.from_residual.result c.from_residual.ensures.1 in
+    ask_stops _ _ _ c.is_directory.ensures c.in_err-ask.ensures (p.1 ∙ ap Err p.2)
 
 pub is_empty_directory-empty-requires : goal.is_empty_directory-empty-requires
 is_empty_directory-empty-requires g c =
