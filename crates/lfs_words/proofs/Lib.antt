@@ -1,3 +1,4 @@
+pub mod Appended
 pub mod FaultLemmas
 pub mod FlagDigits
 pub mod GroupLists
@@ -6,4 +7,5 @@ pub mod InfoLemmas
 pub mod LevelWords
 pub mod LineCuts
 pub mod Numerals
+pub mod Parts
 pub mod WordLists

@@ -1,5 +1,5 @@
 -- A text is cut at its first line feed, and printable bytes are text.
-use Rattle.std.proofs.Common.{◌≡◌, ℕ, ◌+◌, ◌<◌, ◌≤◌, ◌==◌, nat_lt, Bool, true, false, List, ◌∷◌, ◌++◌, length, take, drop, get_or, None, Some, refl, sym, ◌∙◌, inl, inr, arith, length-take}
+use Rattle.std.proofs.Common.{◌≡◌, ℕ, ◌+◌, ◌<◌, ◌≤◌, ◌==◌, nat_lt, Bool, true, false, List, [], ◌∷◌, ◌++◌, length, take, drop, get_or, None, Some, refl, sym, ap, ◌∙◌, inl, inr, arith, length-take}
 use Rattle.std.specs.Prelude.{nat_le, ◌&&◌}
 use Rattle.std.specs.List.{position, position_or_len}
 use Rattle.std.specs.Str.{IsUtf8}
@@ -10,7 +10,7 @@ use Rattle.std.proofs.lemmas.Str.{IsUtf8-from_ascii}
 use Rattle.std.proofs.lemmas.Bool.{ltb-false, leb-true, eqb-true, eqb-false, and_parts, cases_lt}
 use Rattle.std.proofs.lemmas.Grind.{common_steps}
 use Rattle.lfs_words.proofs.WordLists.{passes_at}
-use Rattle.lfs_words.specs.Lines.{HasNoLineFeed, IsFirstLine, is_printable}
+use Rattle.lfs_words.specs.Lines.{HasNoLineFeed, IsFirstLine, is_printable, is_skipped}
 
 abbrev feed : ℕ → Bool
 feed b = b == 10
@@ -52,3 +52,8 @@ ascii_at line k all =
 
 pub printable_utf8 : (line : List ℕ) → is_printable line ≡ true → IsUtf8 line
 printable_utf8 line all = IsUtf8-from_ascii line (λ k. ascii_at line k all)
+
+-- a line that is not empty says nothing where its first byte is the mark of a comment
+pub skipped : (line bytes : List ℕ) → bytes ≡ line → 1 ≤ length bytes → (get_or bytes 0 0 == 35) ≡ is_skipped line
+skipped line [] e le = absurd (omega arith)
+skipped line (b ∷ bytes) e le = ap is_skipped e

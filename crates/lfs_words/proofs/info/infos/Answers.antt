@@ -2,6 +2,7 @@ use Rattle.std.proofs.Common.{◌∙◌, arith}
 use Rattle.std.proofs.lemmas.List.{length_push}
 use Rattle.std.proofs.lemmas.Result.{err_from_is_err_and}
 use Rattle.lfs_words.proofs.InfoLemmas.{infos_all, infos_few, infos_more, infos_refused}
+use Rattle.lfs_words.proofs.Parts.{infos_many}
 use Rattle.lfs_words.proofs.info.infos.Goals as goal
 
 pub loop-word-preserved : goal.loop-word-preserved
@@ -23,3 +24,6 @@ pub returns : goal.returns
 returns g c =
     infos_few c.args.words.now g.row.LIMIT c.if-words.false
     ∙ infos_all c.args.words.now c.loop-word.word-index c.loop-word.infos c.loop-word-test.false c.loop-word.invariant.so_far
+
+pub returns-then-words : goal.returns-then-words
+returns-then-words g c = λ other. infos_many (λ x. x.now) c.args.words.now g.row.LIMIT c.if-words.true

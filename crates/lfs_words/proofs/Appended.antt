@@ -1,0 +1,29 @@
+-- What is appended to a text.
+use Rattle.std.proofs.Common.{◌≡◌, ℕ, ◌/◌, ◌%◌, ◌==◌, true, List, [], ◌∷◌, ◌++◌, length, codes, Result, Ok, Err, OnOk, refl, ◌∙◌, append_assoc}
+use Rattle.std.specs.Bool.{if◌then◌else◌}
+use Rattle.std.specs.Result.{is_ok}
+use Rattle.std.specs.Char.{digit_char}
+use Rattle.std.proofs.lemmas.Bool.{eqb-true}
+use Rattle.std.proofs.lemmas.List.{nil_from_length}
+use Rattle.lfs_words.specs.BytesText.{bytes_text}
+use Rattle.lfs_words.specs.NameText.{mode_text}
+
+-- a text to which bytes were added, where memory was there
+pub added : {T E : Type 0} (result : Result T E) (new old bytes other wanted : List ℕ) → new ≡ (if is_ok result then old ++ bytes else other) → old ++ bytes ≡ wanted → OnOk result (new ≡ wanted)
+added (Ok x) new old bytes other wanted e same = e ∙ same
+added (Err y) new old bytes other wanted e same = tt
+
+-- a word behind a space
+pub word_added : (out spaced bytes word : List ℕ) → spaced ≡ out ++ 32 ∷ [] → bytes ≡ word → spaced ++ bytes ≡ out ++ 32 ∷ word
+word_added out spaced bytes word e same = rw (e, same, append_assoc) refl
+
+-- the four digits of a mode behind a space
+pub mode_added : (out spaced : List ℕ) (bits mode first second third fourth : ℕ) → spaced ≡ out ++ 32 ∷ [] → bits ≡ mode
+    → first ≡ digit_char (bits / 512) → second ≡ digit_char (bits / 64 % 8) → third ≡ digit_char (bits / 8 % 8) → fourth ≡ digit_char (bits % 8)
+    → spaced ++ (first ∷ second ∷ third ∷ fourth ∷ []) ≡ out ++ 32 ∷ mode_text mode
+unfolding mode_text
+mode_added out spaced bits mode first second third fourth e same one two three four = rw (one, two, three, four, same, e, append_assoc) refl
+
+-- no bytes are a dash
+pub none_added : (new out bytes : List ℕ) → (length bytes == 0) ≡ true → new ≡ out ++ 32 ∷ codes "-" → new ≡ out ++ 32 ∷ bytes_text bytes
+none_added new out bytes none e = rw (nil_from_length bytes (eqb-true (length bytes) 0 none)) e
