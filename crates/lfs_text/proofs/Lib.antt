@@ -1,2 +1,4 @@
 pub mod PlanLemmas
+pub mod PrintLemmas
+pub mod RequestLemmas
 pub mod SplitLemmas
