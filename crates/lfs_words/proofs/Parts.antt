@@ -36,9 +36,9 @@ three_there f (a ∷ b ∷ c ∷ e ∷ more) d least most = absurd (omega arith)
 -- a user and groups
 pub caller_there : {A : Type 0} (f : A → List ℕ) (words : List A) (d : A) (result : Result Caller FaultKind) → 2 ≤ length words → length words < 3
     → MatchResult result
-      (λ cred. (caller_fault (f (get_or words 0 d)) (f (get_or words 1 d)) false ≡ None)
-      × (cred ≡ record { uid = decimal_value (f (get_or words 0 d)); groups = map decimal_value (groups_of (f (get_or words 1 d))); init = false }))
-      (λ kind. caller_fault (f (get_or words 0 d)) (f (get_or words 1 d)) false ≡ Some kind)
+    (λ cred. (caller_fault (f (get_or words 0 d)) (f (get_or words 1 d)) false ≡ None)
+    × (cred ≡ record { uid = decimal_value (f (get_or words 0 d)); groups = map decimal_value (groups_of (f (get_or words 1 d))); init = false }))
+    (λ kind. caller_fault (f (get_or words 0 d)) (f (get_or words 1 d)) false ≡ Some kind)
     → result ≡ caller_said (map f words)
 caller_there f [] d result least most e = absurd (omega arith)
 caller_there f (a ∷ []) d result least most e = absurd (omega arith)
