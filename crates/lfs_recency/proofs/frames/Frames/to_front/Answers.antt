@@ -27,8 +27,4 @@ returns-clause-moved c =
     c.head_of-head.ensures c.unlink.ensures.place c.unlink.ensures.items c.link_front.ensures.place c.link_front.ensures.items).1 ∙ ap (fronted f c.args.queue) c.self.view_is
 
 pub returns-clause-whole : goal.returns-clause-whole
-returns-clause-whole c =
-    let v = c.self.inside.frames in let n = c.self.inside.count in let f = c.args.frame in let v1 = c.unlink.new.frames in let v2 = c.link_front.new.frames in
-    let below : f < n = frame_below frame_size (vec_ptr v) n f v.items c.args.self.now c.self.invariant c.self.view_is c.requires in
-    (front_is frame_size (vec_ptr v) (lit< tt) n f c.args.queue v.items below c.self.invariant (vec_ptr v1) (vec_ptr v2) v1.items v2.items c.head_of-head.result
-    c.head_of-head.ensures c.unlink.ensures.place c.unlink.ensures.items c.link_front.ensures.place c.link_front.ensures.items).0.whole
+returns-clause-whole c = (invariant_of-self c).whole
