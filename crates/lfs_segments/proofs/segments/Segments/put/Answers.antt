@@ -1,8 +1,17 @@
-use Rattle.std.proofs.Common.{◌∷◌, [], refl, subst, sym, arith}
+use Rattle.std.proofs.Common.{◌∷◌, [], refl, subst, sym, ap, ◌∙◌, arith}
 use Rattle.lfs_segments.specs.Log.{Expects, Extends}
-use Rattle.lfs_segments.specs.Memory.{SegmentMemory}
-use Rattle.lfs_segments.proofs.WritingLemmas.{Expects-put, Extends-appended, entry_at-put}
+use Rattle.lfs_segments.specs.Memory.{SegmentMemory, block_at, next_address}
+use Rattle.lfs_segments.proofs.WritingLemmas.{Expects-put, Extends-appended, block_at-put, entry_at-put}
 use Rattle.lfs_segments.proofs.segments.Segments.put.Goals as goal
+
+pub returns-clause-written : goal.returns-clause-written
+returns-clause-written c = c.append.ensures.appended
+
+pub returns-clause-block : goal.returns-clause-block
+returns-clause-block c =
+    ap (block_at c.append.new.self) c.append.ensures.address
+    ∙ ap (λ (m : SegmentMemory). block_at m (next_address c.args.self.now)) c.append.ensures.appended
+    ∙ block_at-put c.args.self.now c.args.block.now c.append.ensures.was_laid_out c.requires
 
 pub returns-clause-expects : goal.returns-clause-expects
 returns-clause-expects c = λ entry entries before.
