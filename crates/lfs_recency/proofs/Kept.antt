@@ -237,6 +237,12 @@ module _ (size : ℕ) (base : Ptr) (n f : ℕ) (fs : List Frame) (below : f < n)
   kept_with_bytes =
       kept_by size base n s' gs (length-set fs f new_frame ∙ h.long) h.inside linked_new blocks_new h.counted (λ g. h.whole g ∙ ap (λ k. cond (nat_lt g k) 1 0) (frame_count_is n fs h.long))
 
+-- what follows the head of a queue after a frame has left its ring, as the contract of the call tells it
+pub next_is : (size : ℕ) (base : Ptr) → 0 < size → (n f : ℕ) (q : Queue) (fs : List Frame) → f < n → AreKept size base n fs
+    → (base1 : Ptr) (fs1 : List Frame) (hd len1 len : ℕ) → hd ≡ head_of n q → base1 ≡ base → fs1 ≡ unlinked size base f fs → len1 ≡ len → len ≡ n + 4
+    → IsItemPlace size base1 len1 (next_at fs1 hd)
+next_is size base pos n f q fs below h base1 fs1 hd len1 len e0 e1 e2 e3 e4 = rw (e3, e4, e2, e1, e0) (next_kept size base pos n f q fs below h)
+
 -- the two changes of the links, one after the other, as their contracts tell them
 pub front_is : (size : ℕ) (base : Ptr) → 0 < size → (n f : ℕ) (q : Queue) (fs : List Frame) → f < n → AreKept size base n fs
     → (base1 base2 : Ptr) (fs1 fs2 : List Frame) (hd : ℕ) → hd ≡ head_of n q → base1 ≡ base → fs1 ≡ unlinked size base f fs → base2 ≡ base1 → fs2 ≡ linked_after size base1 hd f q fs1
@@ -247,3 +253,12 @@ front_is size base pos n f q fs below h base1 base2 fs1 fs2 hd e0 e1 e2 e3 e4 = 
 pub block_is : (size : ℕ) (base : Ptr) (n f : ℕ) (fs : List Frame) → AreKept size base n fs → f < n → get_or (shown size base n fs).blocks f [] ≡ (frame_at fs f).bytes
 block_is size base n f fs h below =
     let long = h.long in get_or-take n (map (λ (r : Frame). r.bytes) fs) f [] below ∙ get_or-map (λ (r : Frame). r.bytes) fs f no_frame [] (omega arith)
+
+-- the bytes of frame f replaced in what an index shows of it
+pub kept_written : (size : ℕ) (base : Ptr) (n f : ℕ) (fs : List Frame) (s : FrameLists) (x : Frame) → AreKept size base n fs → shown size base n fs ≡ s → f < n → x ≡ get_or fs f x → (w : List ℕ)
+    → AreKept size base n (set fs f (with_bytes x w)) × (shown size base n (set fs f (with_bytes x w)) ≡ with_block s f w)
+kept_written size base n f fs s x kept same below shows w =
+    let long = kept.long in let is = frame_is fs f x (omega arith) shows in
+    let both = kept_with_bytes size base n f fs below kept w in
+    subst (λ (y : Frame). AreKept size base n (set fs f (with_bytes y w)) × (shown size base n (set fs f (with_bytes y w)) ≡ with_block s f w)) (sym is)
+    (both.0, both.1 ∙ ap (λ (t : FrameLists). with_block t f w) same)
