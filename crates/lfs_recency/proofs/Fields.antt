@@ -28,6 +28,21 @@ place-is_place size base len i pos inside below =
 pub frame_is : (fs : List Frame) (i : ℕ) (x : Frame) → i < length fs → x ≡ get_or fs i x → x ≡ frame_at fs i
 frame_is fs i x inside e = e ∙ sym (any-default fs i no_frame x inside)
 
+-- what is written into the two neighbours of a frame, as the references show them
+pub unlinked_told : (size : ℕ) (base : Ptr) (f : ℕ) (fs : List Frame) (x y z w : Frame) → x ≡ frame_at fs f → y ≡ frame_at fs f
+    → z ≡ frame_at fs (item_number size base x.prev)
+    → w ≡ frame_at (set fs (item_number size base x.prev) (record z { next = y.next })) (item_number size base y.next)
+    → set (set fs (item_number size base x.prev) (record z { next = y.next })) (item_number size base y.next) (record w { prev = x.prev }) ≡ unlinked size base f fs
+unlinked_told size base f fs x y z w ex ey ez ew = rw (ew, ez, ey, ex) refl
+
+-- what is written into a frame and its two neighbours, as the references show them
+pub linked_told : (size : ℕ) (base : Ptr) (head f : ℕ) (q : Queue) (fs : List Frame) (this before : Ptr) (x y z w : Frame) (fs1 fs2 : List Frame)
+    → this ≡ item_place size base f → before ≡ item_place size base head → item_number size base before ≡ head
+    → x ≡ frame_at fs head → y ≡ frame_at fs f → fs1 ≡ set fs f (record y { prev = before; next = x.next; queue = q })
+    → z ≡ frame_at fs1 (item_number size base x.next) → fs2 ≡ set fs1 (item_number size base x.next) (record z { prev = this })
+    → w ≡ frame_at fs2 (item_number size base before) → set fs2 (item_number size base before) (record w { next = this }) ≡ linked_after size base head f q fs
+linked_told size base head f q fs this before x y z w fs1 fs2 et eb eh ex ey e1 ez e2 ew = rw (ew, eh, e2, ez, e1, ey, ex, eb, et) refl
+
 -- a field of frame j after frame i is written
 module _ {X : Type 0} (field : Frame → X) (fs : List Frame) (i : ℕ) (new : Frame) where
   pub field-set : (j : ℕ) → i < length fs → field (frame_at (set fs i new) j) ≡ cond (j == i) (field new) (field (frame_at fs j))

@@ -1,21 +1,11 @@
-use Rattle.std.proofs.Common.{◌≡◌, ◌<◌, ℕ, List, length, refl, subst, lit<, rules}
+use Rattle.std.proofs.Common.{◌≡◌, ◌<◌, List, length, refl, subst, lit<, rules}
 use Rattle.std.proofs.Math.ListN.{set, length-set}
 use Rattle.std.specs.Vec.{vec_ptr}
-use denote.RawPtr.{Ptr}
 use Rattle.lfs_recency.specs.declared.frame.Frame.{Frame}
-use Rattle.lfs_recency.specs.declared.queue.Queue.{Queue}
 use Rattle.lfs_recency.specs.Places.{item_place, item_number}
-use Rattle.lfs_recency.specs.Links.{frame_size, frame_at, linked_after}
-use Rattle.lfs_recency.proofs.Fields.{frame_is, number-place}
+use Rattle.lfs_recency.specs.Links.{frame_size, frame_at}
+use Rattle.lfs_recency.proofs.Fields.{frame_is, number-place, linked_told}
 use Rattle.lfs_recency.proofs.links.link_front.Goals as goal
-
--- what is written into a frame and its two neighbours, as the references show them
-written : (size : ℕ) (base : Ptr) (head f : ℕ) (q : Queue) (fs : List Frame) (this before : Ptr) (x y z w : Frame) (fs1 fs2 : List Frame)
-    → this ≡ item_place size base f → before ≡ item_place size base head → item_number size base before ≡ head
-    → x ≡ frame_at fs head → y ≡ frame_at fs f → fs1 ≡ set fs f (record y { prev = before; next = x.next; queue = q })
-    → z ≡ frame_at fs1 (item_number size base x.next) → fs2 ≡ set fs1 (item_number size base x.next) (record z { prev = this })
-    → w ≡ frame_at fs2 (item_number size base before) → set fs2 (item_number size base before) (record w { next = this }) ≡ linked_after size base head f q fs
-written size base head f q fs this before x y z w fs1 fs2 et eb eh ex ey e1 ez e2 ew = rw (ew, eh, e2, ez, e1, ey, ex, eb, et) refl
 
 pub returns-clause-items : goal.returns-clause-items
 returns-clause-items c =
@@ -39,5 +29,5 @@ returns-clause-items c =
     let fs2 : List Frame = set fs1 (item_number frame_size base x.next) (record z { prev = this }) in
     let before2 : item_number frame_size base before < length fs2 = rw (eh, length-set, length-set) head_inside in
     rw (← c.as_mut_ptr-start.ensures.unchanged)
-    (written frame_size base head f c.args.queue v.items this before x y z w fs1 fs2 et eb eh ex ey refl (frame_is fs1 (item_number frame_size base x.next) z after1 c.item_at_mut.ensures.value) refl
+    (linked_told frame_size base head f c.args.queue v.items this before x y z w fs1 fs2 et eb eh ex ey refl (frame_is fs1 (item_number frame_size base x.next) z after1 c.item_at_mut.ensures.value) refl
     (frame_is fs2 (item_number frame_size base before) w before2 c.item_at_mut-2.ensures.value))

@@ -1,19 +1,11 @@
-use Rattle.std.proofs.Common.{◌≡◌, ◌<◌, ℕ, List, length, refl, subst}
+use Rattle.std.proofs.Common.{◌≡◌, ◌<◌, List, length, subst}
 use Rattle.std.proofs.Math.ListN.{set, length-set}
 use Rattle.std.specs.Vec.{vec_ptr}
-use denote.RawPtr.{Ptr}
 use Rattle.lfs_recency.specs.declared.frame.Frame.{Frame}
 use Rattle.lfs_recency.specs.Places.{item_number}
-use Rattle.lfs_recency.specs.Links.{frame_size, frame_at, unlinked}
-use Rattle.lfs_recency.proofs.Fields.{frame_is}
+use Rattle.lfs_recency.specs.Links.{frame_size, frame_at}
+use Rattle.lfs_recency.proofs.Fields.{frame_is, unlinked_told}
 use Rattle.lfs_recency.proofs.links.unlink.Goals as goal
-
--- what is written into the two neighbours of a frame, as the references show them
-written : (size : ℕ) (base : Ptr) (f : ℕ) (fs : List Frame) (x y z w : Frame) → x ≡ frame_at fs f → y ≡ frame_at fs f
-    → z ≡ frame_at fs (item_number size base x.prev)
-    → w ≡ frame_at (set fs (item_number size base x.prev) (record z { next = y.next })) (item_number size base y.next)
-    → set (set fs (item_number size base x.prev) (record z { next = y.next })) (item_number size base y.next) (record w { prev = x.prev }) ≡ unlinked size base f fs
-written size base f fs x y z w ex ey ez ew = rw (ew, ez, ey, ex) refl
 
 pub returns-clause-items : goal.returns-clause-items
 returns-clause-items c =
@@ -28,4 +20,4 @@ returns-clause-items c =
     let fs1 : List Frame = set v.items (item_number frame_size (vec_ptr v) x.prev) (record z { next = y.next }) in
     let after : item_number frame_size (vec_ptr v) y.next < length fs1 =
     rw (ey, length-set) (subst (λ k. item_number frame_size (vec_ptr v) (frame_at v.items f).next < k) long c.requires.next.1) in
-    written frame_size (vec_ptr v) f v.items x y z c.item_at_mut-2.result.now ex ey ez (frame_is fs1 (item_number frame_size (vec_ptr v) y.next) c.item_at_mut-2.result.now after c.item_at_mut-2.ensures.value)
+    unlinked_told frame_size (vec_ptr v) f v.items x y z c.item_at_mut-2.result.now ex ey ez (frame_is fs1 (item_number frame_size (vec_ptr v) y.next) c.item_at_mut-2.result.now after c.item_at_mut-2.ensures.value)
