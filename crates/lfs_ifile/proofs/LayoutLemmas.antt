@@ -36,6 +36,13 @@ pub segments_all : (live : List ℕ) (states : List SegState) (seg : ℕ) → le
 segments_all live states seg same past =
     take_all seg (zip live states) (omega (arith, length-zip_same live states same))
 
+-- the bytes after each step that writes some
+pub bytes_told : (tables : Tables) (segments inodes : ℕ) (live : List ℕ) (states : List SegState) (rows : List InodeRow) (b0 b1 b2 b3 b4 b5 : List ℕ)
+    → segments ≡ length tables.live → inodes ≡ length tables.rows → live ≡ tables.live → states ≡ tables.states → rows ≡ tables.rows
+    → b0 ≡ [] → b1 ≡ b0 ++ u32_bytes MAGIC → b2 ≡ b1 ++ u32_bytes segments → b3 ≡ b2 ++ u32_bytes inodes
+    → b4 ≡ b3 ++ flat_map segment_bytes (zip live states) → b5 ≡ b4 ++ flat_map row_bytes rows → b5 ≡ ifile_bytes tables
+bytes_told tables segments inodes live states rows b0 b1 b2 b3 b4 b5 s i l t r e0 e1 e2 e3 e4 e5 = rw (e5, e4, e3, e2, e1, e0, r, t, l, i, s) refl
+
 -- each number takes four or two bytes
 pub length-u32_bytes : (number : ℕ) → length (u32_bytes number) ≡ 4
 unfolding u32_bytes

@@ -1,25 +1,14 @@
-use Rattle.std.proofs.Common.{◌≡◌, ◌+◌, ◌*◌, List, [], ◌++◌, length, ℕ, refl, sym, ap, ◌∙◌, subst, arith}
-use Rattle.std.specs.List.{flat_map, zip}
-use Rattle.lfs_ifile.specs.declared.reading.TheConstants.{MAGIC}
-use Rattle.lfs_ifile.specs.declared.segment.SegState.{SegState}
-use Rattle.lfs_ifile.specs.declared.inode.InodeRow.{InodeRow}
+use Rattle.std.proofs.Common.{◌≡◌, ◌+◌, ◌*◌, List, length, ℕ, sym, ap, ◌∙◌, subst, arith}
 use Rattle.lfs_ifile.specs.Tables.{Tables, IsIfile, usage_of}
-use Rattle.lfs_ifile.specs.Layout.{u32_bytes, segment_bytes, row_bytes, ifile_bytes, ReadsUse}
-use Rattle.lfs_ifile.proofs.LayoutLemmas.{length-ifile_bytes, use-ifile_bytes}
+use Rattle.lfs_ifile.specs.Layout.{ifile_bytes, ReadsUse}
+use Rattle.lfs_ifile.proofs.LayoutLemmas.{bytes_told, length-ifile_bytes, use-ifile_bytes}
 use Rattle.lfs_ifile.proofs.tables.Ifile.bytes.Goals as goal
-
--- the bytes after each step that writes some
-steps : (tables : Tables) (segments inodes : ℕ) (live : List ℕ) (states : List SegState) (rows : List InodeRow) (b0 b1 b2 b3 b4 b5 : List ℕ)
-    → segments ≡ length tables.live → inodes ≡ length tables.rows → live ≡ tables.live → states ≡ tables.states → rows ≡ tables.rows
-    → b0 ≡ [] → b1 ≡ b0 ++ u32_bytes MAGIC → b2 ≡ b1 ++ u32_bytes segments → b3 ≡ b2 ++ u32_bytes inodes
-    → b4 ≡ b3 ++ flat_map segment_bytes (zip live states) → b5 ≡ b4 ++ flat_map row_bytes rows → b5 ≡ ifile_bytes tables
-steps tables segments inodes live states rows b0 b1 b2 b3 b4 b5 s i l t r e0 e1 e2 e3 e4 e5 = rw (e5, e4, e3, e2, e1, e0, r, t, l, i, s) refl
 
 written : (c : goal.In_ok-push_rows) → c.push_rows.new.bytes.items ≡ ifile_bytes c.args.self.now
 written c =
     let file = c.self.inside in
     let tables : Tables = record { live = file.live.items; states = file.states.items; rows = file.rows.items } in
-    steps tables c.len-segments.result c.len-inodes.result c.deref.result.now c.deref-2.result.now c.deref-3.result.now
+    bytes_told tables c.len-segments.result c.len-inodes.result c.deref.result.now c.deref-2.result.now c.deref-3.result.now
     c.in_ok-bytes.bytes.items c.push_u32.new.bytes.items c.push_u32-2.new.bytes.items c.push_u32-3.new.bytes.items c.push_segments.new.bytes.items c.push_rows.new.bytes.items
     (c.len-segments.ensures ∙ file.live.ok.0) (c.len-inodes.ensures ∙ file.rows.ok.0) c.deref.ensures.value c.deref-2.ensures.value c.deref-3.ensures.value
     c.in_ok-bytes.ensures.items c.in_ok-push_u32.ensures c.in_ok-push_u32-2.ensures c.in_ok-push_u32-3.ensures c.in_ok-push_segments.ensures c.in_ok-push_rows.ensures
