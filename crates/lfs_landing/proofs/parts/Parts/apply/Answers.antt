@@ -1,7 +1,10 @@
 use Rattle.std.proofs.Common.{◌≡◌, List, [], length, refl, sym, ap, subst, arith}
+use Rattle.lfs_types.specs.Changes.{CanChangeAll}
+use Rattle.lfs_ifile.specs.declared.inode.InodeRow.{InodeRow}
 use Rattle.lfs_inodes.specs.declared.inode.Inode.{Inode}
 use Rattle.lfs_segments.specs.Log.{Expects}
 use Rattle.lfs_segments.specs.Memory.{SegmentMemory, room_of}
+use Rattle.lfs_landing.specs.Files.{content_of}
 use Rattle.lfs_landing.proofs.AheadLemmas.{makes_changes, opened_or, room_settled, staged_fits}
 use Rattle.lfs_landing.proofs.BoundLemmas.{all_in_reach, frames_most, needs_most, records_most}
 use Rattle.lfs_landing.proofs.KeptLemmas.{settled_staged}
@@ -66,3 +69,21 @@ returns-clause-made c =
     let e = c.in_ok-make_room.ensures in
     makes_changes c.args.changes.now c.reserve_of-reserve.result c.args.self.now c.make_room.new.self c.change_all.new.self c.flush.new.self e.files
     (opened_or c.args.self.now c.make_room.new.self c.needs.result c.reserve_of-reserve.result e.enough e.opened) c.change_all.ensures c.flush.ensures c.reserve_of-reserve.ensures
+
+pub change_all-requires-clause-can : goal.change_all-requires-clause-can
+change_all-requires-clause-can c =
+    let kept = c.in_ok-make_room.ensures.files in
+    subst (λ content. CanChangeAll (length c.make_room.new.self.log.tables.rows) c.args.changes.now content) (sym kept.content)
+    (subst (λ (rows : List InodeRow). CanChangeAll (length rows) c.args.changes.now (content_of c.args.self.now)) (sym kept.rows) c.requires.can.each)
+
+pub flush-requires-clause-staged : goal.flush-requires-clause-staged
+flush-requires-clause-staged c = c.change_all.ensures.staged
+
+pub returns-clause-refused : goal.returns-clause-refused
+returns-clause-refused c = tt
+
+pub returns-clause-lacking : goal.returns-clause-lacking
+returns-clause-lacking c = tt
+
+pub returns-clause-short : goal.returns-clause-short
+returns-clause-short c = tt

@@ -1,4 +1,4 @@
-use Rattle.std.proofs.Common.{◌≡◌, ◌≤◌, sym, ap, subst, inl, inr, arith}
+use Rattle.std.proofs.Common.{Result, Ok, Err, OnErr, ◌≡◌, ◌≤◌, sym, ap, subst, inl, inr, arith}
 use Rattle.std.proofs.lemmas.Bool.{cases_lt}
 use Rattle.lfs_segments.specs.Memory.{room_of}
 use Rattle.lfs_landing.specs.declared.parts.Parts.{Parts}
@@ -47,3 +47,10 @@ pub returns-clause-marked : goal.returns-clause-marked
 returns-clause-marked c =
     marks_again c.args.self.now c.make_room.new.self c.stage_named.new.self c.flush.new.self c.args.marks.now c.items-infos.result.now
     c.in_ok-make_room.ensures.files c.stage_named.ensures c.flush.ensures (are_last c) (fewer c)
+
+on_err : {T E : Type 0} (r : Result T E) (P : Type 0) → P → OnErr r P
+on_err (Ok x) P p = tt
+on_err (Err e) P p = p
+
+pub returns-in_err-make_room-clause-reserved : goal.returns-in_err-make_room-clause-reserved
+returns-in_err-make_room-clause-reserved c = on_err c.from_residual.result (c.args.self.now.log.clean ≤ 0) c.in_err-make_room.ensures.reserved

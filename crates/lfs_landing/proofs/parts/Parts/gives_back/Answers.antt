@@ -1,0 +1,17 @@
+use Rattle.std.proofs.Common.{◌≡◌, Option, None, Some, length, nat_lt, option_map, sym, ap, ◌∙◌}
+use Rattle.std.proofs.lemmas.Option.{none-some, same_Some}
+use Rattle.lfs_types.specs.Stored.{bytes_of_file}
+use Rattle.lfs_types.specs.Tree.{File, attrs_of}
+use Rattle.lfs_types.specs.declared.attrs.Attrs.{Attrs}
+use Rattle.lfs_landing.specs.Applying.{gives_back}
+use Rattle.lfs_landing.specs.Files.{content_of}
+use Rattle.lfs_landing.proofs.parts.Parts.gives_back.Goals as goal
+
+-- the size of a file is the number of its bytes
+long : (o : Option File) (a : Attrs) → option_map attrs_of o ≡ Some a → length (bytes_of_file o) ≡ a.size
+long None a e = absurd (none-some a e)
+long (Some f) a e = ap (λ (b : Attrs). b.size) (same_Some _ _ e)
+
+pub returns-in-Some : goal.returns-in-Some
+returns-in-Some c =
+    sym (ap (gives_back (content_of c.args.self.now)) c.in-SetLength.is ∙ ap (nat_lt c.in-SetLength.len) (long _ c.in-Some.attrs (sym c.attrs.ensures ∙ c.in-Some.is)))
