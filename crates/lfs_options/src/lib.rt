@@ -79,6 +79,11 @@ pub struct Options {
 }
 
 /// The options that the program's words ask for; the first word is the program's name.
+///
+/// # Errors
+///
+/// What the parser tells, with its exit code: 2 for a word that is no option or a number out of its range, 0 for `--help`; or
+/// want of memory.
 pub fn options_of<'a, S: AsStr>(alloc: Global, words: &'a [S]) -> Result<Options, Error> {
     let mut command = command(alloc)?;
     let matches = command.try_get_matches_from_mut(words)?;
