@@ -10,7 +10,14 @@ use lfs_types::file_flags::FileFlags;
 use lfs_types::mode::Mode;
 use lfs_types::store::{FileStore, Params};
 use std::alloc::Global;
+use std::fmt::Debug;
+use std::process::Abort;
 use std::test::Fail;
+
+/// Asserts that what was found is what is wanted. An assertion takes the prover a second or more, a call of this less.
+fn expect_eq<T: PartialEq + Debug + Drop>(rt: &impl Abort, found: T, wanted: T) {
+    assert_eq!(rt; found, wanted);
+}
 
 /// A volume of so many segments, inode numbers and frames.
 fn params(segments: u32, inodes: u32, frames: u32) -> Params {
@@ -59,50 +66,71 @@ fn ranges_are_judged_in_order(rt: HostRuntime) {
         (6, 16, 1_025, Some(FormatFault::TooMany)),
     ];
     for (segments, inodes, frames, want) in table {
-        assert_eq!(rt;
-            fault_of(rt.alloc(), segments, inodes, frames),
-            want,
-            "at {segments}, {inodes} and {frames}"
-        );
+        expect_eq(&rt, fault_of(rt.alloc(), segments, inodes, frames), want);
     }
 }
 
-#[test]
-fn a_fresh_store_has_the_root_alone(rt: HostRuntime) -> Result<(), Fail> {
-    let mut store = LogStore::format(rt.alloc(), params(6, 16, 32))?;
+/// The root directory of a fresh volume.
+fn root_attrs() -> Attrs {
     let Some(mode) = Mode::new(0o755) else {
         unreachable!()
     };
-    let root = Attrs {
+    Attrs {
         kind: Kind::Directory,
         uid: 0,
         gid: 0,
         mode,
         flags: FileFlags::none(),
         size: 0,
-    };
-    assert_eq!(rt; store.attrs(2), Some(root));
-    for ino in [0, 1, 3, 4, 15, 16, u32::MAX] {
-        assert_eq!(rt; store.attrs(ino), None, "at {ino}");
     }
-    assert_eq!(rt; store.least_free(), Some(4));
-    assert_eq!(rt; store.clean_segments(), 5);
-    let mut buffer = [7; 4];
-    assert_eq!(rt; store.read(2, 0, &mut buffer), 0);
-    assert_eq!(rt; buffer, [7; 4]);
-    assert!(rt; store.sync().is_ok());
+}
+
+#[test]
+fn a_fresh_store_has_the_root_alone(rt: HostRuntime) -> Result<(), Fail> {
+    let mut store = LogStore::format(rt.alloc(), params(6, 16, 32))?;
+    expect_eq(&rt, store.attrs(2), Some(root_attrs()));
+    for ino in [0, 1, 3, 4, 15, 16, u32::MAX] {
+        expect_eq(&rt, store.attrs(ino), None);
+    }
+    expect_eq(&rt, store.least_free(), Some(4));
+    expect_eq(&rt, store.clean_segments(), 5);
+    expect_eq(&rt, store.sync().is_ok(), true);
     Ok(())
 }
 
 #[test]
+fn a_fresh_root_has_no_bytes(rt: HostRuntime) -> Result<(), Fail> {
+    let mut store = LogStore::format(rt.alloc(), params(6, 16, 32))?;
+    assert!(rt; store.attrs(2).is_some());
+    let mut buffer = [7; 4];
+    expect_eq(&rt, store.read(2, 0, &mut buffer), 0);
+    expect_eq(&rt, buffer, [7; 4]);
+    Ok(())
+}
+
+/// The bytes of the ifile of a fresh volume.
+fn fresh_ifile(alloc: Global, segments: u32, inodes: u32) -> Result<Vec<u8>, Fail> {
+    let store = LogStore::format(alloc, params(segments, inodes, 32))?;
+    Ok(store.ifile_bytes()?)
+}
+
+/// What an ifile says of a segment.
+fn usage(live: u32, state: SegState) -> Option<SegUse> {
+    Some(SegUse { live, state })
+}
+
+#[test]
 fn the_ifile_has_an_entry_for_each_segment_and_number(rt: HostRuntime) -> Result<(), Fail> {
-    let small = LogStore::format(rt.alloc(), params(6, 16, 32))?.ifile_bytes()?;
-    assert_eq!(rt; small.len(), 252);
-    let usage = |live, state| Some(SegUse { live, state });
-    assert_eq!(rt; usage_in(&small, 0), usage(128, SegState::Active));
-    assert_eq!(rt; usage_in(&small, 5), usage(0, SegState::Clean));
-    let large = LogStore::format(rt.alloc(), params(64, 256, 32))?.ifile_bytes()?;
-    assert_eq!(rt; large.len(), 3_596);
+    let small = fresh_ifile(rt.alloc(), 6, 16)?;
+    expect_eq(&rt, small.len(), 252);
+    expect_eq(&rt, usage_in(&small, 0), usage(128, SegState::Active));
+    expect_eq(&rt, usage_in(&small, 5), usage(0, SegState::Clean));
+    Ok(())
+}
+
+#[test]
+fn the_ifile_of_a_larger_volume_is_larger(rt: HostRuntime) -> Result<(), Fail> {
+    expect_eq(&rt, fresh_ifile(rt.alloc(), 64, 256)?.len(), 3_596);
     Ok(())
 }
 
@@ -118,14 +146,10 @@ fn segments_that_are_not_dirty_are_refused(rt: HostRuntime) -> Result<(), Fail> 
     ];
     let mut infos = InfoList::empty();
     for (segment, fault) in table {
-        assert_eq!(rt;
-            store.infos(segment, &mut infos),
-            Err(fault),
-            "of {segment}"
-        );
-        assert_eq!(rt; store.segclean(segment), Err(fault), "of {segment}");
+        expect_eq(&rt, store.infos(segment, &mut infos), Err(fault));
+        expect_eq(&rt, store.segclean(segment), Err(fault));
     }
-    assert_eq!(rt; store.clean_segments(), 63);
+    expect_eq(&rt, store.clean_segments(), 63);
     Ok(())
 }
 
@@ -142,7 +166,8 @@ fn infos_get_their_present_address(rt: HostRuntime) -> Result<(), Fail> {
         info(u32::MAX, 1, INODE_BLOCK, 2),
     ];
     store.bmapv(&mut infos);
-    assert_eq!(rt;
+    expect_eq(
+        &rt,
         infos,
         [
             info(2, 1, INODE_BLOCK, 2),
@@ -152,34 +177,41 @@ fn infos_get_their_present_address(rt: HostRuntime) -> Result<(), Fail> {
             info(2, 1, 140, 0),
             info(4, 0, INODE_BLOCK, 0),
             info(u32::MAX, 1, INODE_BLOCK, 0),
-        ]
+        ],
     );
+    Ok(())
+}
+
+/// A store of six segments, of which the first has the root's record, the second nothing, and the third is the active one.
+fn opened_twice(alloc: Global) -> Result<LogStore, FormatFault> {
+    let mut store = LogStore::format(alloc, params(6, 16, 32))?;
+    open_next(&mut store);
+    open_next(&mut store);
+    Ok(store)
+}
+
+#[test]
+fn infos_are_those_of_the_segment(rt: HostRuntime) -> Result<(), Fail> {
+    let store = opened_twice(rt.alloc())?;
+    let mut infos = InfoList::empty();
+    expect_eq(&rt, store.infos(0, &mut infos), Ok(()));
+    expect_eq(&rt, infos.items(), [info(2, 1, INODE_BLOCK, 2)].as_slice());
+    expect_eq(&rt, store.infos(1, &mut infos), Ok(()));
+    expect_eq(&rt, infos.items().len(), 0);
     Ok(())
 }
 
 #[test]
 fn a_dirty_segment_without_live_bytes_becomes_clean(rt: HostRuntime) -> Result<(), Fail> {
-    let mut store = LogStore::format(rt.alloc(), params(6, 16, 32))?;
-    open_next(&mut store);
-    open_next(&mut store);
-    assert_eq!(rt; store.clean_segments(), 3);
-    let mut infos = InfoList::empty();
-    assert_eq!(rt; store.infos(0, &mut infos), Ok(()));
-    assert_eq!(rt; infos.items(), [info(2, 1, INODE_BLOCK, 2)].as_slice());
-    assert_eq!(rt; store.infos(1, &mut infos), Ok(()));
-    assert!(rt; infos.items().is_empty());
-    assert_eq!(rt; store.segclean(0), Err(CleanFault::Live(128)));
-    assert_eq!(rt; store.segclean(2), Err(CleanFault::Active));
-    assert_eq!(rt; store.segclean(1), Ok(()));
-    assert_eq!(rt; store.clean_segments(), 4);
-    assert_eq!(rt; store.segclean(1), Err(CleanFault::NotDirty));
-    assert_eq!(rt;
-        usage_in(&store.ifile_bytes()?, 1),
-        Some(SegUse {
-            live: 0,
-            state: SegState::Clean
-        })
-    );
+    let mut store = opened_twice(rt.alloc())?;
+    expect_eq(&rt, store.clean_segments(), 3);
+    expect_eq(&rt, store.segclean(0), Err(CleanFault::Live(128)));
+    expect_eq(&rt, store.segclean(2), Err(CleanFault::Active));
+    expect_eq(&rt, store.segclean(1), Ok(()));
+    expect_eq(&rt, store.clean_segments(), 4);
+    expect_eq(&rt, store.segclean(1), Err(CleanFault::NotDirty));
+    let bytes = store.ifile_bytes()?;
+    expect_eq(&rt, usage_in(&bytes, 1), usage(0, SegState::Clean));
     Ok(())
 }
 
@@ -191,10 +223,10 @@ fn a_marked_record_moves(rt: HostRuntime) -> Result<(), Fail> {
     else {
         unreachable!()
     };
-    assert_eq!(rt; store.markv(&marks), Ok(1));
+    expect_eq(&rt, store.markv(&marks), Ok(1));
     let mut infos = [root];
     store.bmapv(&mut infos);
-    assert_eq!(rt; infos, [info(2, 1, INODE_BLOCK, 4)]);
-    assert_eq!(rt; store.markv(&marks), Ok(0));
+    expect_eq(&rt, infos, [info(2, 1, INODE_BLOCK, 4)]);
+    expect_eq(&rt, store.markv(&marks), Ok(0));
     Ok(())
 }
