@@ -8,41 +8,58 @@ use lfs_types::fault::FormatFault;
 use lfs_types::file_flags::FileFlags;
 use lfs_types::mode::Mode;
 use lfs_types::store::{Change, FileStore};
+use std::alloc::Global;
+use std::fmt::Debug;
+use std::process::Abort;
 use std::test::Fail;
 
+/// Asserts that what was found is what is wanted. An assertion takes the prover a second or more, a call of this less.
+fn expect_eq<T: PartialEq + Debug + Drop>(rt: &impl Abort, found: T, wanted: T) {
+    assert_eq!(rt; found, wanted);
+}
+
+/// Why a store is not made, if it is not.
+fn fault_of(alloc: Global, inodes: u32) -> Option<FormatFault> {
+    FlatFiles::new(alloc, inodes).err()
+}
+
 #[test]
-fn takes_16_to_4096_inode_numbers(rt: HostRuntime) -> Result<(), Fail> {
-    assert_eq!(rt;
-        FlatFiles::new(rt.alloc(), 15).err(),
-        Some(FormatFault::TooFew)
-    );
-    assert_eq!(rt;
-        FlatFiles::new(rt.alloc(), 4097).err(),
-        Some(FormatFault::TooMany)
-    );
-    assert!(rt; FlatFiles::new(rt.alloc(), 4096).is_ok());
-    let store = FlatFiles::new(rt.alloc(), 16)?;
-    let root = Attrs {
+fn takes_16_to_4096_inode_numbers(rt: HostRuntime) {
+    expect_eq(&rt, fault_of(rt.alloc(), 15), Some(FormatFault::TooFew));
+    expect_eq(&rt, fault_of(rt.alloc(), 16), None);
+    expect_eq(&rt, fault_of(rt.alloc(), 4096), None);
+    expect_eq(&rt, fault_of(rt.alloc(), 4097), Some(FormatFault::TooMany));
+}
+
+/// The root directory of a new store.
+fn root_attrs() -> Result<Attrs, Fail> {
+    Ok(Attrs {
         kind: Kind::Directory,
         uid: 0,
         gid: 0,
         mode: Mode::new(0o755).ok_or("mode")?,
         flags: FileFlags::new(0).ok_or("flags")?,
         size: 0,
-    };
-    assert_eq!(rt; store.attrs(2), Some(root));
-    assert_eq!(rt; store.attrs(3), None);
-    assert_eq!(rt; store.attrs(16), None);
-    assert_eq!(rt; store.least_free(), Some(4));
-    assert_eq!(rt; store.clean_segments(), 1024);
+    })
+}
+
+#[test]
+fn a_new_store_has_the_root_alone(rt: HostRuntime) -> Result<(), Fail> {
+    let root = root_attrs()?;
+    let store = FlatFiles::new(rt.alloc(), 16)?;
+    expect_eq(&rt, store.attrs(2), Some(root));
+    expect_eq(&rt, store.attrs(3), None);
+    expect_eq(&rt, store.attrs(16), None);
+    expect_eq(&rt, store.least_free(), Some(4));
+    expect_eq(&rt, store.clean_segments(), 1024);
     Ok(())
 }
 
 #[test]
 fn sync_succeeds(rt: HostRuntime) -> Result<(), Fail> {
     let mut store = FlatFiles::new(rt.alloc(), 16)?;
-    assert_eq!(rt; store.sync(), Ok(()));
-    assert_eq!(rt; store.least_free(), Some(4));
+    expect_eq(&rt, store.sync(), Ok(()));
+    expect_eq(&rt, store.least_free(), Some(4));
     Ok(())
 }
 
@@ -88,14 +105,14 @@ fn applies_changes_in_order(rt: HostRuntime) -> Result<(), Fail> {
         ..attrs_of(0o644)?
     };
     assert_eq!(rt; store.attrs(4), Some(shown));
-    assert_eq!(rt; store.least_free(), Some(5));
+    expect_eq(&rt, store.least_free(), Some(5));
     let mut bytes = [9; 9];
-    assert_eq!(rt; store.read(4, 1, &mut bytes), 6);
-    assert_eq!(rt; bytes, [b'b', b'c', 0, 0, b'x', b'y', 9, 9, 9]);
-    assert_eq!(rt; store.read(4, 7, &mut bytes), 0);
-    assert_eq!(rt; store.read(4, u64::MAX, &mut bytes), 0);
-    assert_eq!(rt; store.read(4, 2, &mut bytes[..2]), 2);
-    assert_eq!(rt; bytes, [b'c', 0, 0, 0, b'x', b'y', 9, 9, 9]);
+    expect_eq(&rt, store.read(4, 1, &mut bytes), 6);
+    expect_eq(&rt, bytes, [b'b', b'c', 0, 0, b'x', b'y', 9, 9, 9]);
+    expect_eq(&rt, store.read(4, 7, &mut bytes), 0);
+    expect_eq(&rt, store.read(4, u64::MAX, &mut bytes), 0);
+    expect_eq(&rt, store.read(4, 2, &mut bytes[..2]), 2);
+    expect_eq(&rt, bytes, [b'c', 0, 0, 0, b'x', b'y', 9, 9, 9]);
     Ok(())
 }
 
@@ -113,7 +130,7 @@ fn knows_the_least_free_number(rt: HostRuntime) -> Result<(), Fail> {
         attrs: attrs_of(0o600)?,
     }];
     store.apply(&second)?;
-    assert_eq!(rt; store.least_free(), Some(6));
+    expect_eq(&rt, store.least_free(), Some(6));
     Ok(())
 }
 
@@ -137,12 +154,12 @@ fn shows_zeros_where_a_file_was_cut(rt: HostRuntime) -> Result<(), Fail> {
     let shown = attrs_of(0o600)?;
     assert_eq!(rt; store.attrs(4), Some(Attrs { size: 1, ..shown }));
     let mut bytes = [9; 5];
-    assert_eq!(rt; store.read(4, 0, &mut bytes), 1);
-    assert_eq!(rt; bytes, [b'a', 9, 9, 9, 9]);
+    expect_eq(&rt, store.read(4, 0, &mut bytes), 1);
+    expect_eq(&rt, bytes, [b'a', 9, 9, 9, 9]);
     store.apply(&[Change::SetLength { ino: 4, len: 4 }])?;
     assert_eq!(rt; store.attrs(4), Some(Attrs { size: 4, ..shown }));
-    assert_eq!(rt; store.read(4, 0, &mut bytes), 4);
-    assert_eq!(rt; bytes, [b'a', 0, 0, 0, 9]);
+    expect_eq(&rt, store.read(4, 0, &mut bytes), 4);
+    expect_eq(&rt, bytes, [b'a', 0, 0, 0, 9]);
     Ok(())
 }
 
@@ -172,6 +189,6 @@ fn gives_out_a_removed_number(rt: HostRuntime) -> Result<(), Fail> {
     }];
     store.apply(&second)?;
     assert_eq!(rt; store.least_free(), Some(5));
-    assert_eq!(rt; store.read(4, 0, &mut [9; 3]), 0);
+    expect_eq(&rt, store.read(4, 0, &mut [9; 3]), 0);
     Ok(())
 }
