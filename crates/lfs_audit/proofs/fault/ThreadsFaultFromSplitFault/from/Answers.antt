@@ -1,0 +1,4 @@
+use Rattle.lfs_audit.proofs.fault.ThreadsFaultFromSplitFault.from.Goals as goal
+
+pub returns-in-CleanerLine : goal.returns-in-CleanerLine
+returns-in-CleanerLine c = search
