@@ -1,4 +1,4 @@
-use Rattle.std.proofs.Common.{◌≡◌, Some, sym, subst, ◌∙◌, arith}
+use Rattle.std.proofs.Common.{rules, ◌≡◌, Some, sym, subst, ◌∙◌, arith}
 use Rattle.lfs_model.specs.declared.journal.Event.TheVariants.{Cleaner}
 use Rattle.lfs_model.specs.Runs.{outcome_of}
 use Rattle.lfs_model.specs.Steps.{world_of}
@@ -27,3 +27,15 @@ invariant_of-self-2 g c = (longer g c, omega (arith, c.self.invariant.1, c.enter
 
 pub returns-clause-legal : goal.returns-clause-legal
 returns-clause-legal g c = longer g c
+
+pub invariant_of-self : goal.invariant_of-self
+invariant_of-self g c = search rules
+
+pub returns-then-len-self-clause-at_limit : goal.returns-then-len-self-clause-at_limit
+returns-then-len-self-clause-at_limit g c = search rules
+
+pub returns-then-len-self-clause-legal : goal.returns-then-len-self-clause-legal
+returns-then-len-self-clause-legal g c = search rules
+
+pub returns-then-len-self-clause-cleans : goal.returns-then-len-self-clause-cleans
+returns-then-len-self-clause-cleans g c = search rules
