@@ -1,4 +1,4 @@
-use Rattle.std.proofs.Common.{◌≡◌, ◌++◌, map, refl, sym, ap, ◌∙◌}
+use Rattle.std.proofs.Common.{rules, ◌≡◌, ◌++◌, map, refl, sym, ap, ◌∙◌}
 use Rattle.lfs_calls.proofs.StateLemmas.{same_content}
 use Rattle.lfs_types.specs.Stored.{bytes_of}
 use Rattle.lfs_dirs.specs.Directory.{Entry}
@@ -20,3 +20,6 @@ loop-k-preserved g c = record {
       ∙ sym (names_further bytes c.loop-k.k);
   state = c.read_block-block.ensures.state ∙ c.loop-k.invariant.state;
 }
+
+pub returns-clause-names : goal.returns-clause-names
+returns-clause-names g c = search rules

@@ -1,3 +1,4 @@
+use Rattle.std.proofs.lemmas.Grind.{common_steps}
 use Rattle.std.proofs.Common.{◌≡◌, ◌<◌, ◌/◌, ◌%◌, [], ◌∷◌, ◌++◌, length, sym, ap, subst, ◌∙◌, arith}
 use Rattle.lfs_calls.proofs.StateLemmas.{same_content}
 use Rattle.lfs_types.specs.Stored.{bytes_of}
@@ -34,3 +35,6 @@ returns-clause-room g c =
         first = λ j before. let within : j < c.args.size / 512 = subst (λ n. j < n / 512) size before in c.loop-k.invariant.full j (omega (arith, within, c.loop-k-test.false));
       },
     )
+
+pub returns-then-size-eq-FILE_BYTES-clause-room : goal.returns-then-size-eq-FILE_BYTES-clause-room
+returns-then-size-eq-FILE_BYTES-clause-room g c = grind (arith, common_steps)

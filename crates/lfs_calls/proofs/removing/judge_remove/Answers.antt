@@ -1,4 +1,4 @@
-use Rattle.std.proofs.Common.{Err, sym, ap, ◌∙◌}
+use Rattle.std.proofs.Common.{rules, Err, sym, ap, ◌∙◌}
 use Rattle.lfs_calls.specs.Volumes.{IsVolume}
 use Rattle.lfs_calls.proofs.CallLemmas.{still}
 use Rattle.lfs_calls.proofs.StateLemmas.{same_content}
@@ -75,3 +75,6 @@ returns-clause-judge g c w v =
           ∙ judged_all tests (sym c.in_ok-may_remove.ensures),
       removal_is (way g k w v) c.component-at.result c.component-at.ensures c.in_ok-number.number c.in-Some-attrs.attrs (c.in_ok-number.ensures.step w here) shown,
     )
+
+pub returns-in_default-clause-judge : goal.returns-in_default-clause-judge
+returns-in_default-clause-judge g c = search rules

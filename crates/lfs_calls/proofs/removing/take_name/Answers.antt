@@ -1,4 +1,4 @@
-use Rattle.std.proofs.Common.{◌≡◌, refl, sym, ap, ◌∙◌}
+use Rattle.std.proofs.Common.{rules, ◌≡◌, refl, sym, ap, ◌∙◌}
 use Rattle.lfs_calls.proofs.StateLemmas.{same_content}
 use Rattle.lfs_types.specs.Stored.{bytes_of}
 use Rattle.lfs_dirs.specs.Directory.{number_in}
@@ -19,3 +19,6 @@ loop-k-preserved g c = record {
       absent_further c.args.name.now bytes c.loop-k.k c.loop-k.invariant.absent (ap (λ b. number_in c.args.name.now (entries_of b)) (sym block) ∙ sym c.find.ensures ∙ not_some c.find.result (sym c.if-is_some.ensures));
   state = c.read_block-block.ensures.state ∙ c.loop-k.invariant.state;
 }
+
+pub returns-then-is_some-clause-room : goal.returns-then-is_some-clause-room
+returns-then-is_some-clause-room g c = search rules
