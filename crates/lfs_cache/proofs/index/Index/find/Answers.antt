@@ -1,3 +1,4 @@
+use Rattle.std.proofs.lemmas.Grind.{common_steps}
 use Rattle.std.proofs.Common.{◌≡◌, ◌*◌, length, Some, None, sym, ap, subst, ◌∙◌, arith}
 use Rattle.lfs_cache.specs.Keys.{start_of}
 use Rattle.lfs_cache.specs.Index.{key_at, frame_at, IsReached}
@@ -18,3 +19,6 @@ returns-in-None c f holds =
     let held : key_at keys.items f ≡ Some c.args.key = ap (λ ks. key_at ks f) c.self.view_is ∙ holds in
     let reached : IsReached ps.items c.start-start.result f = subst (λ s. IsReached ps.items s f) from (c.self.invariant.found f c.args.key held) in
     not_found ps.items c.start-start.result c.loop-place.place f (λ g. key_at keys.items g ≡ Some c.args.key) c.loop-place.auto.place (λ p g a b e. c.loop-place.invariant p g a b e) (λ _. is) reached held
+
+pub loop-place-preserved : goal.loop-place-preserved
+loop-place-preserved c = grind (arith, common_steps)
