@@ -1,4 +1,4 @@
-use Rattle.std.proofs.Common.{◌+◌, ap, subst, ◌∙◌, arith}
+use Rattle.std.proofs.Common.{rules, ◌+◌, ap, subst, ◌∙◌, arith}
 use Rattle.lfs_segments.specs.Log.{Extends}
 use Rattle.lfs_segments.specs.Memory.{next_address}
 use Rattle.lfs_log.specs.Parts.{IsParts, LogParts}
@@ -12,3 +12,12 @@ returns-clause-step c = λ at.
     (subst (λ (p : LogParts). Extends p.memory c.begin.new.self) view c.begin.ensures.extends)
     (ap (λ (p : LogParts). p.tables) view) (ap (λ (p : LogParts). p.clean) view)
     (c.begin.ensures.next ∙ ap (λ (p : LogParts). next_address p.memory + 1) view)
+
+pub returns-clause-summary : goal.returns-clause-summary
+returns-clause-summary c = search rules
+
+pub returns-clause-expects : goal.returns-clause-expects
+returns-clause-expects c = search rules
+
+pub returns-clause-names : goal.returns-clause-names
+returns-clause-names c = search rules

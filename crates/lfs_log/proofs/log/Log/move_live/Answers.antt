@@ -1,3 +1,4 @@
+use Rattle.std.proofs.Common.{rules}
 use Rattle.lfs_log.specs.Parts.{LogParts}
 use Rattle.lfs_log.proofs.LiveLemmas.{IsParts-moved, SameButLive-trans}
 use Rattle.lfs_log.proofs.log.Log.move_live.Goals as goal
@@ -10,3 +11,12 @@ invariant_of-self c =
 
 pub returns-clause-kept : goal.returns-clause-kept
 returns-clause-kept c = invariant_of-self c
+
+pub gain-requires-clause-fits : goal.gain-requires-clause-fits
+gain-requires-clause-fits c = search rules
+
+pub returns-clause-live : goal.returns-clause-live
+returns-clause-live c = search rules
+
+pub returns-clause-step : goal.returns-clause-step
+returns-clause-step c = search rules
