@@ -1,4 +1,4 @@
-use Rattle.std.proofs.Common.{◌≡◌, None, Err, sym, refl, ap, subst, ◌∙◌}
+use Rattle.std.proofs.Common.{rules, ◌≡◌, None, Err, sym, refl, ap, subst, ◌∙◌}
 use Rattle.std.proofs.lemmas.Result.{err_from_is_err_and}
 use Rattle.lfs_types.specs.Stored.{shown_attrs}
 use Rattle.lfs_types.specs.Tree.{World, Content}
@@ -95,3 +95,18 @@ returns-clause-judge g c w v =
           (c.in_ok-judge_apart.ensures.apart w (still (c.judge_make.ensures.state ∙ c.judge_remove.ensures.state) v)) c.in_ok-may_move.ensures,
       record { removal = out.1; parent = into.1 },
     )
+
+pub returns-in_err-dir-clause-state : goal.returns-in_err-dir-clause-state
+returns-in_err-dir-clause-state g c = search rules
+
+pub returns-in_err-judge_apart-clause-state : goal.returns-in_err-judge_apart-clause-state
+returns-in_err-judge_apart-clause-state g c = search rules
+
+pub returns-in_err-may_move-clause-state : goal.returns-in_err-may_move-clause-state
+returns-in_err-may_move-clause-state g c = search rules
+
+pub returns-clause-state : goal.returns-clause-state
+returns-clause-state g c = search rules
+
+pub judge_remove-requires-clause-world : goal.judge_remove-requires-clause-world
+judge_remove-requires-clause-world g c = search rules
