@@ -1,4 +1,4 @@
-use Rattle.std.proofs.Common.{refl, sym, subst, arith}
+use Rattle.std.proofs.Common.{rules, refl, sym, subst, arith}
 use Rattle.lfs_types.specs.StoreStates.{StoreState}
 use Rattle.lfs_types.specs.Tree.{World}
 use Rattle.lfs_types.specs.declared.answer.Answer.TheVariants.{Refused}
@@ -85,3 +85,30 @@ invariant_of-self-2 g c = (longer g c, omega (arith, c.self.invariant.1, c.enter
 
 pub returns-clause-legal : goal.returns-clause-legal
 returns-clause-legal g c = longer g c
+
+pub returns-then-lacks_memory-clause-full : goal.returns-then-lacks_memory-clause-full
+returns-then-lacks_memory-clause-full g c = search rules
+
+pub returns-then-lacks_memory-clause-at_limit : goal.returns-then-lacks_memory-clause-at_limit
+returns-then-lacks_memory-clause-at_limit g c = search rules
+
+pub returns-in-Err-clause-full : goal.returns-in-Err-clause-full
+returns-in-Err-clause-full g c = search rules
+
+pub returns-in-Err-clause-at_limit : goal.returns-in-Err-clause-at_limit
+returns-in-Err-clause-at_limit g c = search rules
+
+pub enter-requires : goal.enter-requires
+enter-requires g c = search rules
+
+pub returns-clause-full : goal.returns-clause-full
+returns-clause-full g c = search rules
+
+pub returns-clause-at_limit : goal.returns-clause-at_limit
+returns-clause-at_limit g c = search rules
+
+pub returns-clause-entered : goal.returns-clause-entered
+returns-clause-entered g c = search rules
+
+pub returns-clause-limit : goal.returns-clause-limit
+returns-clause-limit g c = search rules

@@ -39,3 +39,6 @@ returns-then-len-self-clause-legal g c = search rules
 
 pub returns-then-len-self-clause-cleans : goal.returns-then-len-self-clause-cleans
 returns-then-len-self-clause-cleans g c = search rules
+
+pub returns-clause-entered : goal.returns-clause-entered
+returns-clause-entered g c = search rules

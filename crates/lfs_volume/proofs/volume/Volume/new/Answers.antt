@@ -1,4 +1,4 @@
-use Rattle.std.proofs.Common.{sym, subst, arith}
+use Rattle.std.proofs.Common.{rules, sym, subst, arith}
 use Rattle.lfs_types.specs.declared.level.Level.TheVariants.{Insecure}
 use Rattle.lfs_volume.specs.Journals.{IsJournal}
 use Rattle.lfs_volume.proofs.JournalLemmas.{opening_journal}
@@ -10,3 +10,6 @@ invariant_of-result g c = (
       (opening_journal (g.F.FileStore.state c.args.store) c.args.journal_limit c.requires),
   omega (arith, c.in_ok-journal.ensures.exact),
 )
+
+pub returns : goal.returns
+returns g c = search rules
