@@ -1,4 +1,4 @@
-use Rattle.std.proofs.Common.{◌++◌, ◌∷◌, [], List, take, append_assoc, sym, ap, ◌∙◌, arith}
+use Rattle.std.proofs.Common.{rules, ◌++◌, ◌∷◌, [], List, take, append_assoc, sym, ap, ◌∙◌, arith}
 use Rattle.std.specs.List.{filter_map}
 use Rattle.lfs_inodes.specs.Slots.{slot_of, slots}
 use Rattle.lfs_types.specs.declared.cleaner.BlockInfo.{BlockInfo}
@@ -18,3 +18,6 @@ loop-index-preserved c =
           ∙ append_assoc old before here ∙ ap (λ (xs : List BlockInfo). old ++ xs) (sym (slots_more c.args.address c.args.block.now k c.loop-index-test.true));
       few = let few = c.push_slot_info.ensures.few in let before = c.loop-index.invariant.few in omega arith;
     }
+
+pub returns : goal.returns
+returns c = search rules

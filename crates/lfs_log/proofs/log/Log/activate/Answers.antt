@@ -1,4 +1,4 @@
-use Rattle.std.proofs.Common.{◌≡◌, ◌<◌, ap, sym, subst, ◌∙◌}
+use Rattle.std.proofs.Common.{rules, ◌≡◌, ◌<◌, ap, sym, subst, ◌∙◌}
 use Rattle.lfs_ifile.specs.declared.segment.SegState.TheVariants.{Active, Clean, Dirty}
 use Rattle.lfs_ifile.specs.Tables.{IsIfile, Tables, with_state}
 use Rattle.lfs_segments.specs.Memory.{IsLaidOut}
@@ -28,3 +28,6 @@ invariant_of-self c =
 
 pub returns-clause-kept : goal.returns-clause-kept
 returns-clause-kept c = invariant_of-self c
+
+pub returns-clause-opened : goal.returns-clause-opened
+returns-clause-opened c = search rules

@@ -1,4 +1,5 @@
-use Rattle.std.proofs.Common.{◌≤◌, ap, subst, ◌∙◌}
+use Rattle.std.proofs.Common.{rules, arith, ◌≤◌, ap, subst, ◌∙◌}
+use Rattle.std.proofs.lemmas.Grind.{common_steps}
 use Rattle.lfs_ifile.specs.Tables.{IsIfile, Tables, with_state}
 use Rattle.lfs_ifile.specs.declared.segment.SegState.TheVariants.{Active}
 use Rattle.lfs_segments.specs.Memory.{IsLaidOut, SegmentMemory}
@@ -17,3 +18,9 @@ invariant_of-result c =
 
 pub returns-clause-kept : goal.returns-clause-kept
 returns-clause-kept c = invariant_of-result c
+
+pub returns-clause-fresh : goal.returns-clause-fresh
+returns-clause-fresh c = search rules
+
+pub returns-clause-empty : goal.returns-clause-empty
+returns-clause-empty c = grind (arith, common_steps)

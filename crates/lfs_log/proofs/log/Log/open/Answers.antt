@@ -1,4 +1,4 @@
-use Rattle.std.proofs.Common.{◌≡◌, ◌<◌, ℕ, Option, Some, None, IfNone, ap, sym, subst, ◌∙◌}
+use Rattle.std.proofs.Common.{rules, ◌≡◌, ◌<◌, ℕ, Option, Some, None, IfNone, ap, sym, subst, ◌∙◌}
 use Rattle.lfs_ifile.specs.declared.segment.SegState.TheVariants.{Clean}
 use Rattle.lfs_segments.specs.Memory.{block_at}
 use Rattle.lfs_segments.proofs.WritingLemmas.{block_at-opened_apart}
@@ -39,3 +39,9 @@ pub returns-clause-step : goal.returns-clause-step
 returns-clause-step c = λ at.
     subst (λ (q : LogParts). Opens (log_state c.args.self.now at) (log_state q at) c.in_ok-segment.segment) (sym c.activate.ensures.opened)
     (Opens-opened c.args.self.now c.in_ok-segment.segment at c.activate.ensures.was_kept (inside c) (was_clean c))
+
+pub activate-requires-clause-clean : goal.activate-requires-clause-clean
+activate-requires-clause-clean c = search rules
+
+pub returns-clause-was_clean : goal.returns-clause-was_clean
+returns-clause-was_clean c = search rules

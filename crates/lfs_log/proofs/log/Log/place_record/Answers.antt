@@ -1,4 +1,4 @@
-use Rattle.std.proofs.Common.{◌≡◌, ◌<◌, ℕ, length, get_or, ap, sym, subst, ◌∙◌, arith}
+use Rattle.std.proofs.Common.{rules, ◌≡◌, ◌<◌, ℕ, length, get_or, ap, sym, subst, ◌∙◌, arith}
 use Rattle.std.proofs.lemmas.List.Elements.{All-get_or}
 use Rattle.lfs_ifile.specs.Inode.{IsRow, fresh_row}
 use Rattle.lfs_ifile.specs.declared.inode.InodeRow.{InodeRow}
@@ -54,3 +54,6 @@ returns-clause-step c = λ at here.
     ∙ ap (λ xs. (get_or xs n fresh_row).version) rows)
     (ap (λ (p : LogParts). p.clean) view)
     (λ s. rw here (returns-clause-live c s))
+
+pub returns-clause-row : goal.returns-clause-row
+returns-clause-row c = search rules

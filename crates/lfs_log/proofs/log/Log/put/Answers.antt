@@ -1,4 +1,4 @@
-use Rattle.std.proofs.Common.{◌+◌, ◌∷◌, ap, sym, subst, ◌∙◌, arith}
+use Rattle.std.proofs.Common.{rules, ◌+◌, ◌∷◌, ap, sym, subst, ◌∙◌, arith}
 use Rattle.lfs_segments.specs.Log.{Expects, Extends}
 use Rattle.lfs_segments.specs.Memory.{next_address}
 use Rattle.lfs_log.specs.Parts.{IsParts, LogParts}
@@ -17,3 +17,12 @@ pub returns-clause-owners : goal.returns-clause-owners
 returns-clause-owners c = λ entry entries slot expected low.
     named_at-entry c.put.new.self c.put.result slot entry c.args.block.now low
     (c.put.ensures.names entry entries (subst (λ (p : LogParts). Expects p.memory (entry ∷ entries)) (sym c.self.view_is) expected)) c.put.ensures.block
+
+pub returns-clause-block : goal.returns-clause-block
+returns-clause-block c = search rules
+
+pub returns-clause-expects : goal.returns-clause-expects
+returns-clause-expects c = search rules
+
+pub returns-clause-names : goal.returns-clause-names
+returns-clause-names c = search rules

@@ -1,4 +1,4 @@
-use Rattle.std.proofs.Common.{◌≡◌, ◌<◌, sym, subst, arith}
+use Rattle.std.proofs.Common.{rules, ◌≡◌, ◌<◌, sym, subst, arith}
 use Rattle.lfs_ifile.specs.declared.segment.SegState.TheVariants.{Dirty}
 use Rattle.lfs_ifile.specs.Tables.{IsIfile}
 use Rattle.lfs_log.specs.Parts.{LogParts, state_of}
@@ -22,3 +22,9 @@ invariant_of-self c =
 
 pub returns-clause-kept : goal.returns-clause-kept
 returns-clause-kept c = invariant_of-self c
+
+pub returns-clause-clean : goal.returns-clause-clean
+returns-clause-clean c = search rules
+
+pub returns-clause-step : goal.returns-clause-step
+returns-clause-step c = search rules

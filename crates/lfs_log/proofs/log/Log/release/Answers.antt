@@ -1,4 +1,4 @@
-use Rattle.std.proofs.Common.{length, ap}
+use Rattle.std.proofs.Common.{rules, length, ap}
 use Rattle.lfs_log.specs.Parts.{LogParts}
 use Rattle.lfs_log.proofs.LiveLemmas.{IsParts-moved}
 use Rattle.lfs_log.proofs.log.Log.release.Goals as goal
@@ -10,3 +10,6 @@ invariant_of-self c =
 
 pub returns-clause-kept : goal.returns-clause-kept
 returns-clause-kept c = invariant_of-self c
+
+pub returns-clause-released : goal.returns-clause-released
+returns-clause-released c = search rules
