@@ -1,0 +1,8 @@
+use Rattle.std.proofs.Common.{rules}
+use Rattle.lfs_logstore.proofs.cleaning.LogStoreCleanedStore.markv.Goals as goal
+
+pub returns-clause-given : goal.returns-clause-given
+returns-clause-given c = search rules
+
+pub returns-clause-fault : goal.returns-clause-fault
+returns-clause-fault c = search rules
