@@ -1,4 +1,4 @@
-use Rattle.std.proofs.Common.{◌≡◌, List, [], length, refl, sym, ap, subst, arith}
+use Rattle.std.proofs.Common.{rules, ◌≡◌, List, [], length, refl, sym, ap, subst, arith}
 use Rattle.lfs_types.specs.Changes.{CanChangeAll}
 use Rattle.lfs_ifile.specs.declared.inode.InodeRow.{InodeRow}
 use Rattle.lfs_inodes.specs.declared.inode.Inode.{Inode}
@@ -87,3 +87,6 @@ returns-clause-lacking c = tt
 
 pub returns-clause-short : goal.returns-clause-short
 returns-clause-short c = tt
+
+pub returns-in_err-make_room-clause-lacking : goal.returns-in_err-make_room-clause-lacking
+returns-in_err-make_room-clause-lacking c = search rules

@@ -1,4 +1,4 @@
-use Rattle.std.proofs.Common.{◌≡◌, ◌≤◌, ◌*◌, ◌/◌, ◌∷◌, ℕ, List, None, false, refl, sym, ap, ◌∙◌, subst, arith}
+use Rattle.std.proofs.Common.{rules, ◌≡◌, ◌≤◌, ◌*◌, ◌/◌, ◌∷◌, ℕ, List, None, false, refl, sym, ap, ◌∙◌, subst, arith}
 use Rattle.lfs_inodes.specs.Reading.{fields_of}
 use Rattle.lfs_cache.specs.Contents.{Contents, block_in}
 use Rattle.lfs_cache.specs.Keys.{same_key}
@@ -116,3 +116,6 @@ returns c =
     let left = subst (λ (l : LogParts). Assigns (log.log_state l (log_state p).at) (log.log_state q.log (placed (log_state p).at v.number (code_of b) 0)) v.number (code_of b) 0) log_is step in
     cleared p s q v b w.0 w.1 st may stays c.move_live.ensures.kept (log_after p s q v b w.0 w.1 st left)
     (c.move_live.ensures.others.states ∙ ap (λ (l : LogParts). l.tables.states) log_is) (c.move_live.ensures.clean ∙ ap (λ (l : LogParts). l.clean) log_is)
+
+pub set_address-requires-clause-in_volume : goal.set_address-requires-clause-in_volume
+set_address-requires-clause-in_volume c = search rules

@@ -1,4 +1,4 @@
-use Rattle.std.proofs.Common.{sym, ◌∙◌, subst, arith}
+use Rattle.std.proofs.Common.{rules, sym, ◌∙◌, subst, arith}
 use Rattle.lfs_segments.specs.Log.{Expects}
 use Rattle.lfs_segments.specs.Memory.{next_address}
 use Rattle.lfs_landing.proofs.AdvanceLemmas.{Advances-trans}
@@ -29,3 +29,9 @@ returns c =
     let recorded = c.land_all_records.ensures.advances from (both.next) in
     flushed p c.land_all_records.new.self c.land_all_records.ensures.staged c.land_all_records.ensures.ready c.land_all_records.ensures.settled
     (Advances-trans from p c.land_blocks.new.self c.land_all_records.new.self both recorded)
+
+pub begin_partial-requires-clause-some : goal.begin_partial-requires-clause-some
+begin_partial-requires-clause-some c = search rules
+
+pub begin_partial-requires-clause-named : goal.begin_partial-requires-clause-named
+begin_partial-requires-clause-named c = search rules

@@ -1,4 +1,4 @@
-use Rattle.std.proofs.Common.{◌≡◌, ◌≤◌, ◌+◌, ◌*◌, ◌/◌, ◌∷◌, ℕ, List, length, None, false, refl, sym, ap, ◌∙◌, subst, inl, inr, arith}
+use Rattle.std.proofs.Common.{rules, ◌≡◌, ◌≤◌, ◌+◌, ◌*◌, ◌/◌, ◌∷◌, ℕ, List, length, None, false, refl, sym, ap, ◌∙◌, subst, inl, inr, arith}
 use Rattle.std.specs.Vec.{vec_capacity}
 use Rattle.lfs_inodes.specs.Reading.{fields_of}
 use Rattle.lfs_ifile.specs.Tables.{Tables}
@@ -230,3 +230,6 @@ returns-clause-fewer c =
           let fewer : length c.forget.new.self.locked ≡ length c.set_address.new.self.cache.locked = ap length (c.forget.ensures.none_less none) in
           omega arith
     ]
+
+pub set_address-requires-clause-in_volume : goal.set_address-requires-clause-in_volume
+set_address-requires-clause-in_volume c = search rules

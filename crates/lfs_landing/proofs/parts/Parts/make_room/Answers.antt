@@ -1,4 +1,4 @@
-use Rattle.std.proofs.Common.{arith}
+use Rattle.std.proofs.Common.{rules, arith}
 use Rattle.lfs_landing.proofs.parts.Parts.make_room.Goals as goal
 
 pub open_segment-requires-clause-some : goal.open_segment-requires-clause-some
@@ -9,3 +9,6 @@ returns-then-room-blocks-clause-room c = omega (arith, c.room.ensures.room, c.if
 
 pub returns-clause-opened : goal.returns-clause-opened
 returns-clause-opened c = λ short. (omega (arith, c.clean.ensures.clean, c.if-clean-reserve.false), c.open_segment.ensures.clean, c.open_segment.ensures.was_clean)
+
+pub returns-then-room-blocks-clause-opened : goal.returns-then-room-blocks-clause-opened
+returns-then-room-blocks-clause-opened c = search rules
