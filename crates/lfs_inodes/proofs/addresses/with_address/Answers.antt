@@ -1,3 +1,4 @@
+use Rattle.std.proofs.lemmas.Grind.{common_steps}
 use Rattle.std.proofs.Common.{arith}
 use Rattle.lfs_inodes.proofs.Cells.{numbers-one, address_of-indirect}
 use Rattle.lfs_inodes.proofs.addresses.with_address.Goals as goal
@@ -13,3 +14,6 @@ pub returns-else-n-lt-DIRECT_COUNT-clause-reads : goal.returns-else-n-lt-DIRECT_
 returns-else-n-lt-DIRECT_COUNT-clause-reads c = λ m lt.
     address_of-indirect c.args.inode.now c.args.indirect.now c.with_entry.result c.args.n c.args.address m c.if-n-lt-DIRECT_COUNT.false
     (omega (arith, c.args.inode.now.sized.0)) c.with_entry.ensures.cells
+
+pub returns-then-n-lt-DIRECT_COUNT-clause-reads : goal.returns-then-n-lt-DIRECT_COUNT-clause-reads
+returns-then-n-lt-DIRECT_COUNT-clause-reads c = grind (arith, common_steps)
