@@ -1,4 +1,5 @@
+use Rattle.std.proofs.Common.{rules}
 use Rattle.lfs_audit.proofs.fault.ThreadsFaultFromSplitFault.from.Goals as goal
 
 pub returns-in-CleanerLine : goal.returns-in-CleanerLine
-returns-in-CleanerLine c = search
+returns-in-CleanerLine c = search rules
