@@ -3,7 +3,7 @@ use Rattle.std.specs.Prelude.{◌≡◌, ℕ, ◌<◌, ◌≤◌, ◌⊎◌}
 use Rattle.lfs_types.specs.declared.fault.FormatFault.TheVariants.{TooFew, TooMany}
 use Rattle.lfs_landing.specs.Opening.{IsTooFew, IsTooMany}
 use Rattle.lfs_server.specs.declared.serving.ServeFault.{ServeFault}
-use Rattle.lfs_server.specs.declared.serving.ServeFault.TheVariants.{Sessions, Format}
+use Rattle.lfs_server.specs.declared.serving.ServeFault.TheVariants.{Sessions, Format, Memory}
 
 -- the fault of a run that was begun
 abbrev pub IsRunFault : ServeFault → Type 0
@@ -15,6 +15,13 @@ IsRunFault fault = Unit {0}
 abbrev pub IsFaultOf : ℕ → ServeFault → Type 0
 IsFaultOf sessions Sessions = (sessions ≡ 0) ⊎ (8 < sessions)
 IsFaultOf sessions fault = IsRunFault fault × (0 < sessions) × (sessions ≤ 8)
+
+-- the fault of laying out a volume with so many segments, inode numbers and frames: Format for numbers out of their ranges
+abbrev pub IsLayoutFault : ℕ → ℕ → ℕ → ServeFault → Type 0
+IsLayoutFault segments inodes frames (Format TooFew) = IsTooFew segments inodes frames
+IsLayoutFault segments inodes frames (Format TooMany) = IsTooMany segments inodes frames
+IsLayoutFault segments inodes frames Memory = Unit {0}
+IsLayoutFault segments inodes frames fault = ⊥
 
 -- the fault of a run of so many sessions on a volume that is laid out for it: Sessions as above; Format for numbers of
 -- segments, inode numbers and frames out of their ranges

@@ -3,11 +3,11 @@
 ghost use Rattle.std.specs.Prelude.{◌≡◌, ◌≤◌, ◌<◌, IfErr, IfOk, OnOk, vec_len};
 ghost use Rattle.lfs_logstore.specs.States.{state_of};
 ghost use Rattle.lfs_settle.specs.Interleaving.{IsInterleaving, run_of};
-ghost use Rattle.lfs_server.specs.Serving.{IsServeFault};
+ghost use Rattle.lfs_server.specs.Serving.{IsLayoutFault, IsServeFault};
 ghost use Rattle.lfs_volume.specs.Journals.{IsJournal};
 
 use crate::gate::Gate;
-use crate::serving::{Closed, MOST_SESSIONS, ServeFault, serve_over};
+use crate::serving::{Closed, ServeFault, check_sessions, run};
 use lfs_logstore::LogStore;
 use lfs_types::fault::FormatFault;
 use lfs_types::script::Script;
@@ -42,14 +42,20 @@ where
     ensures fault { IfErr result
         (IsServeFault (vec_len sessions) params.segments params.inodes params.frames) }
 {
-    if sessions.is_empty() || sessions.len() > MOST_SESSIONS {
-        return Err(ServeFault::Sessions);
-    }
+    check_sessions(sessions.len())?;
+    let volume = fresh_volume(alloc, params)?;
+    run(rt, alloc, volume, &setup, sessions.as_slice(), gate)
+}
+
+/// A fresh volume over the log store.
+fn fresh_volume(alloc: Global, params: Params) -> Result<Volume<LogStore>, ServeFault>
+    ensures limit { IfOk result (λ volume. volume.limit ≡ params.journal) }
+    ensures fault { IfErr result (IsLayoutFault params.segments params.inodes params.frames) }
+{
     let store = match LogStore::format(alloc, params) {
         Ok(store) => store,
         Err(FormatFault::Memory) => return Err(ServeFault::Memory),
         Err(fault) => return Err(ServeFault::Format(fault)),
     };
-    let volume = Volume::new(alloc, store, params.journal)?;
-    serve_over(rt, alloc, volume, setup, sessions, gate)
+    Ok(Volume::new(alloc, store, params.journal)?)
 }

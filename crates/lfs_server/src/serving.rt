@@ -4,7 +4,7 @@ ghost use Rattle.std.specs.Prelude.{◌≡◌, ◌⊎◌, ◌<◌, ◌≤◌, �
 ghost use Rattle.lfs_settle.specs.Interleaving.{IsInterleaving, run_of};
 ghost use Rattle.lfs_volume.specs.Journals.{IsJournal};
 ghost use Rattle.lfs_server.specs.Serving.{IsFaultOf, IsRunFault};
-ghost use Rattle.lfs_server.specs.declared.serving.ServeFault.TheVariants.{Memory};
+ghost use Rattle.lfs_server.specs.declared.serving.ServeFault.TheVariants.{Memory, Sessions};
 
 use crate::cleaner::run_cleaner;
 use crate::doorbell::{Button, Rings, doorbell};
@@ -97,27 +97,73 @@ where
     ensures sessions { OnOk result ((0 < vec_len sessions) × (vec_len sessions ≤ 8)) }
     ensures fault { IfErr result (λ fault. IsFaultOf (vec_len sessions) fault) }
 {
-    if sessions.is_empty() || sessions.len() > MOST_SESSIONS {
+    check_sessions(sessions.len())?;
+    run(rt, alloc, volume, &setup, sessions.as_slice(), gate)
+}
+
+/// Asks that there be so many sessions: at least one, and at most eight.
+pub(crate) fn check_sessions(count: usize) -> Result<(), ServeFault>
+    ensures count { OnOk result ((0 < count) × (count ≤ 8)) }
+    ensures fault { IfErr result (λ fault. (fault ≡ Sessions) × ((count ≡ 0) ⊎ (8 < count))) }
+{
+    if count == 0 || count > MOST_SESSIONS {
         return Err(ServeFault::Sessions);
     }
+    Ok(())
+}
+
+/// Runs the setup and then the sessions, of which there are at most eight, and hands out what they left.
+pub(crate) fn run<R, F, G>(
+    rt: &R,
+    alloc: Global,
+    mut volume: Volume<F>,
+    setup: &Script,
+    sessions: &[Script],
+    gate: &G,
+) -> Result<Closed<F>, ServeFault>
+where
+    R: Threads + Wait + Sync,
+    F: CleanedStore + Send + Drop,
+    G: Gate,
+    requires { length sessions.now ≤ 8 }
+    ensures settled { IfOk result (λ closed. IsInterleaving
+        (run_of closed.volume.journal closed.volume.limit
+        setup.now closed.setup.items sessions.now closed.transcripts.items)) }
+    ensures limit { IfOk result (λ closed. closed.volume.limit ≡ volume.limit) }
+    ensures legal { IfOk result (λ closed. IsJournal
+        (F.state closed.volume.store) closed.volume.level
+        closed.volume.journal closed.volume.limit) }
+    ensures fault { IfErr result IsRunFault }
+{
     let limit = volume.journal_limit();
     let (button, rings) = doorbell(alloc)?;
-    let jobs = jobs(alloc, sessions.as_slice(), &button)?;
-    let mut volume = volume;
-    let answers = run_setup(alloc, &mut volume, &setup, gate)?;
+    let jobs = jobs(alloc, sessions, &button)?;
+    let answers = run_setup(alloc, &mut volume, setup, gate)?;
+    let (volume, transcripts) = run_sessions(rt, alloc, volume, jobs, button, &rings, gate)?;
+    close(volume, limit, setup, answers, sessions, transcripts)
+}
+
+/// Rings for the cleaner, runs the sessions and the cleaner, and gives the volume back with the answers of each session.
+fn run_sessions<R, F, G>(
+    rt: &R,
+    alloc: Global,
+    volume: Volume<F>,
+    jobs: Vec<Session<'_>>,
+    button: Button,
+    rings: &Rings,
+    gate: &G,
+) -> Result<(Volume<F>, Vec<Vec<Answer>>), ServeFault>
+where
+    R: Threads + Wait + Sync,
+    F: CleanedStore + Send + Drop,
+    G: Gate,
+    ensures { IfErr result IsRunFault }
+{
     button.ring(rt);
     drop(button);
     let shared = Mutex::new(volume);
-    let transcripts = run_threads(rt, alloc, &shared, jobs, &rings, gate)?;
-    let volume = shared.into_inner();
-    close(
-        volume,
-        limit,
-        &setup,
-        answers,
-        sessions.as_slice(),
-        transcripts,
-    )
+    let transcripts = run_threads(rt, alloc, &shared, jobs, rings, gate)?;
+    Ok((shared.into_inner(), transcripts))
 }
 
 /// The sessions of these scripts, with room for their answers.

@@ -1,5 +1,14 @@
 use Rattle.std.proofs.Common.{rules}
 use Rattle.lfs_server.proofs.serve.serve.Goals as goal
 
+pub returns-in_err-check_sessions-clause-fault : goal.returns-in_err-check_sessions-clause-fault
+returns-in_err-check_sessions-clause-fault g c = search rules
+
+pub returns-in_err-volume-clause-fault : goal.returns-in_err-volume-clause-fault
+returns-in_err-volume-clause-fault g c = search rules
+
 pub returns-clause-settled : goal.returns-clause-settled
 returns-clause-settled g c = search rules
+
+pub returns-clause-legal : goal.returns-clause-legal
+returns-clause-legal g c = search rules
