@@ -154,17 +154,43 @@ IsStep-answered old new level level_after es limit caller request answer j a ent
     }
 
 -- a call whose answer wanted memory for its copy
-pub copy_outcome : (s : StoreState) (w : World) (caller : Caller) (request : Request) (answer : Answer)
+copy_outcome : (s : StoreState) (w : World) (caller : Caller) (request : Request) (answer : Answer)
     → IsOutcome s w caller request answer → ServesList answer → IsOutcome s w caller request (Refused NoMemory)
 copy_outcome s w caller request (Served shown) o h = (o.0.0, o.0.1, o.1, inr (list_copies w request (subst IsList o.0.2 h)))
 copy_outcome s w caller request (Denied denial) o h = absurd h
 copy_outcome s w caller request (Refused resource) o h = absurd h
 
--- an answer that tells of the want of memory serves nothing
-pub lack_unserved : (answer : Answer) → is_lack_of_memory answer ≡ true → IsUnserved answer
-lack_unserved (Served shown) h = absurd (cc)
-lack_unserved (Denied denial) h = tt
-lack_unserved (Refused resource) h = tt
+-- an answer that tells of the want of memory is that refusal
+lack_is : (answer : Answer) → is_lack_of_memory answer ≡ true → answer ≡ Refused NoMemory
+lack_is (Served shown) h = absurd (cc)
+lack_is (Denied denial) h = absurd (cc)
+lack_is (Refused NoMemory) h = refl
+lack_is (Refused NoSpace) h = absurd (cc)
+lack_is (Refused NoInodes) h = absurd (cc)
+lack_is (Refused DirectoryFull) h = absurd (cc)
+lack_is (Refused JournalFull) h = absurd (cc)
+
+-- a call whose answer tells of the want of memory
+pub IsAnswered-lack : (old new : StoreState) (level level_after : Level) (caller : Caller) (request : Request) (answer : Answer)
+    → IsAnswered old new level level_after caller request answer → is_lack_of_memory answer ≡ true
+    → IsAnswered old new level level_after caller request (Refused NoMemory)
+IsAnswered-lack old new level level_after caller request answer a h =
+    subst (IsAnswered old new level level_after caller request) (lack_is answer h) a
+
+-- a call whose answer wanted memory for its copy
+pub IsAnswered-copy : (old new : StoreState) (level level_after : Level) (caller : Caller) (request : Request) (answer : Answer)
+    → IsAnswered old new level level_after caller request answer → ServesList answer
+    → IsAnswered old new level level_after caller request (Refused NoMemory)
+IsAnswered-copy old new level level_after caller request answer a list =
+    let stays = a.listed list in
+    record {
+      outcome = λ w shown e. copy_outcome old w caller request answer (a.outcome w shown e) list;
+      leaves = λ w shown. record { shows = subst (λ c. Shows c w) (sym stays.content) shown.shows; tree = shown.tree };
+      leveled = λ w e. e ∙ sym stays.at_level;
+      unserved = λ h. stays;
+      listed = λ h. absurd h;
+      follows = a.follows;
+    }
 
 -- ---- runs
 

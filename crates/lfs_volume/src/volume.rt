@@ -1,6 +1,6 @@
 //! A volume: a file store under the rules, and the journal of what was answered.
 
-ghost use Rattle.std.specs.Prelude.{◌≡◌, ◌↔◌, ◌<◌, ◌≤◌, [], ◌∷◌, ◌++◌, length, vec_len, IfOk, IfErr};
+ghost use Rattle.std.specs.Prelude.{◌≡◌, ◌↔◌, ◌<◌, ◌≤◌, [], ◌∷◌, ◌++◌, length, vec_len, false, IfOk, IfErr, MatchOption};
 ghost use Rattle.std.specs.Vec.{vec_capacity};
 ghost use Rattle.lfs_types.specs.StoreStates.{Follows};
 ghost use Rattle.lfs_types.specs.Tree.{opening_content};
@@ -93,16 +93,14 @@ impl<F: FileStore + Drop> Volume<F> {
         ensures follows { Follows (F.state self.old.store) (F.state self.new.store) }
     {
         if self.journal.len() >= self.limit as usize {
+            drop(request);
             return Answer::Refused(Resource::JournalFull);
         }
         let alloc = *self.journal.allocator();
-        let answer = answer(alloc, &mut self.store, &mut self.level, cred, &request);
-        if lacks_memory(&answer) {
-            return answer;
-        }
-        let copy = match answer.try_clone(alloc) {
-            Ok(copy) => copy,
-            Err(AllocError) => return Answer::Refused(Resource::NoMemory),
+        let answers = answer_twice(alloc, &mut self.store, &mut self.level, cred, &request);
+        let Some((answer, copy)) = answers else {
+            drop(request);
+            return Answer::Refused(Resource::NoMemory);
         };
         let event = Event::User(request, copy);
         enter(&mut self.journal, session, cred, event);
@@ -296,6 +294,32 @@ fn level_left(level: Level, request: &Request, answer: &Answer) -> Level
     match (request, answer) {
         (Request::SetLevel { level: new }, Answer::Served(_)) => *new,
         _ => level,
+    }
+}
+
+/// The answer to a call, which is done, and a copy of it; none where the call or the copy wants memory.
+fn answer_twice<F: FileStore>(
+    alloc: Global,
+    store: &mut F,
+    level: &mut Level,
+    cred: &Cred,
+    request: &Request,
+) -> Option<(Answer, Answer)>
+    requires { HasWorld (F.state store.old) }
+    ensures { MatchOption result
+        (IsAnswered (F.state store.old) (F.state store.new)
+        level.old level.new cred.now request.now (Answer.Refused Resource.NoMemory))
+        (λ both. (both.1 ≡ both.0) × (is_lack_of_memory both.0 ≡ false)
+        × IsAnswered (F.state store.old) (F.state store.new)
+        level.old level.new cred.now request.now both.0) }
+{
+    let answer = answer(alloc, store, level, cred, request);
+    if lacks_memory(&answer) {
+        return None;
+    }
+    match answer.try_clone(alloc) {
+        Ok(copy) => Some((answer, copy)),
+        Err(AllocError) => None,
     }
 }
 
