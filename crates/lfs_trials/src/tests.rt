@@ -1,14 +1,19 @@
 //! What no clause says of volumes, sessions and passes: that runs are made, and answered as they must be.
 
-mod asking;
 mod passes;
 mod sessions;
 mod steps;
 
 use lfs_logstore::LogStore;
+use lfs_text::plan::Plan;
+use lfs_text::print::append_answer;
+use lfs_text::script::parse_script;
+use lfs_types::answer::Answer;
 use lfs_types::store::Params;
 use lfs_volume::volume::Volume;
-use std::alloc::Global;
+use std::alloc::{AllocError, Global};
+use std::fmt::Debug;
+use std::process::Abort;
 use std::test::Fail;
 
 /// The numbers of a small volume.
@@ -23,4 +28,33 @@ const SMALL: Params = Params {
 fn fresh(alloc: Global, params: Params) -> Result<Volume<LogStore>, Fail> {
     let store = LogStore::format(alloc, params)?;
     Ok(Volume::new(alloc, store, params.journal)?)
+}
+
+/// The most bytes of a script.
+const SCRIPT_MAX: usize = 2_097_152;
+
+/// What a script asks.
+fn plan_of(alloc: Global, script: &str) -> Result<Plan, Fail> {
+    if script.len() > SCRIPT_MAX {
+        return Err(Fail::from("a long script"));
+    }
+    Ok(parse_script(alloc, script.as_bytes())?)
+}
+
+/// Appends the lines of answers to a session.
+fn append_answers(text: &mut Vec<u8>, session: u8, answers: &[Answer]) -> Result<(), AllocError> {
+    for answer in answers {
+        append_answer(text, session, answer)?;
+    }
+    Ok(())
+}
+
+/// Asserts that lines are as they must be.
+fn expect_lines(rt: &impl Abort, found: &[u8], wanted: &str) {
+    assert_eq!(rt; found, wanted.as_bytes());
+}
+
+/// Asserts that what was found is what is wanted. An assertion takes the prover a second or more, a call of this less.
+fn expect_eq<T: PartialEq + Debug + Drop>(rt: &impl Abort, found: T, wanted: T) {
+    assert_eq!(rt; found, wanted);
 }

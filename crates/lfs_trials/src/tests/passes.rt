@@ -45,19 +45,11 @@ fn infos(last: u32) -> Result<InfoList, Fail> {
     Ok(InfoList::new(&infos).ok_or("infos")?)
 }
 
-/// The answers to the calls of a round but the last.
-fn answers(alloc: Global) -> Result<Vec<CleanerAnswer>, Fail> {
-    let mut answers = Vec::new(alloc);
-    answers.push(CleanerAnswer::Ifile(Bytes::from(Vec::from_slice(alloc, &IFILE)?)))?;
-    answers.push(CleanerAnswer::Infos(infos(137)?))?;
-    answers.push(CleanerAnswer::Bmapv(infos(0)?))?;
-    answers.push(CleanerAnswer::Marked(8))?;
-    answers.push(CleanerAnswer::Marked(1))?;
-    Ok(answers)
-}
-
 /// A call in few words: its kind, and its segment or how many infos it has.
-fn told(call: Option<CleanerCall>) -> (&'static str, u32) {
+type InWords = (&'static str, u32);
+
+/// A call in few words; without one the pass is over.
+fn told(call: Option<CleanerCall>) -> InWords {
     match call {
         None => ("over", 0),
         Some(CleanerCall::Ifile) => ("ifile", 0),
@@ -68,8 +60,8 @@ fn told(call: Option<CleanerCall>) -> (&'static str, u32) {
     }
 }
 
-/// What a round calls behind the ifile, told these answers.
-const CALLS: [(&str, u32); 5] = [
+/// What a round calls behind the ifile.
+const CALLS: [InWords; 5] = [
     ("infos", 2),
     ("bmapv", 10),
     ("markv", 8),
@@ -77,49 +69,52 @@ const CALLS: [(&str, u32); 5] = [
     ("segclean", 2),
 ];
 
+/// What a pass is told before it makes the call of a round that stands at this place behind the ifile.
+fn answer(alloc: Global, place: usize) -> Result<CleanerAnswer, Fail> {
+    Ok(match place {
+        0 => CleanerAnswer::Ifile(Bytes::from(Vec::from_slice(alloc, &IFILE)?)),
+        1 => CleanerAnswer::Infos(infos(137)?),
+        2 => CleanerAnswer::Bmapv(infos(0)?),
+        3 => CleanerAnswer::Marked(8),
+        _ => CleanerAnswer::Marked(1),
+    })
+}
+
 /// Asserts that a pass that is told this calls so next.
-fn next_is(
-    rt: &impl Abort,
-    pass: &mut Pass,
-    last: Option<&CleanerAnswer>,
-    call: (&'static str, u32),
-) {
+fn next_is(rt: &impl Abort, pass: &mut Pass, last: Option<&CleanerAnswer>, call: InWords) {
     assert_eq!(rt; told(pass.next(last)), call);
 }
 
-/// Asserts that a pass that asked for the ifile makes these calls behind it.
-fn round_is_made(rt: &impl Abort, pass: &mut Pass, answers: &[CleanerAnswer]) {
-    for (answer, call) in answers.iter().zip(&CALLS) {
-        next_is(rt, pass, Some(answer), *call);
+/// Asserts that a pass that asked for the ifile makes these calls, told the answers of a round.
+fn calls_are(
+    rt: &impl Abort,
+    alloc: Global,
+    pass: &mut Pass,
+    calls: &[InWords],
+) -> Result<(), Fail> {
+    for (place, call) in calls.iter().enumerate() {
+        let answer = answer(alloc, place)?;
+        next_is(rt, pass, Some(&answer), *call);
     }
+    Ok(())
 }
 
 #[test]
 fn pass_has_three_rounds(rt: HostRuntime) -> Result<(), Fail> {
-    let answers = answers(rt.alloc())?;
     let mut pass = Pass::new();
     next_is(&rt, &mut pass, None, ("ifile", 0));
     for more in ["ifile", "ifile", "over"] {
-        round_is_made(&rt, &mut pass, answers.as_slice());
+        calls_are(&rt, rt.alloc(), &mut pass, &CALLS)?;
         next_is(&rt, &mut pass, Some(&CleanerAnswer::Cleaned), (more, 0));
     }
     Ok(())
 }
 
-/// Asserts that a pass is over, whatever it is told.
-fn is_over(rt: &impl Abort, pass: &mut Pass, answers: &[CleanerAnswer]) {
-    for answer in answers {
-        next_is(rt, pass, Some(answer), ("over", 0));
-    }
-}
-
 #[test]
 fn fault_ends_a_pass(rt: HostRuntime) -> Result<(), Fail> {
-    let answers = answers(rt.alloc())?;
-    let fault = [CleanerAnswer::Fault(CleanFault::NotDirty)];
+    let fault = CleanerAnswer::Fault(CleanFault::NotDirty);
     let mut pass = Pass::new();
     pass.next(None);
-    is_over(&rt, &mut pass, &fault);
-    is_over(&rt, &mut pass, answers.as_slice());
-    Ok(())
+    next_is(&rt, &mut pass, Some(&fault), ("over", 0));
+    calls_are(&rt, rt.alloc(), &mut pass, &[("over", 0); 5])
 }

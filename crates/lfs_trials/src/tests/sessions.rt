@@ -1,4 +1,4 @@
-//! Sessions: their scripts and answers, runs of them on threads, and settling.
+//! Sessions: runs of them on threads, and settling.
 
 mod gates;
 mod log;
@@ -7,22 +7,19 @@ mod settling;
 mod soak;
 mod watch;
 
-use crate::tests::SMALL;
-use crate::tests::asking::{Ask, request};
+use crate::tests::{SMALL, append_answers, expect_eq, plan_of};
 use lfs_logstore::LogStore;
 use lfs_server::gate::Gate;
 use lfs_server::serve::serve;
 use lfs_server::serving::{Closed, ServeFault, serve_over};
 use lfs_server::settle::{Unsettled, settle};
-use lfs_types::answer::{Answer, Served};
+use lfs_text::plan::{Act, Step};
+use lfs_types::answer::Answer;
 use lfs_types::cleaned::CleanedStore;
-use lfs_types::cred::Cred;
-use lfs_types::payload::Bytes;
-use lfs_types::request::{Place, Request};
 use lfs_types::script::Script;
 use lfs_types::store::FileStore;
 use lfs_volume::volume::Volume;
-use std::alloc::Global;
+use std::alloc::{AllocError, Global};
 use std::process::Abort;
 use std::sync::Wait;
 use std::test::Fail;
@@ -31,92 +28,85 @@ use std::thread::Threads;
 /// The session of the cleaner.
 const CLEANER: u8 = 255;
 
-/// The script of a user who makes these calls.
-fn script(alloc: Global, user: u32, asks: &[Ask<'_>]) -> Result<Script, Fail> {
-    let mut calls = Vec::new(alloc);
-    add(alloc, &mut calls, user, asks)?;
-    Ok(Script::from(calls))
-}
-
-/// Puts further calls of a user behind others.
-fn add(
-    alloc: Global,
-    calls: &mut Vec<(Cred, Request)>,
-    user: u32,
-    asks: &[Ask<'_>],
-) -> Result<(), Fail> {
-    let cred = Cred::new(user, &[user], false)?;
-    for ask in asks {
-        calls.push((cred, request(alloc, *ask)?))?;
-    }
-    Ok(())
-}
-
-/// So often Done.
-fn dones(alloc: Global, count: usize) -> Result<Vec<Answer>, Fail> {
-    let mut answers = Vec::new(alloc);
-    for _ in 0..count {
-        answers.push(Answer::Served(Served::Done))?;
-    }
-    Ok(answers)
-}
-
-/// So often Done, then these bytes.
-fn dones_and_bytes(alloc: Global, count: usize, bytes: &[u8]) -> Result<Vec<Answer>, Fail> {
-    let bytes = Bytes::from(Vec::from_slice(alloc, bytes)?);
-    let mut answers = dones(alloc, count)?;
-    answers.push(Answer::Served(Served::Bytes(bytes)))?;
-    Ok(answers)
-}
-
 /// The setup of two users' sessions makes a file for each.
-const BOTH_FILES: [Ask<'static>; 2] = [Ask::Create("/x", 0o666), Ask::Create("/y", 0o666)];
+const BOTH_FILES: &str = "create /x 0666\ncreate /y 0666\n";
 
-/// The two users and their files.
-const USERS: [(u32, &str); 2] = [(7, "/x"), (8, "/y")];
+/// That setup, and the sessions: each user writes two bytes into his file and reads it.
+const BOTH_USERS: &str = "\
+create /x 0666
+create /y 0666
+session 1
+as 7 7
+write /x end 6869
+read /x 0 9
+session 2
+as 8 8
+write /y end 6869
+read /y 0 9
+";
 
-/// The scripts of the first so many of the two users: each writes two bytes into his file and reads it.
-fn users_scripts(alloc: Global, count: usize) -> Result<Vec<Script>, Fail> {
-    let mut scripts = Vec::new(alloc);
-    for (user, path) in USERS.iter().take(count) {
-        let asks = [Ask::Write(path, Place::End, b"hi"), Ask::Read(path, 0, 9)];
-        scripts.push(script(alloc, *user, &asks)?)?;
-    }
-    Ok(scripts)
+/// What a script asks for in its setup, and in each session.
+fn split(alloc: Global, script: &str) -> Result<(Script, Vec<Script>), Fail> {
+    Ok(plan_of(alloc, script)?.split(alloc)?)
 }
 
-/// Runs these on a fresh volume over a log.
+/// Makes these users' calls.
+fn call_each<F: FileStore + Drop>(volume: &mut Volume<F>, steps: Vec<Step>) {
+    for step in steps {
+        let Step { session, cred, act } = step;
+        if let Act::User(request) = act {
+            volume.call(session, &cred, request);
+        }
+    }
+}
+
+/// Runs a script on a fresh volume over a log.
 fn serve_log<R: Threads + Wait + Sync, G: Gate>(
     rt: &R,
     alloc: Global,
-    setup: Script,
-    sessions: Vec<Script>,
+    script: &str,
     gate: &G,
 ) -> Result<Closed<LogStore>, Fail> {
+    let (setup, sessions) = split(alloc, script)?;
     Ok(serve(rt, alloc, SMALL, setup, sessions, gate)?)
 }
 
-/// Asserts that no session is no run.
+/// Asserts that a script without a session is not run.
 fn assert_no_run<R: Abort + Threads + Wait + Sync, F: CleanedStore + Send + Drop>(
     rt: &R,
     alloc: Global,
     volume: Volume<F>,
-    setup: Script,
-) {
-    let fault = serve_over(rt, alloc, volume, setup, Vec::new(alloc), &()).err();
-    assert_eq!(rt; fault, Some(ServeFault::Sessions));
+    script: &str,
+) -> Result<(), Fail> {
+    let (setup, sessions) = split(alloc, script)?;
+    let fault = serve_over(rt, alloc, volume, setup, sessions, &()).err();
+    expect_eq(rt, fault, Some(ServeFault::Sessions));
+    Ok(())
 }
 
-/// What settling says of a run of at most eight sessions.
+/// The lines of the answers to sessions, session 1's first.
+fn lines_of(alloc: Global, transcripts: &[Vec<Answer>]) -> Result<Vec<u8>, AllocError> {
+    let mut text = Vec::new(alloc);
+    let mut session = 0u8;
+    for transcript in transcripts {
+        session = session.saturating_add(1);
+        append_answers(&mut text, session, transcript.as_slice())?;
+    }
+    Ok(text)
+}
+
+/// What settling says of a script of at most eight sessions and of the answers to it.
 fn settled<F: FileStore + Drop>(
+    alloc: Global,
     volume: &Volume<F>,
-    setup: &Script,
+    script: &str,
     answers: &[Answer],
-    scripts: &[Script],
     transcripts: &[Vec<Answer>],
 ) -> Result<Result<(), Unsettled>, Fail> {
+    let (setup, scripts) = split(alloc, script)?;
+    let scripts = scripts.as_slice();
     if scripts.len() > 8 || transcripts.len() > 8 {
         return Err(Fail::from("more than eight sessions"));
     }
-    Ok(settle(volume, setup, answers, scripts, transcripts))
+    Ok(settle(volume, &setup, answers, scripts, transcripts))
 }

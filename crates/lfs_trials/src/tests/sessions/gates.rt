@@ -1,13 +1,14 @@
 //! What no clause says of a run over the log store: that sessions and the cleaner really run beside each other.
 
-use super::CLEANER;
-use super::log::{WRITES, assert_served, first_transcript, serve_users};
+use super::log::{FIRST, assert_served, both, setup};
 use super::watch::{Awaited, Watch};
+use super::{CLEANER, lines_of, serve_log};
+use crate::tests::expect_lines;
 use lfs_logstore::LogStore;
 use lfs_server::gate::Gate;
 use lfs_server::serving::Closed;
 use lfs_volume::journal::{CleanerKind, CleanerOutcome, Entry, Event};
-use std::alloc::Global;
+use std::alloc::{AllocError, Global};
 use std::process::Abort;
 use std::sync::Wait;
 use std::test::Fail;
@@ -41,15 +42,21 @@ impl<'a, R: Wait + Sync> Gate for Meeting<'a, R> {
     }
 }
 
+/// Asserts that no wait came to its limit.
+fn assert_unfailed(rt: &impl Abort, watch: &Watch<'_, impl Wait>) {
+    assert!(rt; !watch.has_failed());
+}
+
 #[test]
 fn two_sessions_meet(rt: HostRuntime) -> Result<(), Fail> {
     let alloc = rt.alloc();
     let gate = Meeting {
         watch: Watch::new(&rt, alloc),
     };
-    let closed = serve_users(&rt, alloc, WRITES, 2, &gate)?;
-    assert!(rt; !gate.watch.has_failed());
-    assert_served(&rt, alloc, &closed)
+    let script = both(alloc)?;
+    let closed = serve_log(&rt, alloc, script.as_str(), &gate)?;
+    assert_unfailed(&rt, &gate.watch);
+    assert_served(&rt, alloc, script.as_str(), &closed)
 }
 
 /// Which call of a pass is the first Bmapv.
@@ -78,29 +85,30 @@ impl<'a, R: Wait + Sync> Gate for Between<'a, R> {
     }
 }
 
-/// Where in a journal the cleaner's first entry of a kind stands; without a kind, session 1's first.
-fn place_of(journal: &[Entry], kind: Option<CleanerKind>) -> Option<usize> {
-    let mut place = 0usize;
+/// Whether session 1 made its first call between the cleaner's first Bmapv and its first Markv.
+fn is_called_between(journal: &[Entry]) -> bool {
+    let mut is_located = false;
+    let mut is_called = false;
     for entry in journal {
-        let is_it = match (&entry.event, kind) {
-            (Event::Cleaner(made, CleanerOutcome::Done(_)), Some(kind)) => *made == kind,
-            (Event::User(_, _), None) => entry.session == 1,
-            _ => false,
-        };
-        if is_it {
-            return Some(place);
+        match &entry.event {
+            Event::User(_, _) if entry.session == 1 && !is_located => return false,
+            Event::User(_, _) => is_called = is_called || entry.session == 1,
+            Event::Cleaner(CleanerKind::Bmapv, CleanerOutcome::Done(_)) => is_located = true,
+            Event::Cleaner(CleanerKind::Markv, CleanerOutcome::Done(_)) => return is_called,
+            Event::Cleaner(_, _) => {}
         }
-        place = place.saturating_add(1);
     }
-    None
+    false
 }
 
-/// Whether session 1 made its first call between the cleaner's first Bmapv and its first Markv.
-fn is_called_between(journal: &[Entry]) -> Result<bool, Fail> {
-    let bmapv = place_of(journal, Some(CleanerKind::Bmapv)).ok_or("no Bmapv")?;
-    let call = place_of(journal, None).ok_or("no call")?;
-    let markv = place_of(journal, Some(CleanerKind::Markv)).ok_or("no Markv")?;
-    Ok(bmapv < call && call < markv)
+/// The answers to the first user.
+const FIRST_ANSWERS: &str = "1 ok\n1 ok\n1 bytes 6869\n1 names a\n";
+
+/// The script of the first user, with the file written 25 times before.
+fn one(alloc: Global) -> Result<String, AllocError> {
+    let mut script = setup(alloc, 25)?;
+    script.push_str(FIRST)?;
+    Ok(script)
 }
 
 /// Asserts that session 1 called between the cleaner's Bmapv and Markv, and was answered as it must be.
@@ -109,9 +117,9 @@ fn assert_called_between(
     alloc: Global,
     closed: &Closed<LogStore>,
 ) -> Result<(), Fail> {
-    assert!(rt; is_called_between(closed.volume.journal())?);
-    let wanted = first_transcript(alloc, b"hi")?;
-    assert!(rt; closed.transcripts == wanted);
+    assert!(rt; is_called_between(closed.volume.journal()));
+    let lines = lines_of(alloc, closed.transcripts.as_slice())?;
+    expect_lines(rt, lines.as_slice(), FIRST_ANSWERS);
     Ok(())
 }
 
@@ -121,7 +129,8 @@ fn write_between_bmapv_and_markv(rt: HostRuntime) -> Result<(), Fail> {
     let gate = Between {
         watch: Watch::new(&rt, alloc),
     };
-    let closed = serve_users(&rt, alloc, 25, 1, &gate)?;
-    assert!(rt; !gate.watch.has_failed());
+    let script = one(alloc)?;
+    let closed = serve_log(&rt, alloc, script.as_str(), &gate)?;
+    assert_unfailed(&rt, &gate.watch);
     assert_called_between(&rt, alloc, &closed)
 }

@@ -1,158 +1,107 @@
 //! Runs of two users' sessions over the log store.
 
-use super::{add, assert_no_run, dones_and_bytes, script, serve_log, settled};
-use crate::tests::asking::Ask;
-use crate::tests::{SMALL, fresh};
+use super::{assert_no_run, lines_of, serve_log, settled};
+use crate::tests::{SMALL, expect_eq, expect_lines, fresh};
 use lfs_logstore::LogStore;
-use lfs_server::gate::Gate;
 use lfs_server::serving::Closed;
 use lfs_server::settle::Unsettled;
 use lfs_types::answer::{Answer, Served};
-use lfs_types::name::Name;
-use lfs_types::payload::Names;
-use lfs_types::request::Place;
-use lfs_types::rule::{Denial, Rule};
-use lfs_types::script::Script;
-use std::alloc::Global;
+use lfs_types::payload::Bytes;
+use std::alloc::{AllocError, Global};
 use std::process::Abort;
-use std::sync::Wait;
 use std::test::Fail;
-use std::thread::Threads;
 
 /// Two directories for all, and a file of the superuser's.
-const PLACES: [Ask<'static>; 3] = [
-    Ask::Mkdir("/x", 0o777),
-    Ask::Mkdir("/y", 0o777),
-    Ask::Create("/w", 0o644),
-];
+const PLACES: &str = "mkdir /x 0777\nmkdir /y 0777\ncreate /w 0644\n";
 
 /// The file is written and synced.
-const WRITTEN: [Ask<'static>; 2] = [Ask::Write("/w", Place::At(0), b"a"), Ask::Sync];
+const WRITTEN: &str = "write /w at 0 61\nsync\n";
 
 /// The setup makes these, and writes and syncs the file so often.
-fn setup(alloc: Global, writes: u32) -> Result<Script, Fail> {
-    let mut calls = Vec::new(alloc);
-    add(alloc, &mut calls, 0, &PLACES)?;
+pub fn setup(alloc: Global, writes: u32) -> Result<String, AllocError> {
+    let mut script = String::new(alloc);
+    script.push_str(PLACES)?;
     for _ in 0..writes {
-        add(alloc, &mut calls, 0, &WRITTEN)?;
+        script.push_str(WRITTEN)?;
     }
-    Ok(Script::from(calls))
+    Ok(script)
 }
 
 /// User 7 makes a file, writes and reads it, and lists its directory.
-const FIRST: [Ask<'static>; 4] = [
-    Ask::Create("/x/a", 0o644),
-    Ask::Write("/x/a", Place::End, b"hi"),
-    Ask::Read("/x/a", 0, 9),
-    Ask::List("/x"),
-];
+pub const FIRST: &str = "\
+session 1
+as 7 7
+create /x/a 0644
+write /x/a end 6869
+read /x/a 0 9
+list /x
+";
 
 /// User 8 makes a file, writes and reads it, and may not write the superuser's.
-const SECOND: [Ask<'static>; 4] = [
-    Ask::Create("/y/b", 0o600),
-    Ask::Write("/y/b", Place::End, b"o"),
-    Ask::Read("/y/b", 0, 1),
-    Ask::Write("/w", Place::At(0), b"b"),
-];
+const SECOND: &str = "\
+session 2
+as 8 8
+create /y/b 0600
+write /y/b end 6f
+read /y/b 0 1
+write /w at 0 62
+";
 
-/// That a user may not write the file.
-const DENIED_WRITE: Denial = Denial {
-    rule: Rule::GrantsWrite,
-    path: 0,
-    at: 1,
-};
-
-/// The two users and their calls.
-const USERS: [(u32, &[Ask<'static>]); 2] = [(7, &FIRST), (8, &SECOND)];
-
-/// The scripts of the first so many of them.
-fn scripts(alloc: Global, count: usize) -> Result<Vec<Script>, Fail> {
-    let mut scripts = Vec::new(alloc);
-    for (user, asks) in USERS.iter().take(count) {
-        scripts.push(script(alloc, *user, asks)?)?;
-    }
-    Ok(scripts)
-}
-
-/// The names in the directory of user 7.
-fn names(alloc: Global) -> Result<Names, Fail> {
-    let mut names = Vec::new(alloc);
-    names.push(Name::parse(alloc, b"a")?)?;
-    Ok(Names::from(names))
-}
-
-/// The answers to user 7, the bytes that were read given.
-fn first_answers(alloc: Global, bytes: &[u8]) -> Result<Vec<Answer>, Fail> {
-    let names = names(alloc)?;
-    let mut answers = dones_and_bytes(alloc, 2, bytes)?;
-    answers.push(Answer::Served(Served::Names(names)))?;
-    Ok(answers)
-}
-
-/// The answers to user 8.
-fn second_answers(alloc: Global) -> Result<Vec<Answer>, Fail> {
-    let mut answers = dones_and_bytes(alloc, 2, b"o")?;
-    answers.push(Answer::Denied(DENIED_WRITE))?;
-    Ok(answers)
-}
-
-/// The transcript of user 7 alone, the bytes that were read given.
-pub fn first_transcript(alloc: Global, bytes: &[u8]) -> Result<Vec<Vec<Answer>>, Fail> {
-    let mut transcripts = Vec::new(alloc);
-    transcripts.push(first_answers(alloc, bytes)?)?;
-    Ok(transcripts)
-}
-
-/// The transcripts of both, the bytes that user 7 read given.
-fn both_transcripts(alloc: Global, bytes: &[u8]) -> Result<Vec<Vec<Answer>>, Fail> {
-    let mut transcripts = first_transcript(alloc, bytes)?;
-    transcripts.push(second_answers(alloc)?)?;
-    Ok(transcripts)
-}
-
-/// Runs the sessions of the first so many of them, with the file written so often before.
-pub fn serve_users<R: Threads + Wait + Sync, G: Gate>(
-    rt: &R,
-    alloc: Global,
-    writes: u32,
-    count: usize,
-    gate: &G,
-) -> Result<Closed<LogStore>, Fail> {
-    let setup = setup(alloc, writes)?;
-    let scripts = scripts(alloc, count)?;
-    serve_log(rt, alloc, setup, scripts, gate)
-}
+/// The answers to both.
+const ANSWERS: &str = "\
+1 ok
+1 ok
+1 bytes 6869
+1 names a
+2 ok
+2 ok
+2 bytes 6f
+2 denied M2 EACCES 0 1
+";
 
 /// How often the file is written before the sessions of both.
-pub const WRITES: u32 = 40;
+const WRITES: u32 = 40;
 
-/// What settling says of a run of both, told what user 7 read.
-fn settled_as(
+/// The script of both, behind their setup.
+pub fn both(alloc: Global) -> Result<String, AllocError> {
+    let mut script = setup(alloc, WRITES)?;
+    script.push_str(FIRST)?;
+    script.push_str(SECOND)?;
+    Ok(script)
+}
+
+/// What settling says of a run of this script.
+fn run_settled(
     alloc: Global,
+    script: &str,
     closed: &Closed<LogStore>,
-    bytes: &[u8],
 ) -> Result<Result<(), Unsettled>, Fail> {
-    let setup = setup(alloc, WRITES)?;
-    let scripts = scripts(alloc, 2)?;
-    let transcripts = both_transcripts(alloc, bytes)?;
-    settled(
-        &closed.volume,
-        &setup,
-        closed.setup.as_slice(),
-        scripts.as_slice(),
-        transcripts.as_slice(),
-    )
+    let answers = closed.setup.as_slice();
+    let transcripts = closed.transcripts.as_slice();
+    settled(alloc, &closed.volume, script, answers, transcripts)
 }
 
 /// Asserts of a run of both that they were answered as they must be, and that this settles.
 pub fn assert_served(
     rt: &impl Abort,
     alloc: Global,
+    script: &str,
     closed: &Closed<LogStore>,
 ) -> Result<(), Fail> {
-    let wanted = both_transcripts(alloc, b"hi")?;
-    assert!(rt; closed.transcripts == wanted);
-    assert_eq!(rt; settled_as(alloc, closed, b"hi")?, Ok(()));
+    let lines = lines_of(alloc, closed.transcripts.as_slice())?;
+    expect_lines(rt, lines.as_slice(), ANSWERS);
+    expect_eq(rt, run_settled(alloc, script, closed)?, Ok(()));
+    Ok(())
+}
+
+/// Puts other bytes for those that user 7 read.
+fn put_other_bytes(alloc: Global, transcripts: &mut [Vec<Answer>]) -> Result<(), Fail> {
+    let bytes = Bytes::from(Vec::from_slice(alloc, b"ho")?);
+    if let Some(transcript) = transcripts.first_mut() {
+        if let Some(answer) = transcript.get_mut(2) {
+            *answer = Answer::Served(Served::Bytes(bytes));
+        }
+    }
     Ok(())
 }
 
@@ -160,26 +109,27 @@ pub fn assert_served(
 fn assert_only_so_served(
     rt: &impl Abort,
     alloc: Global,
-    closed: &Closed<LogStore>,
+    script: &str,
+    closed: &mut Closed<LogStore>,
 ) -> Result<(), Fail> {
-    assert_served(rt, alloc, closed)?;
-    let result = settled_as(alloc, closed, b"ho")?;
-    assert_eq!(rt; result, Err(Unsettled(1)));
+    assert_served(rt, alloc, script, closed)?;
+    put_other_bytes(alloc, closed.transcripts.as_mut_slice())?;
+    expect_eq(rt, run_settled(alloc, script, closed)?, Err(Unsettled(1)));
     Ok(())
 }
 
 #[test]
 fn two_sessions_run_over_a_log(rt: HostRuntime) -> Result<(), Fail> {
     let alloc = rt.alloc();
-    let closed = serve_users(&rt, alloc, WRITES, 2, &())?;
-    assert_only_so_served(&rt, alloc, &closed)
+    let script = both(alloc)?;
+    let mut closed = serve_log(&rt, alloc, script.as_str(), &())?;
+    assert_only_so_served(&rt, alloc, script.as_str(), &mut closed)
 }
 
 #[test]
 fn no_session_is_no_run_over_a_log(rt: HostRuntime) -> Result<(), Fail> {
     let alloc = rt.alloc();
-    let setup = setup(alloc, WRITES)?;
+    let script = setup(alloc, WRITES)?;
     let volume = fresh(alloc, SMALL)?;
-    assert_no_run(&rt, alloc, volume, setup);
-    Ok(())
+    assert_no_run(&rt, alloc, volume, script.as_str())
 }

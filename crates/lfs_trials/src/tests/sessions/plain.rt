@@ -1,14 +1,14 @@
 //! What no clause says of a run on threads: that it ends, and is handed out.
 
 use super::watch::{Awaited, Watch};
-use super::{BOTH_FILES, CLEANER, assert_no_run, script, settled, users_scripts};
+use super::{BOTH_FILES, BOTH_USERS, CLEANER, assert_no_run, settled, split};
+use crate::tests::expect_eq;
 use lfs_flatfiles::flat_files::FlatFiles;
 use lfs_server::gate::Gate;
 use lfs_server::serving::{Closed, serve_over};
 use lfs_types::attrs::Attrs;
 use lfs_types::cleaned::CleanedStore;
 use lfs_types::cleaner::{BlockInfo, CleanFault, InfoList, MarkList};
-use lfs_types::script::Script;
 use lfs_types::store::{Change, FileStore, StoreRefusal};
 use lfs_volume::volume::Volume;
 use std::alloc::{AllocError, Global};
@@ -89,36 +89,38 @@ fn plain_volume(alloc: Global, journal: u32) -> Result<Volume<Plain>, Fail> {
     Ok(Volume::new(alloc, Plain { files }, journal)?)
 }
 
-/// Runs these on such a volume.
+/// Runs a script on such a volume.
 fn serve_plain<R: Threads + Wait + Sync, G: Gate>(
     rt: &R,
     alloc: Global,
-    setup: Script,
-    sessions: Vec<Script>,
+    script: &str,
     gate: &G,
 ) -> Result<Closed<Plain>, Fail> {
+    let (setup, sessions) = split(alloc, script)?;
     let volume = plain_volume(alloc, 64)?;
     Ok(serve_over(rt, alloc, volume, setup, sessions, gate)?)
 }
 
+/// How many answers the setup had, how many sessions there were, and how many entries the journal has.
+fn sizes(closed: &Closed<Plain>) -> [usize; 3] {
+    [
+        closed.setup.len(),
+        closed.transcripts.len(),
+        closed.volume.journal().len(),
+    ]
+}
+
 #[test]
 fn sessions_run_on_threads(rt: HostRuntime) -> Result<(), Fail> {
-    let alloc = rt.alloc();
-    let setup = script(alloc, 0, &BOTH_FILES)?;
-    let closed = serve_plain(&rt, alloc, setup, users_scripts(alloc, 2)?, &())?;
-    assert_eq!(rt; closed.setup.len(), 2);
-    assert_eq!(rt; closed.transcripts.len(), 2);
-    assert_eq!(rt; closed.volume.journal().len(), 6);
+    let closed = serve_plain(&rt, rt.alloc(), BOTH_USERS, &())?;
+    expect_eq(&rt, sizes(&closed), [2, 2, 6]);
     Ok(())
 }
 
 #[test]
 fn no_session_is_no_run(rt: HostRuntime) -> Result<(), Fail> {
-    let alloc = rt.alloc();
-    let setup = script(alloc, 0, &BOTH_FILES)?;
-    let volume = plain_volume(alloc, 64)?;
-    assert_no_run(&rt, alloc, volume, setup);
-    Ok(())
+    let volume = plain_volume(rt.alloc(), 64)?;
+    assert_no_run(&rt, rt.alloc(), volume, BOTH_FILES)
 }
 
 /// Notes the calls that the cleaner begins.
@@ -145,41 +147,26 @@ fn assert_one_call(rt: &impl Abort, watch: &Watch<'_, impl Wait>) {
     assert!(rt; !watch.has(Awaited::Begun(CLEANER, 1)));
 }
 
-/// The script of one session, which makes both files.
-fn one_script(alloc: Global) -> Result<Vec<Script>, Fail> {
-    let mut scripts = Vec::new(alloc);
-    scripts.push(script(alloc, 0, &BOTH_FILES)?)?;
-    Ok(scripts)
-}
+/// One session makes both files.
+const ONE_SESSION: &str = "session 1\ncreate /x 0666\ncreate /y 0666\n";
 
 /// Asserts that one session was answered, twice, and that this settles.
 fn assert_one_session(rt: &impl Abort, alloc: Global, closed: &Closed<Plain>) -> Result<(), Fail> {
     let transcripts = closed.transcripts.as_slice();
-    assert_eq!(rt; transcripts.len(), 1);
-    assert_eq!(rt; transcripts[0].len(), 2);
-    let setup = Script::from(Vec::new(alloc));
-    let scripts = one_script(alloc)?;
     let answers = closed.setup.as_slice();
-    let result = settled(
-        &closed.volume,
-        &setup,
-        answers,
-        scripts.as_slice(),
-        transcripts,
-    )?;
-    assert_eq!(rt; result, Ok(()));
+    assert!(rt; transcripts.len() == 1 && transcripts[0].len() == 2);
+    let result = settled(alloc, &closed.volume, ONE_SESSION, answers, transcripts)?;
+    expect_eq(rt, result, Ok(()));
     Ok(())
 }
 
 #[test]
 fn session_is_run_and_settles(rt: HostRuntime) -> Result<(), Fail> {
     let alloc = rt.alloc();
-    let scripts = one_script(alloc)?;
-    let setup = Script::from(Vec::new(alloc));
     let gate = Cleanings {
         watch: Watch::new(&rt, alloc),
     };
-    let closed = serve_plain(&rt, alloc, setup, scripts, &gate)?;
+    let closed = serve_plain(&rt, alloc, ONE_SESSION, &gate)?;
     assert_one_call(&rt, &gate.watch);
     assert_one_session(&rt, alloc, &closed)
 }

@@ -1,42 +1,58 @@
 //! What no clause says of settling: that a run that was really made settles.
 
-use super::{BOTH_FILES, dones, dones_and_bytes, script, settled, users_scripts};
-use crate::tests::asking::{Ask, request};
+use super::{BOTH_USERS, call_each, settled};
+use crate::tests::{expect_eq, plan_of};
 use lfs_flatfiles::flat_files::FlatFiles;
 use lfs_server::settle::Unsettled;
-use lfs_types::answer::Answer;
-use lfs_types::cred::Cred;
-use lfs_types::request::{Place, Request};
-use lfs_types::script::Script;
+use lfs_types::answer::{Answer, Served};
+use lfs_types::payload::Bytes;
 use lfs_volume::volume::Volume;
-use std::alloc::Global;
+use std::alloc::{AllocError, Global};
 use std::process::Abort;
 use std::test::Fail;
 
-/// Calls with their session and user: the setup, and two sessions whose calls alternate.
-const RUN: [(u8, u32, Ask<'static>); 6] = [
-    (0, 0, Ask::Create("/x", 0o666)),
-    (0, 0, Ask::Create("/y", 0o666)),
-    (2, 8, Ask::Write("/y", Place::End, b"hi")),
-    (1, 7, Ask::Write("/x", Place::End, b"hi")),
-    (1, 7, Ask::Read("/x", 0, 9)),
-    (2, 8, Ask::Read("/y", 0, 9)),
-];
+/// The calls of both users, which alternate.
+const RUN: &str = "\
+create /x 0666
+create /y 0666
+session 2
+as 8 8
+write /y end 6869
+session 1
+as 7 7
+write /x end 6869
+read /x 0 9
+session 2
+as 8 8
+read /y 0 9
+";
 
-/// A volume over the plain store, with this limit of its journal.
-fn flat_volume(alloc: Global, journal: u32) -> Result<Volume<FlatFiles>, Fail> {
+/// What the first of them asks for, and the setup.
+const FIRST_ALONE: &str = "\
+create /x 0666
+create /y 0666
+session 1
+as 7 7
+write /x end 6869
+read /x 0 9
+";
+
+/// Makes the calls of a script on a volume over the plain store, in the order of its lines, with this limit of its
+/// journal.
+fn run(alloc: Global, script: &str, journal: u32) -> Result<Volume<FlatFiles>, Fail> {
     let files = FlatFiles::new(alloc, 16)?;
-    Ok(Volume::new(alloc, files, journal)?)
+    let mut volume = Volume::new(alloc, files, journal)?;
+    call_each(&mut volume, plan_of(alloc, script)?.into_steps());
+    Ok(volume)
 }
 
-/// Makes these calls.
-fn run(alloc: Global, volume: &mut Volume<FlatFiles>) -> Result<(), Fail> {
-    for (session, user, ask) in &RUN {
-        let cred = Cred::new(*user, &[*user], false)?;
-        let request = request(alloc, *ask)?;
-        volume.call(*session, &cred, request);
+/// So often Done.
+fn dones(alloc: Global, count: usize) -> Result<Vec<Answer>, AllocError> {
+    let mut answers = Vec::new(alloc);
+    for _ in 0..count {
+        answers.push(Answer::Served(Served::Done))?;
     }
-    Ok(())
+    Ok(answers)
 }
 
 /// What is told of this run, and what settling then says.
@@ -44,52 +60,55 @@ fn run(alloc: Global, volume: &mut Volume<FlatFiles>) -> Result<(), Fail> {
 struct Told {
     /// How many answers the setup had.
     answers: usize,
-    /// How many sessions had a script.
-    scripts: usize,
+    /// What the setup and the sessions asked.
+    script: &'static str,
     /// What each session read.
     reads: &'static [&'static [u8]],
     want: Result<(), Unsettled>,
 }
 
-/// The transcripts of sessions that read these bytes.
-fn transcripts(alloc: Global, reads: &[&[u8]]) -> Result<Vec<Vec<Answer>>, Fail> {
+/// The transcripts of sessions that were answered Done, and read these bytes.
+fn transcripts(alloc: Global, reads: &[&[u8]]) -> Result<Vec<Vec<Answer>>, AllocError> {
     let mut transcripts = Vec::new(alloc);
     for bytes in reads {
-        transcripts.push(dones_and_bytes(alloc, 1, bytes)?)?;
+        transcripts.push(transcript(alloc, bytes)?)?;
     }
     Ok(transcripts)
 }
 
-/// What settling says of the run, told so.
-fn settled_as(
+/// The transcript of such a session.
+fn transcript(alloc: Global, bytes: &[u8]) -> Result<Vec<Answer>, AllocError> {
+    let bytes = Bytes::from(Vec::from_slice(alloc, bytes)?);
+    let mut answers = dones(alloc, 1)?;
+    answers.push(Answer::Served(Served::Bytes(bytes)))?;
+    Ok(answers)
+}
+
+/// Asserts that settling says of the run what it must, told so.
+fn settle_as(
+    rt: &impl Abort,
     alloc: Global,
     volume: &Volume<FlatFiles>,
     told: &Told,
-) -> Result<Result<(), Unsettled>, Fail> {
-    let setup = script(alloc, 0, &BOTH_FILES)?;
+) -> Result<(), Fail> {
     let answers = dones(alloc, told.answers)?;
-    let scripts = users_scripts(alloc, told.scripts)?;
     let transcripts = transcripts(alloc, told.reads)?;
-    settled(
+    let result = settled(
+        alloc,
         volume,
-        &setup,
+        told.script,
         answers.as_slice(),
-        scripts.as_slice(),
         transcripts.as_slice(),
-    )
+    )?;
+    expect_eq(rt, result, told.want);
+    Ok(())
 }
 
 /// Makes the run, and asserts of each case that settling says what it must.
-fn settle_each(
-    rt: &impl Abort,
-    alloc: Global,
-    volume: &mut Volume<FlatFiles>,
-    cases: &[Told],
-) -> Result<(), Fail> {
-    run(alloc, volume)?;
-    for (index, told) in cases.iter().enumerate() {
-        let result = settled_as(alloc, volume, told)?;
-        assert_eq!(rt; result, told.want, "at {index}");
+fn settle_each(rt: &impl Abort, alloc: Global, cases: &[Told]) -> Result<(), Fail> {
+    let volume = run(alloc, RUN, 8)?;
+    for told in cases {
+        settle_as(rt, alloc, &volume, told)?;
     }
     Ok(())
 }
@@ -98,13 +117,13 @@ fn settle_each(
 const AS_ANSWERED: [Told; 2] = [
     Told {
         answers: 2,
-        scripts: 2,
+        script: BOTH_USERS,
         reads: &[b"hi", b"hi"],
         want: Ok(()),
     },
     Told {
         answers: 2,
-        scripts: 2,
+        script: BOTH_USERS,
         reads: &[b"ho", b"hi"],
         want: Err(Unsettled(1)),
     },
@@ -112,34 +131,32 @@ const AS_ANSWERED: [Told; 2] = [
 
 #[test]
 fn two_sessions_settle(rt: HostRuntime) -> Result<(), Fail> {
-    let alloc = rt.alloc();
-    let mut volume = flat_volume(alloc, 8)?;
-    settle_each(&rt, alloc, &mut volume, &AS_ANSWERED)
+    settle_each(&rt, rt.alloc(), &AS_ANSWERED)
 }
 
 /// A setup with too few answers, a script and a transcript without the other, and a session that has neither.
 const WITHOUT_A_PART: [Told; 4] = [
     Told {
         answers: 1,
-        scripts: 2,
+        script: BOTH_USERS,
         reads: &[b"ho", b"ho"],
         want: Err(Unsettled(0)),
     },
     Told {
         answers: 2,
-        scripts: 1,
+        script: FIRST_ALONE,
         reads: &[b"ho", b"ho"],
         want: Err(Unsettled(1)),
     },
     Told {
         answers: 2,
-        scripts: 2,
+        script: BOTH_USERS,
         reads: &[b"hi"],
         want: Err(Unsettled(2)),
     },
     Told {
         answers: 2,
-        scripts: 1,
+        script: FIRST_ALONE,
         reads: &[b"hi"],
         want: Err(Unsettled(255)),
     },
@@ -147,35 +164,35 @@ const WITHOUT_A_PART: [Told; 4] = [
 
 #[test]
 fn lowest_session_is_named(rt: HostRuntime) -> Result<(), Fail> {
-    let alloc = rt.alloc();
-    let mut volume = flat_volume(alloc, 8)?;
-    settle_each(&rt, alloc, &mut volume, &WITHOUT_A_PART)
+    settle_each(&rt, rt.alloc(), &WITHOUT_A_PART)
 }
 
 /// How many calls each of eight sessions makes.
 const CALLS: usize = 12_500;
 
-/// A user's script of so many Syncs.
-fn syncs(alloc: Global) -> Result<Script, Fail> {
-    let cred = Cred::new(7, &[7], false)?;
-    let mut calls = Vec::new(alloc);
-    for _ in 0..CALLS {
-        calls.push((cred, Request::Sync))?;
-    }
-    Ok(Script::from(calls))
-}
+/// One call of each, of a user.
+const ROUND: &str = "\
+as 7 7
+session 1
+sync
+session 2
+sync
+session 3
+sync
+session 4
+sync
+session 5
+sync
+session 6
+sync
+session 7
+sync
+session 8
+sync
+";
 
-/// The scripts of eight sessions.
-fn eight_scripts(alloc: Global) -> Result<Vec<Script>, Fail> {
-    let mut scripts = Vec::new(alloc);
-    for _ in 0..8 {
-        scripts.push(syncs(alloc)?)?;
-    }
-    Ok(scripts)
-}
-
-/// The answers to them.
-fn eight_transcripts(alloc: Global) -> Result<Vec<Vec<Answer>>, Fail> {
+/// The answers to eight sessions.
+fn eight_transcripts(alloc: Global) -> Result<Vec<Vec<Answer>>, AllocError> {
     let mut transcripts = Vec::new(alloc);
     for _ in 0..8 {
         transcripts.push(dones(alloc, CALLS)?)?;
@@ -183,39 +200,16 @@ fn eight_transcripts(alloc: Global) -> Result<Vec<Vec<Answer>>, Fail> {
     Ok(transcripts)
 }
 
-/// A volume with a journal of 100,000 entries, of eight sessions in turn.
-fn long_run(alloc: Global) -> Result<Volume<FlatFiles>, Fail> {
-    let cred = Cred::new(7, &[7], false)?;
-    let mut volume = flat_volume(alloc, 100_000)?;
-    for _ in 0..CALLS {
-        for session in 1..=8 {
-            volume.call(session, &cred, Request::Sync);
-        }
-    }
-    Ok(volume)
-}
-
-/// What settling says of it.
-fn long_run_settled(
-    alloc: Global,
-    volume: &Volume<FlatFiles>,
-) -> Result<Result<(), Unsettled>, Fail> {
-    let setup = Script::from(Vec::new(alloc));
-    let scripts = eight_scripts(alloc)?;
+/// Makes the calls of eight sessions in turn, so that a journal has 100,000 entries, and gives what settling says.
+fn long_run_settled(alloc: Global) -> Result<Result<(), Unsettled>, Fail> {
+    let script = ROUND.repeat(alloc, CALLS)?;
     let transcripts = eight_transcripts(alloc)?;
-    settled(
-        volume,
-        &setup,
-        &[],
-        scripts.as_slice(),
-        transcripts.as_slice(),
-    )
+    let volume = run(alloc, script.as_str(), 100_000)?;
+    settled(alloc, &volume, script.as_str(), &[], transcripts.as_slice())
 }
 
 #[test]
 fn hundred_thousand_entries_settle(rt: HostRuntime) -> Result<(), Fail> {
-    let alloc = rt.alloc();
-    let volume = long_run(alloc)?;
-    assert_eq!(rt; long_run_settled(alloc, &volume)?, Ok(()));
+    expect_eq(&rt, long_run_settled(rt.alloc())?, Ok(()));
     Ok(())
 }

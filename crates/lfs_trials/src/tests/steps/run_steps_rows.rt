@@ -1,137 +1,110 @@
 //! Worked cases as runs of steps, with every answer compared.
 
-use super::{DEFAULTS, Row, Want, first_block, is_answer, run, run_fresh};
-use crate::tests::asking::{Ask, request};
-use crate::tests::{SMALL, fresh};
+use super::{DEFAULTS, run, run_fresh};
+use crate::tests::{SMALL, append_answers, expect_eq, expect_lines, fresh, plan_of};
 use lfs_logstore::LogStore;
-use lfs_types::answer::{Answer, Resource};
-use lfs_types::cleaner::{BlockInfo, CleanFault, CleanerCall};
+use lfs_text::plan;
+use lfs_types::cleaner::CleanerCall;
 use lfs_types::cred::Cred;
-use lfs_types::request::Place;
-use lfs_types::rule::{Denial, Rule};
 use lfs_types::store::Params;
 use lfs_volume::journal::{Call, CleanerAnswer, CleanerKind, CleanerOutcome, Entry, Event};
 use lfs_volume::volume::Volume;
-use std::alloc::Global;
+use std::alloc::{AllocError, Global};
 use std::process::Abort;
 use std::test::Fail;
 
-/// That a user may not write `/a`.
-const DENIED_WRITE: Denial = Denial {
-    rule: Rule::GrantsWrite,
-    path: 0,
-    at: 1,
-};
-
-/// That a call is the superuser's alone.
-const DENIED_CLEANING: Denial = Denial {
-    rule: Rule::IsSuperuser,
-    path: 0,
-    at: 0,
-};
-
 /// The superuser makes and writes a file; user 5 reads it, and may not write it.
-const OWNER_AND_STRANGER: [Row<'static>; 4] = [
-    (0, Ask::Create("/a", 0o644), Want::Done),
-    (0, Ask::Write("/a", Place::At(0), b"abc"), Want::Done),
-    (5, Ask::Read("/a", 0, 512), Want::Bytes(b"abc")),
-    (
-        5,
-        Ask::Write("/a", Place::At(0), b"d"),
-        Want::Denied(DENIED_WRITE),
-    ),
-];
+const OWNER_AND_STRANGER: &str = "\
+session 3
+create /a 0644
+write /a at 0 616263
+as 5 5
+read /a 0 512
+write /a at 0 64
+";
+
+/// The answers to them.
+const TO_STRANGER: &str = "3 ok\n3 ok\n3 bytes 616263\n3 denied M2 EACCES 0 1\n";
 
 #[test]
 fn owner_writes_and_stranger_only_reads(rt: HostRuntime) -> Result<(), Fail> {
-    run_fresh(&rt, rt.alloc(), &OWNER_AND_STRANGER)
+    run_fresh(&rt, rt.alloc(), OWNER_AND_STRANGER, TO_STRANGER)
 }
 
-/// A file is written and removed, and another of its number is written.
-const NUMBER_GIVEN_OUT_AGAIN: [Row<'static>; 7] = [
-    (0, Ask::Create("/v", 0o644), Want::Done),
-    (0, Ask::Write("/v", Place::At(0), b"a"), Want::Done),
-    (0, Ask::Sync, Want::Done),
-    (0, Ask::Unlink("/v"), Want::Done),
-    (0, Ask::Create("/v", 0o644), Want::Done),
-    (0, Ask::Write("/v", Place::At(0), b"b"), Want::Done),
-    (0, Ask::Sync, Want::Done),
-];
+/// A file is written and removed, and another of its number is written. Then the first file's block is named with each
+/// address from 1 to 63, and the other is read and shown.
+const NUMBER_GIVEN_OUT_AGAIN: &str = "\
+session 3
+create /v 0644
+write /v at 0 61
+sync
+unlink /v
+create /v 0644
+write /v at 0 62
+sync
+markv 4:1:0:1 4:1:0:2 4:1:0:3 4:1:0:4 4:1:0:5 4:1:0:6 4:1:0:7 4:1:0:8
+markv 4:1:0:9 4:1:0:10 4:1:0:11 4:1:0:12 4:1:0:13 4:1:0:14 4:1:0:15 4:1:0:16
+markv 4:1:0:17 4:1:0:18 4:1:0:19 4:1:0:20 4:1:0:21 4:1:0:22 4:1:0:23 4:1:0:24
+markv 4:1:0:25 4:1:0:26 4:1:0:27 4:1:0:28 4:1:0:29 4:1:0:30 4:1:0:31 4:1:0:32
+markv 4:1:0:33 4:1:0:34 4:1:0:35 4:1:0:36 4:1:0:37 4:1:0:38 4:1:0:39 4:1:0:40
+markv 4:1:0:41 4:1:0:42 4:1:0:43 4:1:0:44 4:1:0:45 4:1:0:46 4:1:0:47 4:1:0:48
+markv 4:1:0:49 4:1:0:50 4:1:0:51 4:1:0:52 4:1:0:53 4:1:0:54 4:1:0:55 4:1:0:56
+markv 4:1:0:57 4:1:0:58 4:1:0:59 4:1:0:60 4:1:0:61 4:1:0:62 4:1:0:63
+read /v 0 512
+stat /v
+";
 
-/// What is then read and shown of it.
-const SECOND_FILE: [Row<'static>; 2] = [
-    (0, Ask::Read("/v", 0, 512), Want::Bytes(b"b")),
-    (0, Ask::Stat("/v"), Want::File(4, 1)),
-];
-
-/// The first block of the first file of number 4, at each address from 1 to 63.
-fn stale_blocks(alloc: Global) -> Result<Vec<BlockInfo>, Fail> {
-    let mut infos = Vec::new(alloc);
-    for addr in 1..64 {
-        infos.push(first_block(addr))?;
-    }
-    Ok(infos)
-}
-
-/// Names the blocks eight at a time, and asserts that none is written again.
-fn mark_stale_blocks(
-    rt: &impl Abort,
-    alloc: Global,
-    volume: &mut Volume<LogStore>,
-) -> Result<(), Fail> {
-    let infos = stale_blocks(alloc)?;
-    for eight in infos.as_slice().chunks(8) {
-        let rows = [(0, Ask::Markv(eight), Want::Marked(0))];
-        run(rt, alloc, volume, &rows)?;
-    }
-    Ok(())
-}
-
-/// Has the number given out again, and names the first file's blocks.
-fn name_first_file(
-    rt: &impl Abort,
-    alloc: Global,
-    volume: &mut Volume<LogStore>,
-) -> Result<(), Fail> {
-    run(rt, alloc, volume, &NUMBER_GIVEN_OUT_AGAIN)?;
-    mark_stale_blocks(rt, alloc, volume)?;
-    run(rt, alloc, volume, &SECOND_FILE)
-}
+/// The answers: no block is written again.
+const NONE_WRITTEN_AGAIN: &str = "\
+3 ok
+3 ok
+3 ok
+3 ok
+3 ok
+3 ok
+3 ok
+3 Marked(0)
+3 Marked(0)
+3 Marked(0)
+3 Marked(0)
+3 Marked(0)
+3 Marked(0)
+3 Marked(0)
+3 Marked(0)
+3 bytes 62
+3 stat 4 file 0 0 0644 00000000 1
+";
 
 #[test]
 fn stale_info_of_a_number_given_out_again(rt: HostRuntime) -> Result<(), Fail> {
-    let alloc = rt.alloc();
-    let mut volume = fresh(alloc, DEFAULTS)?;
-    name_first_file(&rt, alloc, &mut volume)
+    run_fresh(&rt, rt.alloc(), NUMBER_GIVEN_OUT_AGAIN, NONE_WRITTEN_AGAIN)
 }
 
-/// The info of the first block of file 4 among those of segment 0.
-fn info_in_first_segment(volume: &mut Volume<LogStore>) -> Result<BlockInfo, Fail> {
+/// The address of the first block of file 4, by the infos of segment 0.
+fn address_in_first_segment(volume: &mut Volume<LogStore>) -> Result<u32, Fail> {
     let root = Cred::new(0, &[0], false)?;
     let CleanerAnswer::Infos(infos) = volume.clean(3, &root, CleanerCall::Infos(0)) else {
         return Err(Fail::from("no infos"));
     };
     for info in infos.items() {
-        if *info == first_block(info.addr) {
-            return Ok(*info);
+        if (info.ino, info.version, info.lbn) == (4, 1, 0) {
+            return Ok(info.addr);
         }
     }
     Err(Fail::from("no such info"))
 }
 
 /// A file is written, and another one made.
-const TWO_FILES: [Row<'static>; 4] = [
-    (0, Ask::Create("/a", 0o644), Want::Done),
-    (0, Ask::Write("/a", Place::At(0), b"old"), Want::Done),
-    (0, Ask::Sync, Want::Done),
-    (0, Ask::Create("/b", 0o644), Want::Done),
-];
+const TWO_FILES: &str = "\
+session 3
+create /a 0644
+write /a at 0 6f6c64
+sync
+create /b 0644
+";
 
 /// The other is written.
-const FURTHER_WRITE: [Row<'static>; 2] = [
-    (0, Ask::Write("/b", Place::At(0), b"b"), Want::Done),
-    (0, Ask::Sync, Want::Done),
-];
+const FURTHER_WRITE: &str = "session 3\nwrite /b at 0 62\nsync\n";
 
 /// Overwrites a block between its Bmapv and its Markv, and asserts that it isn't written again.
 fn overwrite_and_mark(
@@ -139,15 +112,14 @@ fn overwrite_and_mark(
     alloc: Global,
     volume: &mut Volume<LogStore>,
 ) -> Result<(), Fail> {
-    let old = [info_in_first_segment(volume)?];
-    let rows = [
-        (0, Ask::Bmapv(&old), Want::Infos(&old)),
-        (0, Ask::Write("/a", Place::At(0), b"new"), Want::Done),
-        (0, Ask::Sync, Want::Done),
-        (0, Ask::Markv(&old), Want::Marked(0)),
-        (0, Ask::Read("/a", 0, 512), Want::Bytes(b"new")),
-    ];
-    run(rt, alloc, volume, &rows)
+    let old = address_in_first_segment(volume)?;
+    let script = format!(in alloc;
+        "session 3\nbmapv 4:1:0:{old}\nwrite /a at 0 6e6577\nsync\nmarkv 4:1:0:{old}\nread /a 0 512\n"
+    )?;
+    let wanted = format!(in alloc;
+        "3 Bmapv(BlockInfos {{ items: [BlockInfo {{ ino: 4, version: 1, lbn: 0, addr: {old} }}] }})\n3 ok\n3 ok\n3 Marked(0)\n3 bytes 6e6577\n"
+    )?;
+    run(rt, alloc, volume, script.as_str(), wanted.as_str())
 }
 
 /// Fills the first segment, and goes on with its file's block. A segment has 64 blocks, and each Write takes three.
@@ -156,69 +128,62 @@ fn leave_first_segment(
     alloc: Global,
     volume: &mut Volume<LogStore>,
 ) -> Result<(), Fail> {
-    run(rt, alloc, volume, &TWO_FILES)?;
+    run(rt, alloc, volume, TWO_FILES, "3 ok\n3 ok\n3 ok\n3 ok\n")?;
     for _ in 0..25 {
-        run(rt, alloc, volume, &FURTHER_WRITE)?;
+        run(rt, alloc, volume, FURTHER_WRITE, "3 ok\n3 ok\n")?;
     }
     overwrite_and_mark(rt, alloc, volume)
 }
 
 #[test]
 fn overwritten_block_is_not_written_again(rt: HostRuntime) -> Result<(), Fail> {
-    let alloc = rt.alloc();
-    let mut volume = fresh(alloc, SMALL)?;
-    leave_first_segment(&rt, alloc, &mut volume)
+    let mut volume = fresh(rt.alloc(), SMALL)?;
+    leave_first_segment(&rt, rt.alloc(), &mut volume)
 }
 
-/// A path of a name of so many bytes, which ends with this number.
-fn long_path(alloc: Global, length: usize, number: u32) -> Result<String, Fail> {
-    let mut path = String::new(alloc);
-    path.push('/')?;
-    for _ in 3..length {
-        path.push('n')?;
+/// Appends a Create of a name of so many letters and a number of three digits.
+fn push_create(script: &mut String, letters: usize, number: u32) -> Result<(), AllocError> {
+    script.push_str("create /")?;
+    for _ in 0..letters {
+        script.push('n')?;
     }
-    write!(path, "{number:03}")?;
-    Ok(path)
+    writeln!(script, "{number:03} 0644")
 }
 
-/// The paths of 141 names of 255 bytes, and of one of 247.
-fn long_paths(alloc: Global) -> Result<Vec<String>, Fail> {
-    let mut paths = Vec::new(alloc);
-    for number in 0..142 {
-        let length = if number < 141 { 255 } else { 247 };
-        paths.push(long_path(alloc, length, number)?)?;
+/// A file is made of each of 141 names of 255 bytes, and of one of 247.
+fn long_names(alloc: Global) -> Result<String, AllocError> {
+    let mut script = String::new(alloc);
+    script.push_str("session 3\n")?;
+    for number in 0..141 {
+        push_create(&mut script, 252, number)?;
     }
-    Ok(paths)
+    push_create(&mut script, 244, 141)?;
+    Ok(script)
 }
 
-/// A file of each of these names is made, and the 141st is refused.
-fn long_rows(alloc: Global, paths: &[String]) -> Result<Vec<Row<'_>>, Fail> {
-    let mut rows = Vec::new(alloc);
-    for (number, path) in paths.iter().enumerate() {
-        let want = if number == 140 {
-            Want::Refused(Resource::DirectoryFull)
-        } else {
-            Want::Done
-        };
-        rows.push((0, Ask::Create(path.as_str(), 0o644), want))?;
-    }
-    Ok(rows)
+/// The answers: the 141st name is refused.
+fn long_answers(alloc: Global) -> Result<String, AllocError> {
+    let mut answers = "3 ok\n".repeat(alloc, 140)?;
+    answers.push_str("3 refused DirectoryFull\n3 ok\n")?;
+    Ok(answers)
 }
 
 #[test]
 fn directory_of_long_names(rt: HostRuntime) -> Result<(), Fail> {
-    let alloc = rt.alloc();
-    let paths = long_paths(alloc)?;
-    let rows = long_rows(alloc, paths.as_slice())?;
-    run_fresh(&rt, alloc, rows.as_slice())
+    let script = long_names(rt.alloc())?;
+    let answers = long_answers(rt.alloc())?;
+    run_fresh(&rt, rt.alloc(), script.as_str(), answers.as_str())
 }
 
 /// User 5 makes calls of the cleaner.
-const STRANGERS_CLEANING: [Row<'static>; 3] = [
-    (5, Ask::Ifile, Want::Denied(DENIED_CLEANING)),
-    (5, Ask::Markv(&[]), Want::Denied(DENIED_CLEANING)),
-    (5, Ask::Segclean(0), Want::Denied(DENIED_CLEANING)),
-];
+const STRANGERS_CLEANING: &str = "session 3\nas 5 5\nifile\nmarkv\nsegclean 0\n";
+
+/// The answers to them.
+const CLEANING_DENIED: &str = "\
+3 Denied(Denial { rule: IsSuperuser, path: 0, at: 0 })
+3 Denied(Denial { rule: IsSuperuser, path: 0, at: 0 })
+3 Denied(Denial { rule: IsSuperuser, path: 0, at: 0 })
+";
 
 /// Whether a journal has one entry for each of these kinds, in order, each of a call that was denied.
 fn are_denied(journal: &[Entry], kinds: &[CleanerKind]) -> bool {
@@ -238,53 +203,49 @@ const KINDS: [CleanerKind; 3] = [
     CleanerKind::Segclean,
 ];
 
-/// Makes the calls, and asserts that each is entered as denied.
-fn deny_stranger(
-    rt: &impl Abort,
-    alloc: Global,
-    volume: &mut Volume<LogStore>,
-) -> Result<(), Fail> {
-    run(rt, alloc, volume, &STRANGERS_CLEANING)?;
-    assert!(rt; are_denied(volume.journal(), &KINDS));
+#[test]
+fn cleaner_calls_by_a_stranger(rt: HostRuntime) -> Result<(), Fail> {
+    let mut volume = fresh(rt.alloc(), DEFAULTS)?;
+    run(
+        &rt,
+        rt.alloc(),
+        &mut volume,
+        STRANGERS_CLEANING,
+        CLEANING_DENIED,
+    )?;
+    expect_eq(&rt, are_denied(volume.journal(), &KINDS), true);
     Ok(())
 }
 
-#[test]
-fn cleaner_calls_by_a_stranger(rt: HostRuntime) -> Result<(), Fail> {
-    let alloc = rt.alloc();
-    let mut volume = fresh(alloc, DEFAULTS)?;
-    deny_stranger(&rt, alloc, &mut volume)
-}
-
 /// The superuser's calls where no segment is dirty.
-const CLEANING: [Row<'static>; 4] = [
-    (0, Ask::Ifile, Want::Ifile(3596)),
-    (0, Ask::Segclean(64), Want::Fault(CleanFault::NoSuchSegment)),
-    (0, Ask::Segclean(0), Want::Fault(CleanFault::Active)),
-    (0, Ask::Segclean(1), Want::Fault(CleanFault::NotDirty)),
-];
+const CLEANING: &str = "session 3\nifile\nsegclean 64\nsegclean 0\nsegclean 1\n";
+
+/// The answers to them.
+const NOTHING_CLEANED: &str = "\
+3 Ifile of 3596 bytes
+3 Fault(NoSuchSegment)
+3 Fault(Active)
+3 Fault(NotDirty)
+";
 
 #[test]
 fn cleaner_calls_on_a_fresh_volume(rt: HostRuntime) -> Result<(), Fail> {
-    run_fresh(&rt, rt.alloc(), &CLEANING)
+    run_fresh(&rt, rt.alloc(), CLEANING, NOTHING_CLEANED)
 }
 
-/// A user's call.
-fn call(alloc: Global, user: u32, ask: Ask<'_>) -> Result<Call, Fail> {
-    let cred = Cred::new(user, &[user], false)?;
-    let request = request(alloc, ask)?;
-    let session = 3;
-    Ok(Call {
-        session,
-        cred,
-        request,
-    })
-}
-
-fn calls(alloc: Global, rows: &[Row<'_>]) -> Result<Vec<Call>, Fail> {
+/// The users' calls of a script.
+fn calls(alloc: Global, script: &str) -> Result<Vec<Call>, Fail> {
+    let lines = plan_of(alloc, script)?.into_steps();
     let mut calls = Vec::new(alloc);
-    for (user, ask, _) in rows {
-        calls.push(call(alloc, *user, *ask)?)?;
+    for line in lines {
+        let plan::Step { session, cred, act } = line;
+        if let plan::Act::User(request) = act {
+            calls.push(Call {
+                session,
+                cred,
+                request,
+            })?;
+        }
     }
     Ok(calls)
 }
@@ -294,33 +255,26 @@ fn with_journal(journal: u32) -> Params {
     Params { journal, ..SMALL }
 }
 
-/// Asserts that each of these calls is answered as it must be.
-fn compare_answers(rt: &impl Abort, answers: &[Answer], rows: &[Row<'_>]) {
-    assert_eq!(rt; answers.len(), rows.len());
-    for (given, row) in answers.iter().zip(rows) {
-        assert!(rt; is_answer(given, row.2));
-    }
-}
-
 /// Makes the four calls in one run, and asserts that each is answered as it must be and entered.
 fn run_calls(rt: &impl Abort, alloc: Global, volume: &mut Volume<LogStore>) -> Result<(), Fail> {
-    let calls = calls(alloc, &OWNER_AND_STRANGER)?;
+    let calls = calls(alloc, OWNER_AND_STRANGER)?;
     let answers = volume.run(calls)?;
-    compare_answers(rt, answers.as_slice(), &OWNER_AND_STRANGER);
-    assert_eq!(rt; volume.journal().len(), 4);
+    let mut text = Vec::new(alloc);
+    append_answers(&mut text, 3, answers.as_slice())?;
+    expect_lines(rt, text.as_slice(), TO_STRANGER);
+    expect_eq(rt, volume.journal().len(), 4);
     Ok(())
 }
 
 #[test]
 fn run_of_calls_over_a_log(rt: HostRuntime) -> Result<(), Fail> {
-    let alloc = rt.alloc();
-    let mut volume = fresh(alloc, with_journal(4))?;
-    run_calls(&rt, alloc, &mut volume)
+    let mut volume = fresh(rt.alloc(), with_journal(4))?;
+    run_calls(&rt, rt.alloc(), &mut volume)
 }
 
 #[test]
 fn volume_over_a_log_has_its_limit(rt: HostRuntime) -> Result<(), Fail> {
     let volume = fresh(rt.alloc(), with_journal(2))?;
-    assert_eq!(rt; volume.journal_limit(), 2);
+    expect_eq(&rt, volume.journal_limit(), 2);
     Ok(())
 }

@@ -1,11 +1,12 @@
 //! A volume that goes into a thread and comes back.
 
-use super::{DEFAULTS, Row, Want, run};
-use crate::tests::asking::{Ask, request};
-use crate::tests::fresh;
+use super::{DEFAULTS, run};
+use crate::tests::{expect_eq, fresh};
 use lfs_logstore::LogStore;
 use lfs_types::cred::Cred;
-use lfs_types::request::{Place, Request};
+use lfs_types::mode::Mode;
+use lfs_types::path::Path;
+use lfs_types::request::Request;
 use lfs_volume::volume::Volume;
 use std::alloc::Global;
 use std::process::Abort;
@@ -15,17 +16,13 @@ use std::thread;
 use std::thread::Threads;
 
 /// A file is written.
-const BEFORE: [Row<'static>; 2] = [
-    (0, Ask::Create("/a", 0o644), Want::Done),
-    (0, Ask::Write("/a", Place::At(0), b"here"), Want::Done),
-];
+const BEFORE: &str = "session 3\ncreate /a 0644\nwrite /a at 0 68657265\n";
 
 /// It is still there, and so is another one.
-const AFTER: [Row<'static>; 3] = [
-    (0, Ask::Read("/a", 0, 512), Want::Bytes(b"here")),
-    (0, Ask::Stat("/b"), Want::File(5, 0)),
-    (0, Ask::Write("/b", Place::At(0), b"there"), Want::Done),
-];
+const AFTER: &str = "session 3\nread /a 0 512\nstat /b\nwrite /b at 0 7468657265\n";
+
+/// The answers behind the thread.
+const ANSWERS: &str = "3 bytes 68657265\n3 stat 5 file 0 0 0644 00000000 0\n3 ok\n";
 
 /// Has a volume go into a thread that makes a call as the superuser, and come back.
 fn moved_and_called<R: Threads + Sync + Wait>(
@@ -51,22 +48,28 @@ fn moved_and_called<R: Threads + Sync + Wait>(
 /// A volume with the file written.
 fn written(rt: &impl Abort, alloc: Global) -> Result<Volume<LogStore>, Fail> {
     let mut volume = fresh(alloc, DEFAULTS)?;
-    run(rt, alloc, &mut volume, &BEFORE)?;
+    run(rt, alloc, &mut volume, BEFORE, "3 ok\n3 ok\n")?;
     Ok(volume)
+}
+
+/// The call that makes the other one.
+fn create(alloc: Global) -> Result<Request, Fail> {
+    let mode = Mode::new(0o644).ok_or("mode")?;
+    let path = Path::parse(alloc, "/b")?;
+    Ok(Request::Create { path, mode })
 }
 
 /// Asserts that a volume has kept the file, and has the other.
 fn assert_kept(rt: &impl Abort, alloc: Global, volume: &mut Volume<LogStore>) -> Result<(), Fail> {
-    assert_eq!(rt; volume.journal().len(), 3);
-    run(rt, alloc, volume, &AFTER)
+    expect_eq(rt, volume.journal().len(), 3);
+    run(rt, alloc, volume, AFTER, ANSWERS)
 }
 
 #[test]
 fn volume_in_a_mutex_moves_into_a_thread_and_back(rt: HostRuntime) -> Result<(), Fail> {
     let alloc = rt.alloc();
     let root = Cred::new(0, &[0], false)?;
-    let create = request(alloc, Ask::Create("/b", 0o644))?;
     let volume = written(&rt, alloc)?;
-    let mut volume = moved_and_called(&rt, volume, root, create)?;
+    let mut volume = moved_and_called(&rt, volume, root, create(alloc)?)?;
     assert_kept(&rt, alloc, &mut volume)
 }
