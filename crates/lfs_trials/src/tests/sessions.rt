@@ -54,8 +54,11 @@ fn split(alloc: Global, script: &str) -> Result<(Script, Vec<Script>), Fail> {
 fn call_each<F: FileStore + Drop>(volume: &mut Volume<F>, steps: Vec<Step>) {
     for step in steps {
         let Step { session, cred, act } = step;
-        if let Act::User(request) = act {
-            volume.call(session, &cred, request);
+        match act {
+            Act::User(request) => {
+                volume.call(session, &cred, request);
+            }
+            Act::Cleaner(_) | Act::Pass => {}
         }
     }
 }
@@ -106,7 +109,8 @@ fn settled<F: FileStore + Drop>(
     let (setup, scripts) = split(alloc, script)?;
     let scripts = scripts.as_slice();
     if scripts.len() > 8 || transcripts.len() > 8 {
-        return Err(Fail::from("more than eight sessions"));
+        Err(Fail::from("more than eight sessions"))
+    } else {
+        Ok(settle(volume, &setup, answers, scripts, transcripts))
     }
-    Ok(settle(volume, &setup, answers, scripts, transcripts))
 }

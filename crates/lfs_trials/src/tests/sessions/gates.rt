@@ -1,6 +1,6 @@
 //! What no clause says of a run over the log store: that sessions and the cleaner really run beside each other.
 
-use super::log::{FIRST, assert_served, both, setup};
+use super::log::{BOTH, FIRST, WRITES, assert_answers, assert_served, serve_users};
 use super::watch::{Awaited, Watch};
 use super::{CLEANER, lines_of, serve_log};
 use crate::tests::expect_lines;
@@ -8,7 +8,7 @@ use lfs_logstore::LogStore;
 use lfs_server::gate::Gate;
 use lfs_server::serving::Closed;
 use lfs_volume::journal::{CleanerKind, CleanerOutcome, Entry, Event};
-use std::alloc::{AllocError, Global};
+use std::alloc::Global;
 use std::process::Abort;
 use std::sync::Wait;
 use std::test::Fail;
@@ -53,10 +53,9 @@ fn two_sessions_meet(rt: HostRuntime) -> Result<(), Fail> {
     let gate = Meeting {
         watch: Watch::new(&rt, alloc),
     };
-    let script = both(alloc)?;
-    let closed = serve_log(&rt, alloc, script.as_str(), &gate)?;
+    let closed = serve_users(&rt, alloc, WRITES, BOTH, &gate)?;
     assert_unfailed(&rt, &gate.watch);
-    assert_served(&rt, alloc, script.as_str(), &closed)
+    assert_served(&rt, alloc, &closed)
 }
 
 /// Which call of a pass is the first Bmapv.
@@ -104,13 +103,6 @@ fn is_called_between(journal: &[Entry]) -> bool {
 /// The answers to the first user.
 const FIRST_ANSWERS: &str = "1 ok\n1 ok\n1 bytes 6869\n1 names a\n";
 
-/// The script of the first user, with the file written 25 times before.
-fn one(alloc: Global) -> Result<String, AllocError> {
-    let mut script = setup(alloc, 25)?;
-    script.push_str(FIRST)?;
-    Ok(script)
-}
-
 /// Asserts that session 1 called between the cleaner's Bmapv and Markv, and was answered as it must be.
 fn assert_called_between(
     rt: &impl Abort,
@@ -118,9 +110,7 @@ fn assert_called_between(
     closed: &Closed<LogStore>,
 ) -> Result<(), Fail> {
     assert!(rt; is_called_between(closed.volume.journal()));
-    let lines = lines_of(alloc, closed.transcripts.as_slice())?;
-    expect_lines(rt, lines.as_slice(), FIRST_ANSWERS);
-    Ok(())
+    assert_answers(rt, alloc, closed, FIRST_ANSWERS)
 }
 
 #[test]
@@ -129,8 +119,7 @@ fn write_between_bmapv_and_markv(rt: HostRuntime) -> Result<(), Fail> {
     let gate = Between {
         watch: Watch::new(&rt, alloc),
     };
-    let script = one(alloc)?;
-    let closed = serve_log(&rt, alloc, script.as_str(), &gate)?;
+    let closed = serve_users(&rt, alloc, 25, FIRST, &gate)?;
     assert_unfailed(&rt, &gate.watch);
     assert_called_between(&rt, alloc, &closed)
 }

@@ -3,13 +3,16 @@
 use super::{assert_no_run, lines_of, serve_log, settled};
 use crate::tests::{SMALL, expect_eq, expect_lines, fresh};
 use lfs_logstore::LogStore;
+use lfs_server::gate::Gate;
 use lfs_server::serving::Closed;
 use lfs_server::settle::Unsettled;
 use lfs_types::answer::{Answer, Served};
 use lfs_types::payload::Bytes;
 use std::alloc::{AllocError, Global};
 use std::process::Abort;
+use std::sync::Wait;
 use std::test::Fail;
+use std::thread::Threads;
 
 /// Two directories for all, and a file of the superuser's.
 const PLACES: &str = "mkdir /x 0777\nmkdir /y 0777\ncreate /w 0644\n";
@@ -17,13 +20,14 @@ const PLACES: &str = "mkdir /x 0777\nmkdir /y 0777\ncreate /w 0644\n";
 /// The file is written and synced.
 const WRITTEN: &str = "write /w at 0 61\nsync\n";
 
-/// The setup makes these, and writes and syncs the file so often.
-pub fn setup(alloc: Global, writes: u32) -> Result<String, AllocError> {
+/// The setup makes these, and writes and syncs the file so often; then come these sessions.
+fn script(alloc: Global, writes: u32, sessions: &str) -> Result<String, AllocError> {
     let mut script = String::new(alloc);
     script.push_str(PLACES)?;
     for _ in 0..writes {
         script.push_str(WRITTEN)?;
     }
+    script.push_str(sessions)?;
     Ok(script)
 }
 
@@ -37,8 +41,14 @@ read /x/a 0 9
 list /x
 ";
 
-/// User 8 makes a file, writes and reads it, and may not write the superuser's.
-const SECOND: &str = "\
+/// User 7 does so, and user 8 makes a file, writes and reads it, and may not write the superuser's.
+pub const BOTH: &str = "\
+session 1
+as 7 7
+create /x/a 0644
+write /x/a end 6869
+read /x/a 0 9
+list /x
 session 2
 as 8 8
 create /y/b 0600
@@ -59,47 +69,58 @@ const ANSWERS: &str = "\
 2 denied M2 EACCES 0 1
 ";
 
-/// How often the file is written before the sessions of both.
-const WRITES: u32 = 40;
-
-/// The script of both, behind their setup.
-pub fn both(alloc: Global) -> Result<String, AllocError> {
-    let mut script = setup(alloc, WRITES)?;
-    script.push_str(FIRST)?;
-    script.push_str(SECOND)?;
-    Ok(script)
+/// Runs these sessions, with the file written so often before.
+pub fn serve_users<R: Threads + Wait + Sync, G: Gate>(
+    rt: &R,
+    alloc: Global,
+    writes: u32,
+    sessions: &str,
+    gate: &G,
+) -> Result<Closed<LogStore>, Fail> {
+    let script = script(alloc, writes, sessions)?;
+    serve_log(rt, alloc, script.as_str(), gate)
 }
 
-/// What settling says of a run of this script.
-fn run_settled(
-    alloc: Global,
-    script: &str,
-    closed: &Closed<LogStore>,
-) -> Result<Result<(), Unsettled>, Fail> {
+/// How often the file is written before the sessions of both.
+pub const WRITES: u32 = 40;
+
+/// What settling says of a run of both.
+fn run_settled(alloc: Global, closed: &Closed<LogStore>) -> Result<Result<(), Unsettled>, Fail> {
+    let script = script(alloc, WRITES, BOTH)?;
     let answers = closed.setup.as_slice();
     let transcripts = closed.transcripts.as_slice();
-    settled(alloc, &closed.volume, script, answers, transcripts)
+    settled(alloc, &closed.volume, script.as_str(), answers, transcripts)
+}
+
+/// Asserts that sessions were answered so.
+pub fn assert_answers(
+    rt: &impl Abort,
+    alloc: Global,
+    closed: &Closed<LogStore>,
+    answers: &str,
+) -> Result<(), Fail> {
+    let lines = lines_of(alloc, closed.transcripts.as_slice())?;
+    expect_lines(rt, lines.as_slice(), answers);
+    Ok(())
 }
 
 /// Asserts of a run of both that they were answered as they must be, and that this settles.
 pub fn assert_served(
     rt: &impl Abort,
     alloc: Global,
-    script: &str,
     closed: &Closed<LogStore>,
 ) -> Result<(), Fail> {
-    let lines = lines_of(alloc, closed.transcripts.as_slice())?;
-    expect_lines(rt, lines.as_slice(), ANSWERS);
-    expect_eq(rt, run_settled(alloc, script, closed)?, Ok(()));
+    assert_answers(rt, alloc, closed, ANSWERS)?;
+    expect_eq(rt, run_settled(alloc, closed)?, Ok(()));
     Ok(())
 }
 
 /// Puts other bytes for those that user 7 read.
-fn put_other_bytes(alloc: Global, transcripts: &mut [Vec<Answer>]) -> Result<(), Fail> {
-    let bytes = Bytes::from(Vec::from_slice(alloc, b"ho")?);
-    if let Some(transcript) = transcripts.first_mut() {
-        if let Some(answer) = transcript.get_mut(2) {
-            *answer = Answer::Served(Served::Bytes(bytes));
+fn put_other_bytes(alloc: Global, transcripts: &mut [Vec<Answer>]) -> Result<(), AllocError> {
+    if let [first, ..] = transcripts {
+        if let [_, _, answer, ..] = first.as_mut_slice() {
+            let bytes = Vec::from_slice(alloc, b"ho")?;
+            *answer = Answer::Served(Served::Bytes(Bytes::from(bytes)));
         }
     }
     Ok(())
@@ -109,27 +130,24 @@ fn put_other_bytes(alloc: Global, transcripts: &mut [Vec<Answer>]) -> Result<(),
 fn assert_only_so_served(
     rt: &impl Abort,
     alloc: Global,
-    script: &str,
     closed: &mut Closed<LogStore>,
 ) -> Result<(), Fail> {
-    assert_served(rt, alloc, script, closed)?;
+    assert_served(rt, alloc, closed)?;
     put_other_bytes(alloc, closed.transcripts.as_mut_slice())?;
-    expect_eq(rt, run_settled(alloc, script, closed)?, Err(Unsettled(1)));
+    expect_eq(rt, run_settled(alloc, closed)?, Err(Unsettled(1)));
     Ok(())
 }
 
 #[test]
 fn two_sessions_run_over_a_log(rt: HostRuntime) -> Result<(), Fail> {
-    let alloc = rt.alloc();
-    let script = both(alloc)?;
-    let mut closed = serve_log(&rt, alloc, script.as_str(), &())?;
-    assert_only_so_served(&rt, alloc, script.as_str(), &mut closed)
+    let mut closed = serve_users(&rt, rt.alloc(), WRITES, BOTH, &())?;
+    assert_only_so_served(&rt, rt.alloc(), &mut closed)
 }
 
 #[test]
 fn no_session_is_no_run_over_a_log(rt: HostRuntime) -> Result<(), Fail> {
     let alloc = rt.alloc();
-    let script = setup(alloc, WRITES)?;
+    let script = script(alloc, WRITES, "")?;
     let volume = fresh(alloc, SMALL)?;
     assert_no_run(&rt, alloc, volume, script.as_str())
 }

@@ -206,11 +206,19 @@ fn clean_dirty(rt: &impl Abort, alloc: Global, volume: &mut Volume<LogStore>) ->
     Ok(())
 }
 
+/// Writes the files, cleans, and reads them.
+fn write_clean_and_read(
+    rt: &impl Abort,
+    alloc: Global,
+    volume: &mut Volume<LogStore>,
+) -> Result<(), Fail> {
+    write_files(rt, alloc, volume)?;
+    clean_dirty(rt, alloc, volume)?;
+    read_files(rt, alloc, volume)
+}
+
 #[test]
 fn each_dirty_segment_is_emptied_and_cleaned(rt: HostRuntime) -> Result<(), Fail> {
-    let alloc = rt.alloc();
-    let mut volume = fresh(alloc, ROOMY)?;
-    write_files(&rt, alloc, &mut volume)?;
-    clean_dirty(&rt, alloc, &mut volume)?;
-    read_files(&rt, alloc, &mut volume)
+    let mut volume = fresh(rt.alloc(), ROOMY)?;
+    write_clean_and_read(&rt, rt.alloc(), &mut volume)
 }

@@ -3,7 +3,7 @@
 use super::{DEFAULTS, run, run_fresh};
 use crate::tests::{SMALL, append_answers, expect_eq, expect_lines, fresh, plan_of};
 use lfs_logstore::LogStore;
-use lfs_text::plan;
+use lfs_text::plan::{Act, Step};
 use lfs_types::cleaner::CleanerCall;
 use lfs_types::cred::Cred;
 use lfs_types::store::Params;
@@ -203,18 +203,21 @@ const KINDS: [CleanerKind; 3] = [
     CleanerKind::Segclean,
 ];
 
+/// Makes the calls, and asserts that each is answered and entered as denied.
+fn deny_stranger(
+    rt: &impl Abort,
+    alloc: Global,
+    volume: &mut Volume<LogStore>,
+) -> Result<(), Fail> {
+    run(rt, alloc, volume, STRANGERS_CLEANING, CLEANING_DENIED)?;
+    expect_eq(rt, are_denied(volume.journal(), &KINDS), true);
+    Ok(())
+}
+
 #[test]
 fn cleaner_calls_by_a_stranger(rt: HostRuntime) -> Result<(), Fail> {
     let mut volume = fresh(rt.alloc(), DEFAULTS)?;
-    run(
-        &rt,
-        rt.alloc(),
-        &mut volume,
-        STRANGERS_CLEANING,
-        CLEANING_DENIED,
-    )?;
-    expect_eq(&rt, are_denied(volume.journal(), &KINDS), true);
-    Ok(())
+    deny_stranger(&rt, rt.alloc(), &mut volume)
 }
 
 /// The superuser's calls where no segment is dirty.
@@ -238,14 +241,16 @@ fn calls(alloc: Global, script: &str) -> Result<Vec<Call>, Fail> {
     let lines = plan_of(alloc, script)?.into_steps();
     let mut calls = Vec::new(alloc);
     for line in lines {
-        let plan::Step { session, cred, act } = line;
-        if let plan::Act::User(request) = act {
-            calls.push(Call {
-                session,
-                cred,
-                request,
-            })?;
-        }
+        let Step { session, cred, act } = line;
+        let request = match act {
+            Act::User(request) => request,
+            Act::Cleaner(_) | Act::Pass => continue,
+        };
+        calls.push(Call {
+            session,
+            cred,
+            request,
+        })?;
     }
     Ok(calls)
 }

@@ -67,9 +67,9 @@ fn assert_kept(rt: &impl Abort, alloc: Global, volume: &mut Volume<LogStore>) ->
 
 #[test]
 fn volume_in_a_mutex_moves_into_a_thread_and_back(rt: HostRuntime) -> Result<(), Fail> {
-    let alloc = rt.alloc();
     let root = Cred::new(0, &[0], false)?;
-    let volume = written(&rt, alloc)?;
-    let mut volume = moved_and_called(&rt, volume, root, create(alloc)?)?;
-    assert_kept(&rt, alloc, &mut volume)
+    let create = create(rt.alloc())?;
+    let volume = written(&rt, rt.alloc())?;
+    let mut volume = moved_and_called(&rt, volume, root, create)?;
+    assert_kept(&rt, rt.alloc(), &mut volume)
 }
