@@ -5,11 +5,12 @@ mod sessions;
 mod steps;
 
 use lfs_logstore::LogStore;
-use lfs_text::plan::Plan;
+use lfs_text::plan::{Act, Plan, Step};
 use lfs_text::print::append_answer;
 use lfs_text::script::parse_script;
 use lfs_types::answer::Answer;
 use lfs_types::store::Params;
+use lfs_volume::journal::Call;
 use lfs_volume::volume::Volume;
 use std::alloc::{AllocError, Global};
 use std::fmt::Debug;
@@ -39,6 +40,25 @@ fn plan_of(alloc: Global, script: &str) -> Result<Plan, Fail> {
         return Err(Fail::from("a long script"));
     }
     Ok(parse_script(alloc, script.as_bytes())?)
+}
+
+/// The users' calls of a script.
+fn calls(alloc: Global, script: &str) -> Result<Vec<Call>, Fail> {
+    let lines = plan_of(alloc, script)?.into_steps();
+    let mut calls = Vec::new(alloc);
+    for line in lines {
+        let Step { session, cred, act } = line;
+        let request = match act {
+            Act::User(request) => request,
+            Act::Cleaner(_) | Act::Pass => continue,
+        };
+        calls.push(Call {
+            session,
+            cred,
+            request,
+        })?;
+    }
+    Ok(calls)
 }
 
 /// Appends the lines of answers to a session.

@@ -13,7 +13,6 @@ use lfs_server::gate::Gate;
 use lfs_server::serve::serve;
 use lfs_server::serving::{Closed, ServeFault, serve_over};
 use lfs_server::settle::{Unsettled, settle};
-use lfs_text::plan::{Act, Step};
 use lfs_types::answer::Answer;
 use lfs_types::cleaned::CleanedStore;
 use lfs_types::script::Script;
@@ -48,19 +47,6 @@ read /y 0 9
 /// What a script asks for in its setup, and in each session.
 fn split(alloc: Global, script: &str) -> Result<(Script, Vec<Script>), Fail> {
     Ok(plan_of(alloc, script)?.split(alloc)?)
-}
-
-/// Makes these users' calls.
-fn call_each<F: FileStore + Drop>(volume: &mut Volume<F>, steps: Vec<Step>) {
-    for step in steps {
-        let Step { session, cred, act } = step;
-        match act {
-            Act::User(request) => {
-                volume.call(session, &cred, request);
-            }
-            Act::Cleaner(_) | Act::Pass => {}
-        }
-    }
 }
 
 /// Runs a script on a fresh volume over a log.

@@ -12,6 +12,7 @@ use std::alloc::Global;
 use std::process::Abort;
 use std::sync::Wait;
 use std::test::Fail;
+use std::thread::Threads;
 
 /// Holds the first call of each of two sessions until the other's is begun, and the second until the other's first is
 /// made.
@@ -47,15 +48,23 @@ fn assert_unfailed(rt: &impl Abort, watch: &Watch<'_, impl Wait>) {
     assert!(rt; !watch.has_failed());
 }
 
+/// Runs both sessions at this gate, and asserts that they were answered as they must be.
+fn serve_at_meeting<R: Abort + Threads + Wait + Sync>(
+    rt: &R,
+    alloc: Global,
+    gate: &Meeting<'_, R>,
+) -> Result<(), Fail> {
+    let closed = serve_users(rt, alloc, WRITES, BOTH, gate)?;
+    assert_unfailed(rt, &gate.watch);
+    assert_served(rt, alloc, &closed)
+}
+
 #[test]
 fn two_sessions_meet(rt: HostRuntime) -> Result<(), Fail> {
-    let alloc = rt.alloc();
     let gate = Meeting {
-        watch: Watch::new(&rt, alloc),
+        watch: Watch::new(&rt, rt.alloc()),
     };
-    let closed = serve_users(&rt, alloc, WRITES, BOTH, &gate)?;
-    assert_unfailed(&rt, &gate.watch);
-    assert_served(&rt, alloc, &closed)
+    serve_at_meeting(&rt, rt.alloc(), &gate)
 }
 
 /// Which call of a pass is the first Bmapv.
@@ -113,13 +122,21 @@ fn assert_called_between(
     assert_answers(rt, alloc, closed, FIRST_ANSWERS)
 }
 
+/// Runs the first session at this gate, with the file written 25 times before, and asserts that it called between.
+fn serve_between<R: Abort + Threads + Wait + Sync>(
+    rt: &R,
+    alloc: Global,
+    gate: &Between<'_, R>,
+) -> Result<(), Fail> {
+    let closed = serve_users(rt, alloc, 25, FIRST, gate)?;
+    assert_unfailed(rt, &gate.watch);
+    assert_called_between(rt, alloc, &closed)
+}
+
 #[test]
 fn write_between_bmapv_and_markv(rt: HostRuntime) -> Result<(), Fail> {
-    let alloc = rt.alloc();
     let gate = Between {
-        watch: Watch::new(&rt, alloc),
+        watch: Watch::new(&rt, rt.alloc()),
     };
-    let closed = serve_users(&rt, alloc, 25, FIRST, &gate)?;
-    assert_unfailed(&rt, &gate.watch);
-    assert_called_between(&rt, alloc, &closed)
+    serve_between(&rt, rt.alloc(), &gate)
 }

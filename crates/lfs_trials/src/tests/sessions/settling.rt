@@ -1,7 +1,7 @@
 //! What no clause says of settling: that a run that was really made settles.
 
-use super::{BOTH_USERS, call_each, settled};
-use crate::tests::{expect_eq, plan_of};
+use super::{BOTH_USERS, settled};
+use crate::tests::{calls, expect_eq};
 use lfs_flatfiles::flat_files::FlatFiles;
 use lfs_server::settle::Unsettled;
 use lfs_types::answer::{Answer, Served};
@@ -42,7 +42,7 @@ read /x 0 9
 fn run(alloc: Global, script: &str, journal: u32) -> Result<Volume<FlatFiles>, Fail> {
     let files = FlatFiles::new(alloc, 16)?;
     let mut volume = Volume::new(alloc, files, journal)?;
-    call_each(&mut volume, plan_of(alloc, script)?.into_steps());
+    volume.run(calls(alloc, script)?)?;
     Ok(volume)
 }
 

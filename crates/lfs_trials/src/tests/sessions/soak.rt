@@ -1,7 +1,7 @@
 //! Eight sessions on shared and own files of a volume over the log store, with the cleaner at work.
 
-use super::{call_each, serve_log, settled};
-use crate::tests::{expect_eq, plan_of};
+use super::{serve_log, settled};
+use crate::tests::{calls, expect_eq};
 use lfs_logstore::LogStore;
 use lfs_server::serving::Closed;
 use lfs_types::answer::{Answer, Served};
@@ -150,7 +150,7 @@ fn assert_soaked(
     let result = settled(alloc, &closed.volume, script, answers, transcripts)?;
     expect_eq(rt, result, Ok(()));
     assert_worked(rt, closed.volume.journal());
-    call_each(&mut closed.volume, plan_of(alloc, READS)?.into_steps());
+    closed.volume.run(calls(alloc, READS)?)?;
     expect_eq(rt, reads_of_last(closed.volume.journal()), SESSIONS);
     Ok(())
 }

@@ -1,13 +1,12 @@
 //! Worked cases as runs of steps, with every answer compared.
 
 use super::{DEFAULTS, run, run_fresh};
-use crate::tests::{SMALL, append_answers, expect_eq, expect_lines, fresh, plan_of};
+use crate::tests::{SMALL, append_answers, calls, expect_eq, expect_lines, fresh};
 use lfs_logstore::LogStore;
-use lfs_text::plan::{Act, Step};
 use lfs_types::cleaner::CleanerCall;
 use lfs_types::cred::Cred;
 use lfs_types::store::Params;
-use lfs_volume::journal::{Call, CleanerAnswer, CleanerKind, CleanerOutcome, Entry, Event};
+use lfs_volume::journal::{CleanerAnswer, CleanerKind, CleanerOutcome, Entry, Event};
 use lfs_volume::volume::Volume;
 use std::alloc::{AllocError, Global};
 use std::process::Abort;
@@ -234,25 +233,6 @@ const NOTHING_CLEANED: &str = "\
 #[test]
 fn cleaner_calls_on_a_fresh_volume(rt: HostRuntime) -> Result<(), Fail> {
     run_fresh(&rt, rt.alloc(), CLEANING, NOTHING_CLEANED)
-}
-
-/// The users' calls of a script.
-fn calls(alloc: Global, script: &str) -> Result<Vec<Call>, Fail> {
-    let lines = plan_of(alloc, script)?.into_steps();
-    let mut calls = Vec::new(alloc);
-    for line in lines {
-        let Step { session, cred, act } = line;
-        let request = match act {
-            Act::User(request) => request,
-            Act::Cleaner(_) | Act::Pass => continue,
-        };
-        calls.push(Call {
-            session,
-            cred,
-            request,
-        })?;
-    }
-    Ok(calls)
 }
 
 /// The numbers of a volume whose journal has room for so many entries.

@@ -24,27 +24,6 @@ const AFTER: &str = "session 3\nread /a 0 512\nstat /b\nwrite /b at 0 7468657265
 /// The answers behind the thread.
 const ANSWERS: &str = "3 bytes 68657265\n3 stat 5 file 0 0 0644 00000000 0\n3 ok\n";
 
-/// Has a volume go into a thread that makes a call as the superuser, and come back.
-fn moved_and_called<R: Threads + Sync + Wait>(
-    rt: &R,
-    volume: Volume<LogStore>,
-    root: Cred,
-    call: Request,
-) -> Result<Volume<LogStore>, Fail> {
-    let shared = Mutex::new(volume);
-    let shared = thread::scope(thread::scope_env(), rt, move |scope| {
-        let worker = scope.spawn(move || {
-            shared.lock(rt).call(1, &root, call);
-            shared
-        });
-        match worker {
-            Ok(worker) => Ok(worker.join(rt)),
-            Err(_) => Err(Fail::from("no thread")),
-        }
-    })?;
-    Ok(shared.into_inner())
-}
-
 /// A volume with the file written.
 fn written(rt: &impl Abort, alloc: Global) -> Result<Volume<LogStore>, Fail> {
     let mut volume = fresh(alloc, DEFAULTS)?;
@@ -59,6 +38,27 @@ fn create(alloc: Global) -> Result<Request, Fail> {
     Ok(Request::Create { path, mode })
 }
 
+/// Has a volume with the file go into a thread that makes the other one, and come back.
+fn moved_and_called<R: Abort + Threads + Sync + Wait>(
+    rt: &R,
+    alloc: Global,
+) -> Result<Volume<LogStore>, Fail> {
+    let root = Cred::new(0, &[0], false)?;
+    let shared = Mutex::new(written(rt, alloc)?);
+    let call = create(alloc)?;
+    let shared = thread::scope(thread::scope_env(), rt, move |scope| {
+        let worker = scope.spawn(move || {
+            shared.lock(rt).call(1, &root, call);
+            shared
+        });
+        match worker {
+            Ok(worker) => Ok(worker.join(rt)),
+            Err(_) => Err(Fail::from("no thread")),
+        }
+    })?;
+    Ok(shared.into_inner())
+}
+
 /// Asserts that a volume has kept the file, and has the other.
 fn assert_kept(rt: &impl Abort, alloc: Global, volume: &mut Volume<LogStore>) -> Result<(), Fail> {
     expect_eq(rt, volume.journal().len(), 3);
@@ -67,9 +67,6 @@ fn assert_kept(rt: &impl Abort, alloc: Global, volume: &mut Volume<LogStore>) ->
 
 #[test]
 fn volume_in_a_mutex_moves_into_a_thread_and_back(rt: HostRuntime) -> Result<(), Fail> {
-    let root = Cred::new(0, &[0], false)?;
-    let create = create(rt.alloc())?;
-    let volume = written(&rt, rt.alloc())?;
-    let mut volume = moved_and_called(&rt, volume, root, create)?;
+    let mut volume = moved_and_called(&rt, rt.alloc())?;
     assert_kept(&rt, rt.alloc(), &mut volume)
 }
