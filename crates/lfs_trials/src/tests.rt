@@ -25,10 +25,12 @@ const SMALL: Params = Params {
     journal: 4096,
 };
 
-/// A fresh volume over a log, with these numbers.
-fn fresh(alloc: Global, params: Params) -> Result<Volume<LogStore>, Fail> {
+/// A fresh volume over a log, with these numbers. It lies in memory of its own, since a function that holds a value of so
+/// many parts takes the prover seconds.
+fn fresh(alloc: Global, params: Params) -> Result<Box<Volume<LogStore>>, Fail> {
     let store = LogStore::format(alloc, params)?;
-    Ok(Volume::new(alloc, store, params.journal)?)
+    let volume = Volume::new(alloc, store, params.journal)?;
+    Ok(Box::new(alloc, volume)?)
 }
 
 /// The most bytes of a script.
@@ -67,11 +69,6 @@ fn append_answers(text: &mut Vec<u8>, session: u8, answers: &[Answer]) -> Result
         append_answer(text, session, answer)?;
     }
     Ok(())
-}
-
-/// Asserts that lines are as they must be.
-fn expect_lines(rt: &impl Abort, found: &[u8], wanted: &str) {
-    assert_eq!(rt; found, wanted.as_bytes());
 }
 
 /// Asserts that what was found is what is wanted. An assertion takes the prover a second or more, a call of this less.

@@ -1,9 +1,8 @@
 //! What no clause says of a run over the log store: that sessions and the cleaner really run beside each other.
 
+use super::CLEANER;
 use super::log::{BOTH, FIRST, WRITES, assert_answers, assert_served, serve_users};
 use super::watch::{Awaited, Watch};
-use super::{CLEANER, lines_of, serve_log};
-use crate::tests::expect_lines;
 use lfs_logstore::LogStore;
 use lfs_server::gate::Gate;
 use lfs_server::serving::Closed;

@@ -1,7 +1,7 @@
 //! Runs of two users' sessions over the log store.
 
 use super::{assert_no_run, lines_of, serve_log, settled};
-use crate::tests::{SMALL, expect_eq, expect_lines, fresh};
+use crate::tests::{SMALL, expect_eq, fresh};
 use lfs_logstore::LogStore;
 use lfs_server::gate::Gate;
 use lfs_server::serving::Closed;
@@ -100,7 +100,7 @@ pub fn assert_answers(
     answers: &str,
 ) -> Result<(), Fail> {
     let lines = lines_of(alloc, closed.transcripts.as_slice())?;
-    expect_lines(rt, lines.as_slice(), answers);
+    expect_eq(rt, lines.as_slice(), answers.as_bytes());
     Ok(())
 }
 
@@ -149,5 +149,5 @@ fn no_session_is_no_run_over_a_log(rt: HostRuntime) -> Result<(), Fail> {
     let alloc = rt.alloc();
     let script = script(alloc, WRITES, "")?;
     let volume = fresh(alloc, SMALL)?;
-    assert_no_run(&rt, alloc, volume, script.as_str())
+    assert_no_run(&rt, alloc, Box::into_inner(volume), script.as_str())
 }

@@ -162,11 +162,10 @@ fn assert_one_session(rt: &impl Abort, alloc: Global, closed: &Closed<Plain>) ->
 
 #[test]
 fn session_is_run_and_settles(rt: HostRuntime) -> Result<(), Fail> {
-    let alloc = rt.alloc();
     let gate = Cleanings {
-        watch: Watch::new(&rt, alloc),
+        watch: Watch::new(&rt, rt.alloc()),
     };
-    let closed = serve_plain(&rt, alloc, ONE_SESSION, &gate)?;
+    let closed = serve_plain(&rt, rt.alloc(), ONE_SESSION, &gate)?;
     assert_one_call(&rt, &gate.watch);
-    assert_one_session(&rt, alloc, &closed)
+    assert_one_session(&rt, rt.alloc(), &closed)
 }

@@ -25,7 +25,7 @@ const AFTER: &str = "session 3\nread /a 0 512\nstat /b\nwrite /b at 0 7468657265
 const ANSWERS: &str = "3 bytes 68657265\n3 stat 5 file 0 0 0644 00000000 0\n3 ok\n";
 
 /// A volume with the file written.
-fn written(rt: &impl Abort, alloc: Global) -> Result<Volume<LogStore>, Fail> {
+fn written(rt: &impl Abort, alloc: Global) -> Result<Box<Volume<LogStore>>, Fail> {
     let mut volume = fresh(alloc, DEFAULTS)?;
     run(rt, alloc, &mut volume, BEFORE, "3 ok\n3 ok\n")?;
     Ok(volume)
@@ -44,7 +44,7 @@ fn moved_and_called<R: Abort + Threads + Sync + Wait>(
     alloc: Global,
 ) -> Result<Volume<LogStore>, Fail> {
     let root = Cred::new(0, &[0], false)?;
-    let shared = Mutex::new(written(rt, alloc)?);
+    let shared = Mutex::new(Box::into_inner(written(rt, alloc)?));
     let call = create(alloc)?;
     let shared = thread::scope(thread::scope_env(), rt, move |scope| {
         let worker = scope.spawn(move || {
