@@ -71,6 +71,11 @@ fn append_answers(text: &mut Vec<u8>, session: u8, answers: &[Answer]) -> Result
     Ok(())
 }
 
+/// Asserts that lines are as they must be.
+fn expect_lines(rt: &impl Abort, found: &[u8], wanted: &str) {
+    assert_eq!(rt; found, wanted.as_bytes());
+}
+
 /// Asserts that what was found is what is wanted. An assertion takes the prover a second or more, a call of this less.
 fn expect_eq<T: PartialEq + Debug + Drop>(rt: &impl Abort, found: T, wanted: T) {
     assert_eq!(rt; found, wanted);

@@ -49,15 +49,16 @@ fn split(alloc: Global, script: &str) -> Result<(Script, Vec<Script>), Fail> {
     Ok(plan_of(alloc, script)?.split(alloc)?)
 }
 
-/// Runs a script on a fresh volume over a log.
+/// Runs a script on a fresh volume over a log. What it leaves lies in memory of its own, as a fresh volume does.
 fn serve_log<R: Threads + Wait + Sync, G: Gate>(
     rt: &R,
     alloc: Global,
     script: &str,
     gate: &G,
-) -> Result<Closed<LogStore>, Fail> {
+) -> Result<Box<Closed<LogStore>>, Fail> {
     let (setup, sessions) = split(alloc, script)?;
-    Ok(serve(rt, alloc, SMALL, setup, sessions, gate)?)
+    let closed = serve(rt, alloc, SMALL, setup, sessions, gate)?;
+    Ok(Box::new(alloc, closed)?)
 }
 
 /// Asserts that a script without a session is not run.

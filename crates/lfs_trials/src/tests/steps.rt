@@ -4,7 +4,7 @@ mod cleaning;
 mod run_steps_rows;
 mod threads;
 
-use crate::tests::{expect_eq, fresh, plan_of};
+use crate::tests::{expect_lines, fresh, plan_of};
 use lfs_logstore::LogStore;
 use lfs_text::plan;
 use lfs_text::print::append_answer;
@@ -68,7 +68,7 @@ fn run(
     let answers = volume.run_steps(steps)?;
     let mut text = Vec::new(alloc);
     append_told(&mut text, answers.as_slice())?;
-    expect_eq(rt, text.as_slice(), wanted.as_bytes());
+    expect_lines(rt, text.as_slice(), wanted);
     Ok(())
 }
 

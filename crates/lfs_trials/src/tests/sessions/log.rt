@@ -1,7 +1,7 @@
 //! Runs of two users' sessions over the log store.
 
 use super::{assert_no_run, lines_of, serve_log, settled};
-use crate::tests::{SMALL, expect_eq, fresh};
+use crate::tests::{SMALL, expect_eq, expect_lines, fresh};
 use lfs_logstore::LogStore;
 use lfs_server::gate::Gate;
 use lfs_server::serving::Closed;
@@ -76,7 +76,7 @@ pub fn serve_users<R: Threads + Wait + Sync, G: Gate>(
     writes: u32,
     sessions: &str,
     gate: &G,
-) -> Result<Closed<LogStore>, Fail> {
+) -> Result<Box<Closed<LogStore>>, Fail> {
     let script = script(alloc, writes, sessions)?;
     serve_log(rt, alloc, script.as_str(), gate)
 }
@@ -100,7 +100,7 @@ pub fn assert_answers(
     answers: &str,
 ) -> Result<(), Fail> {
     let lines = lines_of(alloc, closed.transcripts.as_slice())?;
-    expect_eq(rt, lines.as_slice(), answers.as_bytes());
+    expect_lines(rt, lines.as_slice(), answers);
     Ok(())
 }
 

@@ -1,7 +1,7 @@
 //! Worked cases as runs of steps, with every answer compared.
 
 use super::{DEFAULTS, run, run_fresh};
-use crate::tests::{SMALL, append_answers, calls, expect_eq, fresh};
+use crate::tests::{SMALL, append_answers, calls, expect_eq, expect_lines, fresh};
 use lfs_logstore::LogStore;
 use lfs_types::cleaner::CleanerCall;
 use lfs_types::cred::Cred;
@@ -246,7 +246,7 @@ fn run_calls(rt: &impl Abort, alloc: Global, volume: &mut Volume<LogStore>) -> R
     let answers = volume.run(calls)?;
     let mut text = Vec::new(alloc);
     append_answers(&mut text, 3, answers.as_slice())?;
-    expect_eq(rt, text.as_slice(), TO_STRANGER.as_bytes());
+    expect_lines(rt, text.as_slice(), TO_STRANGER);
     expect_eq(rt, volume.journal().len(), 4);
     Ok(())
 }
