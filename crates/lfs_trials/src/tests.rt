@@ -33,7 +33,7 @@ fn fresh(alloc: Global, params: Params) -> Result<Box<Volume<LogStore>>, Fail> {
     Ok(Box::new(alloc, volume)?)
 }
 
-/// The most bytes of a script.
+/// The most bytes of a script here: one of 100,000 calls is longer than a script that is read may be.
 const SCRIPT_MAX: usize = 2_097_152;
 
 /// What a script asks.
