@@ -7,7 +7,7 @@ mod settling;
 mod soak;
 mod watch;
 
-use crate::tests::{SMALL, append_answers, expect_eq, plan_of};
+use crate::tests::{append_answers, expect_eq, plan_of};
 use lfs_logstore::LogStore;
 use lfs_server::gate::Gate;
 use lfs_server::serve::serve;
@@ -16,7 +16,7 @@ use lfs_server::settle::{Unsettled, settle};
 use lfs_types::answer::Answer;
 use lfs_types::cleaned::CleanedStore;
 use lfs_types::script::Script;
-use lfs_types::store::FileStore;
+use lfs_types::store::{FileStore, Params};
 use lfs_volume::volume::Volume;
 use std::alloc::{AllocError, Global};
 use std::process::Abort;
@@ -53,11 +53,12 @@ fn split(alloc: Global, script: &str) -> Result<(Script, Vec<Script>), Fail> {
 fn serve_log<R: Threads + Wait + Sync, G: Gate>(
     rt: &R,
     alloc: Global,
+    params: Params,
     script: &str,
     gate: &G,
 ) -> Result<Box<Closed<LogStore>>, Fail> {
     let (setup, sessions) = split(alloc, script)?;
-    let closed = serve(rt, alloc, SMALL, setup, sessions, gate)?;
+    let closed = serve(rt, alloc, params, setup, sessions, gate)?;
     Ok(Box::new(alloc, closed)?)
 }
 

@@ -43,7 +43,7 @@ impl<'a, R: Wait + Sync> Gate for Meeting<'a, R> {
 }
 
 /// Asserts that no wait came to its limit.
-fn assert_unfailed(rt: &impl Abort, watch: &Watch<'_, impl Wait>) {
+pub fn assert_unfailed(rt: &impl Abort, watch: &Watch<'_, impl Wait>) {
     assert!(rt; !watch.has_failed());
 }
 

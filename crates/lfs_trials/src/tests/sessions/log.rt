@@ -78,7 +78,7 @@ pub fn serve_users<R: Threads + Wait + Sync, G: Gate>(
     gate: &G,
 ) -> Result<Box<Closed<LogStore>>, Fail> {
     let script = script(alloc, writes, sessions)?;
-    serve_log(rt, alloc, script.as_str(), gate)
+    serve_log(rt, alloc, SMALL, script.as_str(), gate)
 }
 
 /// How often the file is written before the sessions of both.

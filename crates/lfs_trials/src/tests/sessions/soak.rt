@@ -1,15 +1,20 @@
 //! Eight sessions on shared and own files of a volume over the log store, with the cleaner at work.
 
-use super::{serve_log, settled};
-use crate::tests::{calls, expect_eq};
+use super::gates::assert_unfailed;
+use super::watch::{Awaited, Watch};
+use super::{CLEANER, serve_log, settled};
+use crate::tests::{SMALL, calls, expect_eq};
 use lfs_logstore::LogStore;
+use lfs_server::gate::Gate;
 use lfs_server::serving::Closed;
 use lfs_types::answer::{Answer, Served};
 use lfs_types::path::Path;
 use lfs_types::request::Request;
+use lfs_types::store::Params;
 use lfs_volume::journal::{CleanerKind, CleanerOutcome, Entry, Event};
 use std::alloc::{AllocError, Global};
 use std::process::Abort;
+use std::sync::Wait;
 use std::test::Fail;
 
 /// How many sessions a soak has.
@@ -56,6 +61,41 @@ fn script(alloc: Global) -> Result<String, AllocError> {
         push_session(&mut script, session)?;
     }
     Ok(script)
+}
+
+/// The numbers of the volume: without the cleaner its log has room for more than half of the Writes.
+const NUMBERS: Params = Params {
+    segments: 8,
+    ..SMALL
+};
+
+/// Which of its 60 calls a session makes only after the cleaner was at work. By then, whatever the schedule, so much is
+/// written that the cleaner is called: the log has had fewer than four clean segments.
+const HELD: u32 = 40;
+
+/// Which of the cleaner's calls is made only after it has cleaned a segment: it lists the ifile once where none is dirty,
+/// and then a pass takes at most six calls for its first segment, and three at least for its second.
+const CLEANED: u32 = 8;
+
+/// Holds each session until the cleaner has cleaned a segment: else the schedule alone would say whether it does before
+/// the sessions end.
+#[derive(Drop)]
+struct Holding<'a, R: Wait> {
+    watch: Watch<'a, R>,
+}
+
+impl<'a, R: Wait + Sync> Gate for Holding<'a, R> {
+    fn before(&self, session: u8, index: u32) {
+        if session != 0 && session != CLEANER && index == HELD {
+            self.watch.wait_for(Awaited::Made(CLEANER, CLEANED));
+        }
+    }
+
+    fn after(&self, session: u8, index: u32) {
+        if session == CLEANER && index == CLEANED {
+            self.watch.note(Awaited::Made(CLEANER, CLEANED));
+        }
+    }
 }
 
 /// How many Writes users asked for, and how many of them were served.
@@ -159,6 +199,10 @@ fn assert_soaked(
 fn eight_sessions_soak(rt: HostRuntime) -> Result<(), Fail> {
     let alloc = rt.alloc();
     let script = script(alloc)?;
-    let mut closed = serve_log(&rt, alloc, script.as_str(), &())?;
+    let gate = Holding {
+        watch: Watch::new(&rt, alloc),
+    };
+    let mut closed = serve_log(&rt, alloc, NUMBERS, script.as_str(), &gate)?;
+    assert_unfailed(&rt, &gate.watch);
     assert_soaked(&rt, alloc, script.as_str(), &mut closed)
 }

@@ -4,7 +4,7 @@ use std::alloc::Global;
 use std::sync::{Mutex, Wait};
 
 /// How often a gate that waits looks.
-const LOOKS: u32 = 1_000_000;
+const LOOKS: u32 = 50_000_000;
 
 /// What a gate has seen.
 #[derive(Drop)]
