@@ -2,18 +2,17 @@
 //! writers that fail.
 
 mod arguments;
+mod fakes;
 mod log;
 mod passes;
 mod runs;
 mod sizes;
 mod status;
 mod texts;
-mod threads;
 mod volume;
 
 use lfs_audit::fault::RunFault;
 use lfs_audit::scripts::run_script;
-use lfs_options::DEFAULTS;
 use lfs_types::store::Params;
 use std::alloc::Global;
 use std::fmt::Debug;
@@ -33,11 +32,6 @@ fn output_with(alloc: Global, script: &str, params: Params) -> Result<Vec<u8>, R
     Ok(writer)
 }
 
-/// What a run of this script writes where the program has no arguments.
-fn output(alloc: Global, script: &str) -> Result<Vec<u8>, RunFault> {
-    output_with(alloc, script, DEFAULTS)
-}
-
 /// Asserts that a run of this script with these parameters writes these lines, and then a report.
 fn expect_with(
     rt: &impl Abort,
@@ -52,9 +46,4 @@ fn expect_with(
     };
     assert!(rt; report.starts_with(b"entries "));
     Ok(())
-}
-
-/// Asserts that a run of this script writes these lines, and then a report, where the program has no arguments.
-fn expect(rt: &impl Abort, alloc: Global, script: &str, expected: &str) -> Result<(), Fail> {
-    expect_with(rt, alloc, script, DEFAULTS, expected)
 }

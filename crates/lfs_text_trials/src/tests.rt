@@ -10,10 +10,20 @@ mod rules;
 mod texts;
 mod values;
 
+use std::alloc::{AllocError, Global};
 use std::fmt::Debug;
 use std::process::Abort;
 
 /// Asserts that what was found is what is wanted. An assertion takes the prover a second or more, a call of this less.
 fn expect_eq<T: PartialEq + Debug + Drop>(rt: &impl Abort, found: T, wanted: T) {
     assert_eq!(rt; found, wanted);
+}
+
+/// A text that begins so and goes on with this part, so many times.
+fn repeated(alloc: Global, before: &str, part: &str, times: u32) -> Result<String, AllocError> {
+    let mut text = String::from_str(alloc, before)?;
+    for _ in 0..times {
+        text.push_str(part)?;
+    }
+    Ok(text)
 }

@@ -6,90 +6,91 @@ use lfs_options::{DEFAULTS, Options, options_of};
 use lfs_types::store::Params;
 use std::test::Fail;
 
-#[test]
-fn parameters(rt: HostRuntime) -> Result<(), Fail> {
-    let alloc = rt.alloc();
-    expect_eq(
-        &rt,
-        options_of(alloc, &["lfsd"])?,
+/// Words of a command line, and what they ask for.
+const TAKEN: [(&[&str], Options); 3] = [
+    (
+        &["lfsd"],
         Options {
             params: DEFAULTS,
             threads: false,
         },
-    );
-    let least = Params {
-        segments: 6,
-        inodes: 16,
-        frames: 32,
-        journal: 1,
-    };
-    let words = [
-        "lfsd",
-        "--inodes",
-        "16",
-        "--journal",
-        "1",
-        "--segments",
-        "6",
-        "--frames",
-        "32",
-    ];
-    expect_eq(
-        &rt,
-        options_of(alloc, &words)?,
+    ),
+    (
+        &[
+            "lfsd",
+            "--inodes",
+            "16",
+            "--journal",
+            "1",
+            "--segments",
+            "6",
+            "--frames",
+            "32",
+        ],
         Options {
-            params: least,
+            params: Params {
+                segments: 6,
+                inodes: 16,
+                frames: 32,
+                journal: 1,
+            },
             threads: false,
         },
-    );
-    let most = Params {
-        segments: 1024,
-        inodes: 4096,
-        frames: 1024,
-        journal: 100_000,
-    };
-    let words = [
-        "lfsd",
-        "--threads",
-        "--journal=100000",
-        "--inodes=0004096",
-        "--segments=1024",
-        "--frames=1024",
-    ];
-    expect_eq(
-        &rt,
-        options_of(alloc, &words)?,
+    ),
+    (
+        &[
+            "lfsd",
+            "--threads",
+            "--journal=100000",
+            "--inodes=0004096",
+            "--segments=1024",
+            "--frames=1024",
+        ],
         Options {
-            params: most,
+            params: Params {
+                segments: 1024,
+                inodes: 4096,
+                frames: 1024,
+                journal: 100_000,
+            },
             threads: true,
         },
-    );
+    ),
+];
+
+#[test]
+fn parameters(rt: HostRuntime) -> Result<(), Fail> {
+    for (words, options) in TAKEN {
+        expect_eq(&rt, options_of(rt.alloc(), words)?, options);
+    }
     Ok(())
 }
 
+/// Words of command lines that are refused.
+const REFUSED: [&[&str]; 18] = [
+    &["lfsd", "--inodes", "15"],
+    &["lfsd", "--inodes", "4097"],
+    &["lfsd", "--inodes", "+16"],
+    &["lfsd", "--inodes", "-16"],
+    &["lfsd", "--inodes=-16"],
+    &["lfsd", "--inodes", "0x20"],
+    &["lfsd", "--inodes", "4294967312"],
+    &["lfsd", "--inodes", ""],
+    &["lfsd", "--inodes"],
+    &["lfsd", "--journal", "0"],
+    &["lfsd", "--journal", "100001"],
+    &["lfsd", "--journal=+1"],
+    &["lfsd", "script"],
+    &["lfsd", "--threads=1"],
+    &["lfsd", "--segments", "5"],
+    &["lfsd", "--segments", "1025"],
+    &["lfsd", "--frames", "31"],
+    &["lfsd", "--frames", "1025"],
+];
+
 #[test]
 fn usage_faults(rt: HostRuntime) {
-    let cases: [&[&str]; 18] = [
-        &["lfsd", "--inodes", "15"],
-        &["lfsd", "--inodes", "4097"],
-        &["lfsd", "--inodes", "+16"],
-        &["lfsd", "--inodes", "-16"],
-        &["lfsd", "--inodes=-16"],
-        &["lfsd", "--inodes", "0x20"],
-        &["lfsd", "--inodes", "4294967312"],
-        &["lfsd", "--inodes", ""],
-        &["lfsd", "--inodes"],
-        &["lfsd", "--journal", "0"],
-        &["lfsd", "--journal", "100001"],
-        &["lfsd", "--journal=+1"],
-        &["lfsd", "script"],
-        &["lfsd", "--threads=1"],
-        &["lfsd", "--segments", "5"],
-        &["lfsd", "--segments", "1025"],
-        &["lfsd", "--frames", "31"],
-        &["lfsd", "--frames", "1025"],
-    ];
-    for words in cases {
+    for words in REFUSED {
         let code = options_of(rt.alloc(), words).map_err(|error| error.exit_code());
         expect_eq(&rt, &code, &Err(2));
     }
@@ -117,7 +118,7 @@ fn help(rt: HostRuntime) -> Result<(), Fail> {
         "Example: ",
         "docs/FORMATS.md",
     ] {
-        assert!(rt; text.contains(told), "{told}");
+        assert!(rt; text.contains(told));
     }
     Ok(())
 }
@@ -139,7 +140,7 @@ fn usage_fault_names_the_range(rt: HostRuntime) -> Result<(), Fail> {
             return Err(Fail::from("no fault"));
         };
         let text = format!(in rt.alloc(); "{error}")?;
-        assert!(rt; text.contains(range), "{text}");
+        assert!(rt; text.contains(range));
     }
     Ok(())
 }

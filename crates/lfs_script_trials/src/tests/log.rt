@@ -1,14 +1,13 @@
-//! Scripts that go to the edges of the log and of its files: a volume written full, files cut and grown, a number given
-//! out again and again, a directory of as many blocks as there may be.
+//! Scripts that go to the edges of the log and of its files: a volume written full, files cut and grown.
 
-use super::{expect, expect_with, output_with};
+use super::{expect_with, output_with};
 use lfs_options::DEFAULTS;
 use lfs_types::store::Params;
 use std::alloc::{AllocError, Global};
 use std::test::Fail;
 
 /// A volume of six segments, where the program has no other arguments.
-const SIX_SEGMENTS: Params = Params {
+pub const SIX_SEGMENTS: Params = Params {
     segments: 6,
     ..DEFAULTS
 };
@@ -20,7 +19,7 @@ const FILES: usize = 4;
 const WRITES: usize = 128;
 
 /// Appends the hexadecimal digits of a byte so many times.
-fn push_byte(to: &mut String, byte: usize, times: usize) -> Result<(), AllocError> {
+pub fn push_byte(to: &mut String, byte: usize, times: usize) -> Result<(), AllocError> {
     for _ in 0..times {
         write!(to, "{byte:02x}")?;
     }
@@ -179,85 +178,5 @@ fn cut_file_keeps_its_bytes_and_grows_by_zeros(rt: HostRuntime) -> Result<(), Fa
     for cut in [5_632, 6_144, 6_145, 6_656, 71_168, 71_679] {
         push_cut(&mut script, &mut expected, cut)?;
     }
-    expect(&rt, alloc, script.as_str(), expected.as_str())
-}
-
-#[test]
-fn number_is_given_out_a_hundred_times(rt: HostRuntime) -> Result<(), Fail> {
-    let alloc = rt.alloc();
-    let mut script = String::new(alloc);
-    let mut expected = String::new(alloc);
-    for round in 0..100 {
-        script.push_str("create /v 0644\nread /v 0 9\nwrite /v at 0 ")?;
-        push_byte(&mut script, round, 2)?;
-        script.push_str("\nstat /v\nread /v 0 9\nunlink /v\nstat /v\n")?;
-        expected.push_str("0 ok\n0 bytes -\n0 ok\n0 stat 4 file 0 0 0644 00000000 2\n0 bytes ")?;
-        push_byte(&mut expected, round, 2)?;
-        expected.push_str("\n0 ok\n0 denied N2 ENOENT 0 1\n")?;
-    }
-    script.push_str("create /v 0644\nwrite /v end 61\nread /v 0 9\nstat /v\n")?;
-    expected.push_str("0 ok\n0 ok\n0 bytes 61\n0 stat 4 file 0 0 0644 00000000 1\n")?;
-    expect(&rt, alloc, script.as_str(), expected.as_str())
-}
-
-/// Appends a text and a name of 255 bytes that ends with this number.
-fn push_name(to: &mut String, before: &str, number: u32) -> Result<(), AllocError> {
-    to.push_str(before)?;
-    for _ in 0..252 {
-        to.push('n')?;
-    }
-    write!(to, "{number:03}")
-}
-
-/// Appends the `create` of such a name.
-fn push_create(script: &mut String, number: u32) -> Result<(), AllocError> {
-    push_name(script, "create /", number)?;
-    script.push_str(" 0600\n")
-}
-
-/// Appends the `stat` of such a name, and its answer where its file has this number.
-fn push_stat(
-    script: &mut String,
-    expected: &mut String,
-    number: u32,
-    file: u32,
-) -> Result<(), AllocError> {
-    push_name(script, "stat /", number)?;
-    script.push('\n')?;
-    writeln!(expected, "0 stat {file} file 0 0 0600 00000000 0")
-}
-
-// Each name of 255 bytes takes a block of its own: the blocks of names 11 and 12 are the last that the directory's
-// record names and the first that its indirect block does.
-#[test]
-fn directory_grows_to_its_last_block(rt: HostRuntime) -> Result<(), Fail> {
-    let alloc = rt.alloc();
-    let mut script = String::new(alloc);
-    let mut expected = String::new(alloc);
-    for number in 0..140 {
-        push_create(&mut script, number)?;
-        expected.push_str("0 ok\n")?;
-    }
-    for number in [0, 1, 11, 12, 13, 139] {
-        push_stat(&mut script, &mut expected, number, number + 4)?;
-    }
-    // The block of name 12 alone has room for another of 255 bytes, once that is gone.
-    push_name(&mut script, "unlink /", 12)?;
-    script.push('\n')?;
-    push_create(&mut script, 140)?;
-    push_create(&mut script, 141)?;
-    expected.push_str("0 ok\n0 ok\n0 refused DirectoryFull\n")?;
-    for (number, file) in [(0, 4), (11, 15), (140, 16), (13, 17), (139, 143)] {
-        push_stat(&mut script, &mut expected, number, file)?;
-    }
-    push_name(&mut script, "stat /", 12)?;
-    script.push_str("\nlist /\n")?;
-    expected.push_str("0 denied N2 ENOENT 0 1\n0 names")?;
-    for number in 0..141 {
-        if number != 12 {
-            push_name(&mut expected, " ", number)?;
-        }
-    }
-    expected.push('\n')?;
-    expect(&rt, alloc, script.as_str(), expected.as_str())
+    expect_with(&rt, alloc, script.as_str(), DEFAULTS, expected.as_str())
 }

@@ -1,31 +1,11 @@
 //! The status of a run, faults that can't be told, and a script that is cut.
 
-use super::{expect_eq, output};
+use super::fakes::Full;
+use super::{expect_eq, output_with};
 use lfs_audit::fault::{RunFault, ThreadsFault};
 use lfs_audit::tell::{end, tell};
+use lfs_options::DEFAULTS;
 use lfs_text::fault::{FaultKind, ScriptFault};
-use std::io;
-use std::io::{ErrorKind, Write};
-
-/// Takes so many writes and then fails.
-#[derive(Drop)]
-struct Full {
-    writes: usize,
-}
-
-impl Write for Full {
-    fn write(&mut self, buf: &[u8]) -> io::Result<usize> {
-        if self.writes == 0 {
-            return Err(io::Error::from(ErrorKind::StorageFull));
-        }
-        self.writes -= 1;
-        Ok(buf.len())
-    }
-
-    fn flush(&mut self) -> io::Result<()> {
-        Err(io::Error::from(ErrorKind::StorageFull))
-    }
-}
 
 #[test]
 fn status_of_a_run(rt: HostRuntime) {
@@ -43,7 +23,10 @@ fn status_of_a_run(rt: HostRuntime) {
 #[test]
 fn tell_to_a_writer_that_fails(rt: HostRuntime) {
     for writes in 0..3 {
-        let mut writer = Full { writes };
+        let mut writer = Full {
+            writes,
+            flushes: false,
+        };
         let fault = ThreadsFault::Run(RunFault::Read);
         expect_eq(&rt, tell(&mut writer, &fault), 1);
     }
@@ -53,6 +36,6 @@ fn tell_to_a_writer_that_fails(rt: HostRuntime) {
 fn line_without_line_feed(rt: HostRuntime) {
     let kind = FaultKind::Cut;
     let fault = RunFault::Script(ScriptFault { line: 1, kind });
-    let result = output(rt.alloc(), "create /a 0644");
+    let result = output_with(rt.alloc(), "create /a 0644", DEFAULTS);
     expect_eq(&rt, result.err(), Some(fault));
 }

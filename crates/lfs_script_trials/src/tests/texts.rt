@@ -8,67 +8,70 @@ use lfs_types::cred::BadCred;
 use lfs_types::fault::FormatFault;
 use lfs_types::name::BadName;
 use lfs_types::path::BadPath;
-use std::test::Fail;
+
+/// Faults of a run, and what is told of each.
+const FAULTS: [(ThreadsFault, &[u8]); 8] = [
+    (ThreadsFault::Run(RunFault::Read), b"lfsd: read failed\n"),
+    (
+        ThreadsFault::Run(RunFault::TooLong),
+        b"lfsd: script too long\n",
+    ),
+    (
+        ThreadsFault::Run(RunFault::Format(FormatFault::TooFew)),
+        b"lfsd: format TooFew\n",
+    ),
+    (
+        ThreadsFault::Run(RunFault::Format(FormatFault::TooMany)),
+        b"lfsd: format TooMany\n",
+    ),
+    (
+        ThreadsFault::Run(RunFault::Format(FormatFault::Memory)),
+        b"lfsd: format Memory\n",
+    ),
+    (ThreadsFault::Run(RunFault::Memory), b"lfsd: no memory\n"),
+    (ThreadsFault::Run(RunFault::Write), b"lfsd: write failed\n"),
+    (
+        ThreadsFault::CleanerLine,
+        b"lfsd: cleaner line with --threads\n",
+    ),
+];
 
 #[test]
 fn faults(rt: HostRuntime) {
-    let cases: [(RunFault, &[u8]); 7] = [
-        (RunFault::Read, b"lfsd: read failed\n"),
-        (RunFault::TooLong, b"lfsd: script too long\n"),
-        (
-            RunFault::Format(FormatFault::TooFew),
-            b"lfsd: format TooFew\n",
-        ),
-        (
-            RunFault::Format(FormatFault::TooMany),
-            b"lfsd: format TooMany\n",
-        ),
-        (
-            RunFault::Format(FormatFault::Memory),
-            b"lfsd: format Memory\n",
-        ),
-        (RunFault::Memory, b"lfsd: no memory\n"),
-        (RunFault::Write, b"lfsd: write failed\n"),
-    ];
-    for (fault, text) in &cases {
+    for (fault, text) in FAULTS {
         let mut writer = Vec::new(rt.alloc());
-        expect_eq(&rt, tell(&mut writer, &ThreadsFault::Run(*fault)), 1);
-        expect_eq(&rt, writer.as_slice(), *text);
+        expect_eq(&rt, tell(&mut writer, &fault), 1);
+        expect_eq(&rt, writer.as_slice(), text);
     }
 }
 
-#[test]
-fn script_faults(rt: HostRuntime) -> Result<(), Fail> {
-    let alloc = rt.alloc();
-    let cases = [
-        (FaultKind::Cut, "Cut"),
-        (FaultKind::Bytes, "Bytes"),
-        (FaultKind::Words, "Words"),
-        (FaultKind::Many, "Many"),
-        (FaultKind::Number, "Number"),
-        (FaultKind::Range, "Range"),
-        (FaultKind::Path(BadPath::Name(2, BadName::Empty)), "Path"),
-        (FaultKind::Hex, "Hex"),
-        (FaultKind::Cred(BadCred::NoGroup), "Cred"),
-        (FaultKind::Memory, "Memory"),
-    ];
-    for (kind, name) in cases {
-        let mut writer = Vec::new(alloc);
-        let fault = RunFault::Script(ScriptFault {
-            line: 1_048_576,
-            kind,
-        });
-        expect_eq(&rt, tell(&mut writer, &ThreadsFault::Run(fault)), 1);
-        let text = format!(in alloc; "lfsd: script line 1048576: {name}\n")?;
-        expect_eq(&rt, writer.as_slice(), text.as_bytes());
-    }
-    Ok(())
-}
+/// Faults of line 1,048,576, and what is told of each.
+const LINE_FAULTS: [(FaultKind, &[u8]); 10] = [
+    (FaultKind::Cut, b"lfsd: script line 1048576: Cut\n"),
+    (FaultKind::Bytes, b"lfsd: script line 1048576: Bytes\n"),
+    (FaultKind::Words, b"lfsd: script line 1048576: Words\n"),
+    (FaultKind::Many, b"lfsd: script line 1048576: Many\n"),
+    (FaultKind::Number, b"lfsd: script line 1048576: Number\n"),
+    (FaultKind::Range, b"lfsd: script line 1048576: Range\n"),
+    (
+        FaultKind::Path(BadPath::Name(2, BadName::Empty)),
+        b"lfsd: script line 1048576: Path\n",
+    ),
+    (FaultKind::Hex, b"lfsd: script line 1048576: Hex\n"),
+    (
+        FaultKind::Cred(BadCred::NoGroup),
+        b"lfsd: script line 1048576: Cred\n",
+    ),
+    (FaultKind::Memory, b"lfsd: script line 1048576: Memory\n"),
+];
 
 #[test]
-fn cleaner_line_with_threads(rt: HostRuntime) {
-    let mut writer = Vec::new(rt.alloc());
-    expect_eq(&rt, tell(&mut writer, &ThreadsFault::CleanerLine), 1);
-    let text = b"lfsd: cleaner line with --threads\n";
-    expect_eq(&rt, writer.as_slice(), text.as_slice());
+fn script_faults(rt: HostRuntime) {
+    for (kind, text) in LINE_FAULTS {
+        let line = 1_048_576;
+        let fault = ThreadsFault::Run(RunFault::Script(ScriptFault { line, kind }));
+        let mut writer = Vec::new(rt.alloc());
+        expect_eq(&rt, tell(&mut writer, &fault), 1);
+        expect_eq(&rt, writer.as_slice(), text);
+    }
 }

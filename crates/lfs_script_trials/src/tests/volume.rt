@@ -1,51 +1,70 @@
 //! A run of calls over a volume on the plain store, and its journal.
 
 use super::expect_eq;
-use lfs_types::answer::{Answer, Served};
+use lfs_text::plan::{Act, Plan, Step};
+use lfs_text::print::append_answer;
+use lfs_text::script::parse_script;
+use lfs_types::answer::Answer;
 use lfs_types::cred::Cred;
 use lfs_types::level::Level;
-use lfs_types::mode::Mode;
-use lfs_types::path::Path;
-use lfs_types::payload::{Bytes, Payload};
-use lfs_types::request::{Place, Request};
+use lfs_types::path::{BadPath, Path};
+use lfs_types::request::Request;
 use lfs_types::rule::{Denial, Rule};
 use lfs_volume::flat_files::FlatFiles;
 use lfs_volume::journal::{Call, Entry, Event};
 use lfs_volume::volume::Volume;
-use std::alloc::Global;
+use std::alloc::{AllocError, Global};
 use std::test::Fail;
 
-/// A call of session 2 by a user with one group of the same number.
-fn call(user: u32, request: Request) -> Result<Call, Fail> {
-    Ok(Call {
-        session: 2,
-        cred: Cred::new(user, &[user], false)?,
-        request,
-    })
+/// The superuser makes `/a` and writes it. User 5 reads it and would write it.
+const CALLS: &[u8] = b"\
+session 2
+create /a 0644
+write /a at 0 616263
+as 5 5
+read /a 0 10
+write /a at 0 64
+";
+
+/// What they are answered.
+const ANSWERS: &[u8] = b"\
+2 ok
+2 ok
+2 bytes 616263
+2 denied M2 EACCES 0 1
+";
+
+/// The users' calls of a plan.
+fn calls_of(alloc: Global, plan: Plan) -> Result<Vec<Call>, AllocError> {
+    let mut calls = Vec::new(alloc);
+    for step in plan.into_steps() {
+        let Step { session, cred, act } = step;
+        if let Act::User(request) = act {
+            calls.push(Call {
+                session,
+                cred,
+                request,
+            })?;
+        }
+    }
+    Ok(calls)
 }
 
-/// A Write of these bytes at the front of `/a`.
-fn write(alloc: Global, bytes: &[u8]) -> Result<Request, Fail> {
-    Ok(Request::Write {
-        path: Path::parse(alloc, "/a")?,
-        place: Place::At(0),
-        bytes: Payload::new(Vec::from_slice(alloc, bytes)?)?,
-    })
-}
-
-fn create(alloc: Global) -> Result<Request, Fail> {
-    Ok(Request::Create {
-        path: Path::parse(alloc, "/a")?,
-        mode: Mode::new(0o644).ok_or("mode")?,
-    })
-}
-
-fn read(alloc: Global) -> Result<Request, Fail> {
-    Ok(Request::Read {
-        path: Path::parse(alloc, "/a")?,
-        off: 0,
-        len: 10,
-    })
+#[test]
+fn run_answers_each_call_and_enters_it(rt: HostRuntime) -> Result<(), Fail> {
+    let alloc = rt.alloc();
+    let calls = calls_of(alloc, parse_script(alloc, CALLS)?)?;
+    let mut volume = Volume::new(alloc, FlatFiles::new(alloc, 256)?, 4)?;
+    let mut lines = Vec::new(alloc);
+    for answer in &volume.run(calls)? {
+        append_answer(&mut lines, 2, answer)?;
+    }
+    expect_eq(&rt, lines.as_slice(), ANSWERS);
+    expect_eq(&rt, volume.journal().len(), 4);
+    expect_eq(&rt, volume.journal_limit(), 4);
+    expect_eq(&rt, volume.level(), Level::Insecure);
+    expect_eq(&rt, volume.clean_segments(), 1024);
+    Ok(())
 }
 
 /// That a test of the path of the call fails at component 1.
@@ -57,51 +76,31 @@ fn denied(rule: Rule) -> Answer {
     })
 }
 
-/// The superuser makes `/a` and writes it.
-fn owners_calls(alloc: Global) -> Result<Vec<Call>, Fail> {
-    Ok(vec![in alloc; call(0, create(alloc)?)?, call(0, write(alloc, b"abc")?)?]?)
-}
-
-/// User 5 reads `/a` and would write it.
-fn strangers_calls(alloc: Global) -> Result<Vec<Call>, Fail> {
-    Ok(vec![in alloc; call(5, read(alloc)?)?, call(5, write(alloc, b"d")?)?]?)
-}
-
-#[test]
-fn run_answers_each_call_and_enters_it(rt: HostRuntime) -> Result<(), Fail> {
-    let alloc = rt.alloc();
-    let mut volume = Volume::new(alloc, FlatFiles::new(alloc, 256)?, 4)?;
-    let mut calls = owners_calls(alloc)?;
-    calls.append(&mut strangers_calls(alloc)?)?;
-    let answers = volume.run(calls)?;
-    let expected = [
-        Answer::Served(Served::Done),
-        Answer::Served(Served::Done),
-        Answer::Served(Served::Bytes(Bytes::from(Vec::from_slice(alloc, b"abc")?))),
-        denied(Rule::GrantsWrite),
-    ];
-    expect_eq(&rt, answers.as_slice(), expected.as_slice());
-    expect_eq(&rt, volume.journal().len(), 4);
-    expect_eq(&rt, volume.journal_limit(), 4);
-    expect_eq(&rt, volume.level(), Level::Insecure);
-    expect_eq(&rt, volume.clean_segments(), 1024);
-    Ok(())
+/// A Read of `/a`.
+fn read(alloc: Global) -> Result<Request, BadPath> {
+    let path = Path::parse(alloc, "/a")?;
+    let (off, len) = (0, 10);
+    Ok(Request::Read { path, off, len })
 }
 
 #[test]
 fn entry_tells_whether_it_is_a_call(rt: HostRuntime) -> Result<(), Fail> {
-    let alloc = rt.alloc();
     let cred = Cred::new(5, &[5], false)?;
-    let asked = read(alloc)?;
-    let answer = denied(Rule::NameThere);
+    let asked = read(rt.alloc())?;
+    let event = Event::User(read(rt.alloc())?, denied(Rule::NameThere));
     let entry = Entry {
         session: 2,
         cred,
-        event: Event::User(read(alloc)?, denied(Rule::NameThere)),
+        event,
     };
-    assert!(rt; entry.is_call(2, &cred, &asked, &answer));
-    assert!(rt; !entry.is_call(3, &cred, &asked, &answer));
-    let other = denied(Rule::GrantsRead);
-    assert!(rt; !entry.is_call(2, &cred, &asked, &other));
+    for (session, rule, is_call) in [
+        (2, Rule::NameThere, true),
+        (3, Rule::NameThere, false),
+        (2, Rule::GrantsRead, false),
+    ] {
+        let answer = denied(rule);
+        let found = entry.is_call(session, &cred, &asked, &answer);
+        expect_eq(&rt, found, is_call);
+    }
     Ok(())
 }

@@ -10,7 +10,7 @@ use lfs_types::name::clone_names;
 use lfs_types::path::Path;
 use lfs_types::payload::{Bytes, Names};
 use lfs_types::rule::{Denial, Rule};
-use std::alloc::Global;
+use std::alloc::{AllocError, Global};
 use std::test::Fail;
 
 /// A call of each kind, some of them twice with other values or at other paths.
@@ -35,29 +35,51 @@ rename /b /a
 sync
 ";
 
-/// Answers of each kind but names.
-fn answers(alloc: Global) -> Result<Vec<Answer>, Fail> {
-    let attrs = Attrs {
+/// How many answers there are below.
+const ANSWERS: u32 = 8;
+
+/// The answer of this number, from 0. No two are equal.
+fn answer(alloc: Global, number: u32) -> Result<Answer, Fail> {
+    Ok(match number {
+        0 => Answer::Served(Served::Done),
+        1 => Answer::Served(Served::Bytes(bytes_of(alloc, b"abc")?)),
+        2 => Answer::Served(Served::Bytes(bytes_of(alloc, b"abd")?)),
+        3 => Answer::Served(Served::Names(names_of(alloc, "/a/b")?)),
+        4 => Answer::Served(Served::Names(names_of(alloc, "/b/a")?)),
+        5 => Answer::Denied(DENIAL),
+        6 => Answer::Refused(Resource::NoSpace),
+        _ => Answer::Served(Served::Stat(4, attrs()?)),
+    })
+}
+
+/// The attributes of a file of three bytes.
+fn attrs() -> Result<Attrs, Fail> {
+    Ok(Attrs {
         kind: Kind::File,
         uid: 0,
         gid: 0,
         mode: Mode::new(0o644).ok_or("a mode")?,
         flags: FileFlags::none(),
         size: 3,
-    };
-    let bytes = Bytes::from(Vec::from_slice(alloc, b"abc")?);
-    let denial = Denial {
-        rule: Rule::GrantsWrite,
-        path: 0,
-        at: 1,
-    };
-    let mut answers = Vec::new(alloc);
-    answers.push(Answer::Served(Served::Done))?;
-    answers.push(Answer::Served(Served::Bytes(bytes)))?;
-    answers.push(Answer::Denied(denial))?;
-    answers.push(Answer::Refused(Resource::NoSpace))?;
-    answers.push(Answer::Served(Served::Stat(4, attrs)))?;
-    Ok(answers)
+    })
+}
+
+/// A denial at the first component of a path.
+const DENIAL: Denial = Denial {
+    rule: Rule::GrantsWrite,
+    path: 0,
+    at: 1,
+};
+
+/// These bytes, as a Read serves them.
+pub fn bytes_of(alloc: Global, bytes: &[u8]) -> Result<Bytes, AllocError> {
+    Ok(Bytes::from(Vec::from_slice(alloc, bytes)?))
+}
+
+/// The names of a path, as a List serves them.
+pub fn names_of(alloc: Global, path: &str) -> Result<Names, Fail> {
+    let path = Path::parse(alloc, path)?;
+    Ok(Names::from(clone_names(alloc, path.names())?))
 }
 
 #[test]
@@ -76,38 +98,11 @@ fn copied_requests_are_equal_to_their_own_alone(rt: HostRuntime) -> Result<(), F
 
 #[test]
 fn copied_answers_are_equal_to_their_own_alone(rt: HostRuntime) -> Result<(), Fail> {
-    let answers = answers(rt.alloc())?;
-    for (i, answer) in answers.iter().enumerate() {
-        let copy = answer.try_clone(rt.alloc())?;
-        for (j, other) in answers.iter().enumerate() {
-            expect_eq(&rt, copy == *other, i == j);
+    for i in 0..ANSWERS {
+        let copy = answer(rt.alloc(), i)?.try_clone(rt.alloc())?;
+        for j in 0..ANSWERS {
+            expect_eq(&rt, copy == answer(rt.alloc(), j)?, i == j);
         }
     }
-    Ok(())
-}
-
-#[test]
-fn copied_names_are_served_again(rt: HostRuntime) -> Result<(), Fail> {
-    let alloc = rt.alloc();
-    let names = |text: &str| -> Result<Names, Fail> {
-        Ok(Names::from(clone_names(alloc, Path::parse(alloc, text)?.names())?))
-    };
-    let served = Served::Names(names("/a/b")?);
-    let copy = served.try_clone(alloc)?;
-    expect_eq(&rt, &copy, &served);
-    assert_ne!(rt; copy, Served::Names(names("/b/a")?));
-    Ok(())
-}
-
-#[test]
-fn copied_bytes_are_served_again(rt: HostRuntime) -> Result<(), Fail> {
-    let alloc = rt.alloc();
-    let served = Served::Bytes(Bytes::from(Vec::from_slice(alloc, b"abc")?));
-    let copy = served.try_clone(alloc)?;
-    expect_eq(&rt, &copy, &served);
-    assert_ne!(rt;
-        copy,
-        Served::Bytes(Bytes::from(Vec::from_slice(alloc, b"abd")?))
-    );
     Ok(())
 }

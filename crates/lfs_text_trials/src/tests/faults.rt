@@ -1,6 +1,6 @@
 //! The first fault of a script, and what one without a fault asks.
 
-use super::expect_eq;
+use super::{expect_eq, repeated};
 use lfs_text::fault::{FaultKind, ScriptFault};
 use lfs_text::script::parse_script;
 use lfs_types::cred::BadCred;
@@ -13,53 +13,16 @@ use std::test::Fail;
 /// The most bytes of a script of these tests.
 const MOST_BYTES: usize = 65_536;
 
-/// Whether a script has no fault.
-fn is_taken(alloc: Global, script: &str) -> Result<bool, Fail> {
-    let text = script.as_bytes();
-    if text.len() > MOST_BYTES {
-        return Err(Fail::from("a long script"));
-    }
-    Ok(parse_script(alloc, text).is_ok())
-}
-
-/// Asserts that each line of this text, as the second of a script, has this fault.
-fn expect_kind(rt: &impl Abort, alloc: Global, lines: &str, kind: FaultKind) -> Result<(), Fail> {
-    for line in lines.split('\n') {
-        let script = format!(in alloc; "# a comment\n{line}\nlist\n")?;
-        let text = script.as_bytes();
-        if text.len() > MOST_BYTES {
-            return Err(Fail::from("a long script"));
-        }
-        let fault = ScriptFault { line: 2, kind };
-        expect_eq(rt, parse_script(alloc, text).err(), Some(fault));
-    }
-    Ok(())
-}
-
-#[test]
-fn cut(rt: HostRuntime) {
-    for (script, line) in [("#", 1), ("stat /\nstat /", 2), ("\n\n \u{7f}", 3)] {
-        let kind = FaultKind::Cut;
-        let fault = ScriptFault { line, kind };
-        let result = parse_script(rt.alloc(), script.as_bytes());
-        expect_eq(&rt, result.err(), Some(fault));
-    }
-}
-
-#[test]
-fn bytes(rt: HostRuntime) -> Result<(), Fail> {
-    let lines = "\
+/// Lines with a byte that no line may hold.
+const BYTES: &str = "\
 stat /a\tb
 #\u{7f}
 \r
 list \u{1f}
 # é";
-    expect_kind(&rt, rt.alloc(), lines, FaultKind::Bytes)
-}
 
-#[test]
-fn words(rt: HostRuntime) -> Result<(), Fail> {
-    let lines = "\
+/// Lines of wrong words.
+const WORDS: &str = "\
 \x20
 sync\x20
 sync /
@@ -114,12 +77,9 @@ chflags a
 chflags a x y
 level
 level x y";
-    expect_kind(&rt, rt.alloc(), lines, FaultKind::Words)
-}
 
-#[test]
-fn number(rt: HostRuntime) -> Result<(), Fail> {
-    let lines = "\
+/// Lines with a number that is none.
+const NUMBER: &str = "\
 read /a x 1
 read /a +1 1
 read /a -1 1
@@ -166,12 +126,9 @@ bmapv 1:1:1:1:1
 bmapv 1:1:1:
 markv 4294967296:1:1:x
 markv 1:1:1:1 x";
-    expect_kind(&rt, rt.alloc(), lines, FaultKind::Number)
-}
 
-#[test]
-fn range(rt: HostRuntime) -> Result<(), Fail> {
-    let lines = "\
+/// Lines with a number out of its range.
+const RANGE: &str = "\
 read /a 18446744073709551616 x
 read /a 99999999999999999999 1
 read /a 0 4294967296
@@ -199,71 +156,9 @@ infos 4294967296
 segclean 4294967296
 bmapv 4294967296:1:1:1 x
 markv 1:1:1:4294967296";
-    expect_kind(&rt, rt.alloc(), lines, FaultKind::Range)
-}
 
-#[test]
-fn range_of_bytes(rt: HostRuntime) -> Result<(), Fail> {
-    let alloc = rt.alloc();
-    let mut most = String::from_str(alloc, "write /a end ")?;
-    for _ in 0..4096 {
-        most.push_str("7a")?;
-    }
-    let more = format!(in alloc; "{most}7a")?;
-    let odd = format!(in alloc; "{most}z")?;
-    let wrong = format!(in alloc; "{most}zz")?;
-    expect_kind(&rt, alloc, more.as_str(), FaultKind::Range)?;
-    expect_kind(&rt, alloc, odd.as_str(), FaultKind::Range)?;
-    expect_kind(&rt, alloc, wrong.as_str(), FaultKind::Range)?;
-    most.push('\n')?;
-    assert!(rt; is_taken(alloc, most.as_str())?);
-    Ok(())
-}
-
-#[test]
-fn path(rt: HostRuntime) -> Result<(), Fail> {
-    let cases = [
-        ("stat a", BadPath::NotAbsolute),
-        ("stat //", BadPath::Name(1, BadName::Empty)),
-        ("read /a/ x 1", BadPath::Name(2, BadName::Empty)),
-        ("create /.. x", BadPath::Name(1, BadName::Dot)),
-        ("write a/b end zz", BadPath::NotAbsolute),
-        ("list a", BadPath::NotAbsolute),
-        ("unlink a", BadPath::NotAbsolute),
-        ("rmdir a", BadPath::NotAbsolute),
-        ("length a x", BadPath::NotAbsolute),
-        ("mkdir a 8", BadPath::NotAbsolute),
-        ("chmod a 8", BadPath::NotAbsolute),
-        ("chown a x y", BadPath::NotAbsolute),
-        ("chflags a x", BadPath::NotAbsolute),
-        ("rename a //", BadPath::NotAbsolute),
-        ("rename /a //", BadPath::Name(1, BadName::Empty)),
-    ];
-    for (line, fault) in cases {
-        let kind = FaultKind::Path(fault);
-        expect_kind(&rt, rt.alloc(), line, kind)?;
-    }
-    Ok(())
-}
-
-#[test]
-fn long_path(rt: HostRuntime) -> Result<(), Fail> {
-    let alloc = rt.alloc();
-    let mut line = String::from_str(alloc, "stat ")?;
-    for _ in 0..512 {
-        line.push_str("/a")?;
-    }
-    let most = format!(in alloc; "{line}\n")?;
-    line.push('a')?;
-    let kind = FaultKind::Path(BadPath::Long);
-    expect_kind(&rt, alloc, line.as_str(), kind)?;
-    assert!(rt; is_taken(alloc, most.as_str())?);
-    Ok(())
-}
-
-#[test]
-fn hex(rt: HostRuntime) -> Result<(), Fail> {
-    let lines = "\
+/// Lines with wrong digits of bytes.
+const HEX: &str = "\
 write /a end 6
 write /a end 6g
 write /a end 6A
@@ -271,32 +166,133 @@ write /a end --
 write /a end -6
 write /a at 0 616
 write /a at 0 0x";
-    expect_kind(&rt, rt.alloc(), lines, FaultKind::Hex)
+
+/// Lines whose path is refused as one that does not begin with a slash.
+const NOT_ABSOLUTE: &str = "\
+stat a
+write a/b end zz
+list a
+unlink a
+rmdir a
+length a x
+mkdir a 8
+chmod a 8
+chown a x y
+chflags a x
+rename a //";
+
+/// Lines, and the fault of each of them.
+const FAULTS: [(FaultKind, &str); 11] = [
+    (FaultKind::Bytes, BYTES),
+    (FaultKind::Words, WORDS),
+    (FaultKind::Number, NUMBER),
+    (FaultKind::Range, RANGE),
+    (FaultKind::Path(BadPath::NotAbsolute), NOT_ABSOLUTE),
+    (
+        FaultKind::Path(BadPath::Name(1, BadName::Empty)),
+        "stat //\nrename /a //",
+    ),
+    (
+        FaultKind::Path(BadPath::Name(2, BadName::Empty)),
+        "read /a/ x 1",
+    ),
+    (
+        FaultKind::Path(BadPath::Name(1, BadName::Dot)),
+        "create /.. x",
+    ),
+    (FaultKind::Hex, HEX),
+    (FaultKind::Cred(BadCred::InitNotRoot), "as 5 5 init"),
+    (
+        FaultKind::Cred(BadCred::TooManyGroups),
+        "as 5 1,2,3,4,5,6,7,8,9,10,11,12,13,14,15,16,17 init",
+    ),
+];
+
+/// The first fault of a script, where it has one.
+fn fault_of(alloc: Global, script: &str) -> Result<Option<ScriptFault>, Fail> {
+    let text = script.as_bytes();
+    if text.len() > MOST_BYTES {
+        return Err(Fail::from("a long script"));
+    }
+    Ok(parse_script(alloc, text).err())
+}
+
+/// Asserts that each line of this text, as the second of a script, has this fault.
+fn expect_kind(rt: &impl Abort, alloc: Global, lines: &str, kind: FaultKind) -> Result<(), Fail> {
+    for line in lines.split('\n') {
+        let script = format!(in alloc; "# a comment\n{line}\nlist\n")?;
+        let fault = ScriptFault { line: 2, kind };
+        expect_eq(rt, fault_of(alloc, script.as_str())?, Some(fault));
+    }
+    Ok(())
 }
 
 #[test]
-fn cred(rt: HostRuntime) -> Result<(), Fail> {
-    let kind = FaultKind::Cred(BadCred::InitNotRoot);
-    expect_kind(&rt, rt.alloc(), "as 5 5 init", kind)?;
-    let line = "as 5 1,2,3,4,5,6,7,8,9,10,11,12,13,14,15,16,17 init";
-    let kind = FaultKind::Cred(BadCred::TooManyGroups);
-    expect_kind(&rt, rt.alloc(), line, kind)
+fn cut(rt: HostRuntime) {
+    for (script, line) in [("#", 1), ("stat /\nstat /", 2), ("\n\n \u{7f}", 3)] {
+        let kind = FaultKind::Cut;
+        let fault = ScriptFault { line, kind };
+        let result = parse_script(rt.alloc(), script.as_bytes());
+        expect_eq(&rt, result.err(), Some(fault));
+    }
 }
 
 #[test]
-fn many(rt: HostRuntime) -> Result<(), Fail> {
-    let alloc = rt.alloc();
-    for (verb, most) in [("bmapv", 248), ("markv", 8)] {
-        let mut line = String::from_str(alloc, verb)?;
-        for _ in 0..most {
-            line.push_str(" 4294967295:1:2147483648:65")?;
-        }
-        let script = format!(in alloc; "{line}\n")?;
-        assert!(rt; is_taken(alloc, script.as_str())?);
-        let more = format!(in alloc; "{line} x")?;
-        expect_kind(&rt, alloc, more.as_str(), FaultKind::Many)?;
-        let bare = format!(in alloc; "{line} x ")?;
-        expect_kind(&rt, alloc, bare.as_str(), FaultKind::Words)?;
+fn first_fault_of_each_line(rt: HostRuntime) -> Result<(), Fail> {
+    for (kind, lines) in FAULTS {
+        expect_kind(&rt, rt.alloc(), lines, kind)?;
+    }
+    Ok(())
+}
+
+/// The beginning of a line, what follows it at most so often, and what may not stand behind that.
+const LONGEST: [(&str, &str, u32, &[(&str, FaultKind)]); 4] = [
+    (
+        "write /a end ",
+        "7a",
+        4096,
+        &[
+            ("7a", FaultKind::Range),
+            ("z", FaultKind::Range),
+            ("zz", FaultKind::Range),
+        ],
+    ),
+    ("stat ", "/a", 512, &[("a", FaultKind::Path(BadPath::Long))]),
+    (
+        "bmapv",
+        " 4294967295:1:2147483648:65",
+        248,
+        &[(" x", FaultKind::Many), (" x ", FaultKind::Words)],
+    ),
+    (
+        "markv",
+        " 4294967295:1:2147483648:65",
+        8,
+        &[(" x", FaultKind::Many), (" x ", FaultKind::Words)],
+    ),
+];
+
+/// Asserts that a line has no fault by itself, and with each of these behind it the fault that is named.
+fn expect_longest(
+    rt: &impl Abort,
+    alloc: Global,
+    line: &str,
+    more: &[(&str, FaultKind)],
+) -> Result<(), Fail> {
+    let script = format!(in alloc; "{line}\n")?;
+    expect_eq(rt, fault_of(alloc, script.as_str())?, None);
+    for (behind, kind) in more {
+        let longer = format!(in alloc; "{line}{behind}")?;
+        expect_kind(rt, alloc, longer.as_str(), *kind)?;
+    }
+    Ok(())
+}
+
+#[test]
+fn longest_lines(rt: HostRuntime) -> Result<(), Fail> {
+    for (before, part, times, more) in LONGEST {
+        let line = repeated(rt.alloc(), before, part, times)?;
+        expect_longest(&rt, rt.alloc(), line.as_str(), more)?;
     }
     Ok(())
 }

@@ -1,17 +1,11 @@
 //! What scripts without a fault ask.
 
 use super::expect_eq;
-use lfs_text::plan::{Act, Step};
+use lfs_text::plan::{Act, Plan, Step};
 use lfs_text::script::parse_script;
 use lfs_text::split::SplitFault;
-use lfs_types::cleaner::CleanerCall;
 use lfs_types::cred::Cred;
-use lfs_types::file_flags::FileFlags;
-use lfs_types::level::Level;
-use lfs_types::mode::Mode;
-use lfs_types::path::Path;
-use lfs_types::payload::Payload;
-use lfs_types::request::{Place, Request};
+use lfs_types::request::Request;
 use std::alloc::{AllocError, Global};
 use std::test::Fail;
 
@@ -46,142 +40,114 @@ fn sixteen_groups(rt: HostRuntime) -> Result<(), Fail> {
     Ok(())
 }
 
-/// Fails unless a script asks for this call alone.
-fn expect(alloc: Global, script: &str, wanted: Request) -> Result<(), Fail> {
-    let requests = requests_of(alloc, script)?;
-    match requests.as_slice() {
-        [request] if *request == wanted => Ok(()),
-        _ => Err(Fail::from("another call is asked for")),
+/// A script with users' calls.
+const CALLS: &[u8] = b"
+# nothing
+stat /
+create /d/f 6755
+read /f 18446744073709551615 4294967295
+write /f at 00000000000000000007 00ff6a
+write /f end -
+list /f
+unlink /f
+rmdir /f
+length /f 71680
+rename /f /
+sync
+mkdir /f 755
+chmod /f 1777
+chown /f 7 0008
+chflags /f 70007
+level -1
+level -01
+level 0
+level -0
+level 00
+level 00000000000000000001
+level 2
+";
+
+/// What its lines ask for, each with its session and its user.
+const ASKED: &str = "\
+0 0 User(Stat { path: Path { names: [] } })
+0 0 User(Create { path: Path { names: [Name { bytes: [100] }, Name { bytes: [102] }] }, \
+mode: Mode { set: ModeBits(3565) } })
+0 0 User(Read { path: Path { names: [Name { bytes: [102] }] }, off: 18446744073709551615, len: 4294967295 })
+0 0 User(Write { path: Path { names: [Name { bytes: [102] }] }, place: At(7), bytes: Payload { content: [0, \
+255, 106] } })
+0 0 User(Write { path: Path { names: [Name { bytes: [102] }] }, place: End, \
+bytes: Payload { content: [] } })
+0 0 User(List { path: Path { names: [Name { bytes: [102] }] } })
+0 0 User(Unlink { path: Path { names: [Name { bytes: [102] }] } })
+0 0 User(Rmdir { path: Path { names: [Name { bytes: [102] }] } })
+0 0 User(SetLength { path: Path { names: [Name { bytes: [102] }] }, len: 71680 })
+0 0 User(Rename { from: Path { names: [Name { bytes: [102] }] }, to: Path { names: [] } })
+0 0 User(Sync)
+0 0 User(Mkdir { path: Path { names: [Name { bytes: [102] }] }, mode: Mode { set: ModeBits(493) } })
+0 0 User(Chmod { path: Path { names: [Name { bytes: [102] }] }, mode: Mode { set: ModeBits(1023) } })
+0 0 User(Chown { path: Path { names: [Name { bytes: [102] }] }, uid: 7, gid: 8 })
+0 0 User(Chflags { path: Path { names: [Name { bytes: [102] }] }, \
+flags: FileFlags { set: FlagBits(458759) } })
+0 0 User(SetLevel { level: PermanentlyInsecure })
+0 0 User(SetLevel { level: PermanentlyInsecure })
+0 0 User(SetLevel { level: Insecure })
+0 0 User(SetLevel { level: Insecure })
+0 0 User(SetLevel { level: Insecure })
+0 0 User(SetLevel { level: Secure })
+0 0 User(SetLevel { level: HighlySecure })
+";
+
+/// A script with the cleaner's lines.
+const CLEANER_LINES: &[u8] = b"\
+ifile
+session 8
+infos 3
+as 7 7
+bmapv 4:1:2147483648:65 4:1:4294967295:66
+bmapv
+session 2
+markv 5:2:139:0
+segclean 1023
+pass
+";
+
+/// What they ask for, each with its session and its user.
+const CLEANER_CALLS: &str = "\
+0 0 Cleaner(HeldCall { call: Ifile })
+8 0 Cleaner(HeldCall { call: Infos(3) })
+8 7 Cleaner(HeldCall { call: Bmapv(BlockInfos { items: [BlockInfo { ino: 4, version: 1, lbn: 2147483648, addr: 65 }, \
+BlockInfo { ino: 4, version: 1, lbn: 4294967295, addr: 66 }] }) })
+8 7 Cleaner(HeldCall { call: Bmapv(BlockInfos { items: [] }) })
+2 7 Cleaner(HeldCall { call: Markv(BlockInfos { items: [BlockInfo { ino: 5, version: 2, lbn: 139, addr: 0 }] }) })
+2 7 Cleaner(HeldCall { call: Segclean(1023) })
+2 7 Pass
+";
+
+/// What the lines of a plan ask for, each with its session and its user.
+fn said(alloc: Global, plan: &Plan) -> Result<String, AllocError> {
+    let mut said = String::new(alloc);
+    for step in plan.steps() {
+        let Step { session, cred, act } = step;
+        let uid = cred.uid();
+        writeln!(said, "{session} {uid} {act:?}")?;
     }
+    Ok(said)
 }
 
 #[test]
 fn each_call_as_it_is_written(rt: HostRuntime) -> Result<(), Fail> {
-    let alloc = rt.alloc();
-    let path = Path::parse(alloc, "/")?;
-    expect(alloc, "\n# nothing\nstat /\n", Request::Stat { path })?;
-    let path = Path::parse(alloc, "/d/f")?;
-    let mode = Mode::new(0o6755).ok_or("mode")?;
-    expect(alloc, "create /d/f 6755\n", Request::Create { path, mode })?;
-    let path = Path::parse(alloc, "/f")?;
-    let (off, len) = (u64::MAX, u32::MAX);
-    let read = "read /f 18446744073709551615 4294967295\n";
-    expect(alloc, read, Request::Read { path, off, len })?;
-    let path = Path::parse(alloc, "/f")?;
-    let (place, bytes) = (Place::At(7), Payload::new(vec![in alloc; 0, 255, 106]?)?);
-    let write = "write /f at 00000000000000000007 00ff6a\n";
-    expect(alloc, write, Request::Write { path, place, bytes })?;
-    let path = Path::parse(alloc, "/f")?;
-    let (place, bytes) = (Place::End, Payload::new(Vec::new(alloc))?);
-    expect(
-        alloc,
-        "write /f end -\n",
-        Request::Write { path, place, bytes },
-    )
-}
-
-#[test]
-fn each_removal_and_length_as_it_is_written(rt: HostRuntime) -> Result<(), Fail> {
-    let alloc = rt.alloc();
-    let path = Path::parse(alloc, "/f")?;
-    expect(alloc, "list /f\n", Request::List { path })?;
-    let path = Path::parse(alloc, "/f")?;
-    expect(alloc, "unlink /f\n", Request::Unlink { path })?;
-    let path = Path::parse(alloc, "/f")?;
-    expect(alloc, "rmdir /f\n", Request::Rmdir { path })?;
-    let path = Path::parse(alloc, "/f")?;
-    let len = 71_680;
-    expect(alloc, "length /f 71680\n", Request::SetLength { path, len })?;
-    let (from, to) = (Path::parse(alloc, "/f")?, Path::parse(alloc, "/")?);
-    expect(alloc, "rename /f /\n", Request::Rename { from, to })?;
-    expect(alloc, "sync\n", Request::Sync)
-}
-
-#[test]
-fn each_change_of_attributes_as_it_is_written(rt: HostRuntime) -> Result<(), Fail> {
-    let alloc = rt.alloc();
-    let path = Path::parse(alloc, "/f")?;
-    let mode = Mode::new(0o755).ok_or("mode")?;
-    expect(alloc, "mkdir /f 755\n", Request::Mkdir { path, mode })?;
-    let path = Path::parse(alloc, "/f")?;
-    let mode = Mode::new(0o1777).ok_or("mode")?;
-    expect(alloc, "chmod /f 1777\n", Request::Chmod { path, mode })?;
-    let path = Path::parse(alloc, "/f")?;
-    let (uid, gid) = (7, 8);
-    expect(
-        alloc,
-        "chown /f 7 0008\n",
-        Request::Chown { path, uid, gid },
-    )?;
-    let path = Path::parse(alloc, "/f")?;
-    let flags = FileFlags::new(0x70007).ok_or("flags")?;
-    expect(
-        alloc,
-        "chflags /f 70007\n",
-        Request::Chflags { path, flags },
-    )
-}
-
-#[test]
-fn levels_by_value(rt: HostRuntime) -> Result<(), Fail> {
-    let alloc = rt.alloc();
-    let cases = [
-        ("level -1\n", Level::PermanentlyInsecure),
-        ("level -01\n", Level::PermanentlyInsecure),
-        ("level 0\n", Level::Insecure),
-        ("level -0\n", Level::Insecure),
-        ("level 00\n", Level::Insecure),
-        ("level 00000000000000000001\n", Level::Secure),
-        ("level 2\n", Level::HighlySecure),
-    ];
-    for (line, level) in cases {
-        let requests = requests_of(alloc, line)?;
-        assert_eq!(rt; requests.len(), 1);
-        expect_eq(&rt, &requests[0], &Request::SetLevel { level });
-    }
+    let plan = parse_script(rt.alloc(), CALLS)?;
+    let said = said(rt.alloc(), &plan)?;
+    expect_eq(&rt, said.as_str(), ASKED);
     Ok(())
-}
-
-/// A call of the cleaner by its name and what it names.
-fn said(alloc: Global, call: &CleanerCall) -> Result<String, AllocError> {
-    match call {
-        CleanerCall::Ifile => format!(in alloc; "ifile"),
-        CleanerCall::Infos(segment) => format!(in alloc; "infos {segment}"),
-        CleanerCall::Segclean(segment) => format!(in alloc; "segclean {segment}"),
-        CleanerCall::Bmapv(infos) => {
-            let infos = infos.items();
-            format!(in alloc; "bmapv {infos:?}")
-        }
-        CleanerCall::Markv(infos) => {
-            let infos = infos.items();
-            format!(in alloc; "markv {infos:?}")
-        }
-    }
 }
 
 #[test]
 fn cleaner_calls_as_they_are_written(rt: HostRuntime) -> Result<(), Fail> {
-    let alloc = rt.alloc();
-    let script =
-        "ifile\nsession 8\ninfos 3\nas 7 7\nbmapv 4:1:2147483648:65 4:1:4294967295:66\nbmapv\nsession 2\nmarkv 5:2:139:0\nsegclean 1023\npass\n";
-    let plan = parse_script(alloc, script.as_bytes())?;
+    let plan = parse_script(rt.alloc(), CLEANER_LINES)?;
     expect_eq(&rt, plan.sessions(), 8);
-    let mut seen = String::new(alloc);
-    for step in plan.steps() {
-        let session = step.session;
-        let uid = step.cred.uid();
-        match &step.act {
-            Act::User(_) => writeln!(seen, "user")?,
-            Act::Pass => writeln!(seen, "{session} {uid} pass")?,
-            Act::Cleaner(held) => {
-                let call = said(alloc, held.call())?;
-                writeln!(seen, "{session} {uid} {call}")?
-            }
-        }
-    }
-    let expected =
-        "0 0 ifile\n8 0 infos 3\n8 7 bmapv [BlockInfo { ino: 4, version: 1, lbn: 2147483648, addr: 65 }, BlockInfo { ino: 4, version: 1, lbn: 4294967295, addr: 66 }]\n8 7 bmapv []\n2 7 markv [BlockInfo { ino: 5, version: 2, lbn: 139, addr: 0 }]\n2 7 segclean 1023\n2 7 pass\n";
-    expect_eq(&rt, &seen.as_str(), &expected);
+    let said = said(rt.alloc(), &plan)?;
+    expect_eq(&rt, said.as_str(), CLEANER_CALLS);
     Ok(())
 }
 

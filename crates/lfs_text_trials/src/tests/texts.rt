@@ -92,29 +92,31 @@ fn refusals(rt: HostRuntime) -> Result<(), Fail> {
     Ok(())
 }
 
+/// Names, and the line of a List that serves them.
+const NAMES: [(&[&[u8]], &str); 4] = [
+    (&[], "0 names\n"),
+    (&[b"a"], "0 names a\n"),
+    (&[b"!", b"..a", b"~"], "0 names ! ..a ~\n"),
+    (
+        &[b"\x01 b", b"100%", b"\x7f\x80\xff"],
+        "0 names %01%20b 100%25 %7f%80%ff\n",
+    ),
+];
+
+/// The list of these names.
+fn listed(alloc: Global, names: &[&[u8]]) -> Result<Names, Fail> {
+    let mut listed = Vec::new(alloc);
+    for name in names {
+        listed.push(Name::parse(alloc, name)?)?;
+    }
+    Ok(Names::from(listed))
+}
+
 #[test]
 fn names(rt: HostRuntime) -> Result<(), Fail> {
-    let alloc = rt.alloc();
-    let cases: [(&[&[u8]], &str); 4] = [
-        (&[], "0 names\n"),
-        (&[b"a"], "0 names a\n"),
-        (&[b"!", b"..a", b"~"], "0 names ! ..a ~\n"),
-        (
-            &[b"\x01 b", b"100%", b"\x7f\x80\xff"],
-            "0 names %01%20b 100%25 %7f%80%ff\n",
-        ),
-    ];
-    for (names, text) in cases {
-        let mut listed = Vec::new(alloc);
-        for name in names {
-            listed.push(Name::parse(alloc, name)?)?;
-        }
-        let answer = Answer::Served(Served::Names(Names::from(listed)));
-        expect_eq(
-            &rt,
-            print_answer(alloc, 0, &answer)?.as_slice(),
-            text.as_bytes(),
-        );
+    for (names, line) in NAMES {
+        let served = Served::Names(listed(rt.alloc(), names)?);
+        expect_served(&rt, rt.alloc(), served, line)?;
     }
     Ok(())
 }
@@ -231,42 +233,46 @@ fn cleaner_refusals(rt: HostRuntime) -> Result<(), Fail> {
     Ok(())
 }
 
-#[test]
-fn reports(rt: HostRuntime) -> Result<(), Fail> {
-    let alloc = rt.alloc();
-    let empty = "entries 0\nserved 0\ndenied 0\nrefused 0\ncleaner 0\n";
-    expect_eq(&rt, report(alloc, &[])?.as_slice(), empty.as_bytes());
-    let denied = Answer::Denied(Denial {
-        rule: Rule::FitsFile,
-        path: 0,
-        at: 1,
-    });
-    let events = [
-        Event::User(Request::Sync, Answer::Served(Served::Done)),
-        Event::User(Request::Sync, denied),
-        Event::Cleaner(CleanerKind::Ifile, CleanerOutcome::Denied),
-        Event::Cleaner(CleanerKind::Ifile, CleanerOutcome::Done(252)),
-        Event::Cleaner(
+/// How many entries there are below.
+const ENTRIES: u32 = 7;
+
+/// What happened in the entry of this number, from 0.
+fn event(number: u32) -> Event {
+    match number {
+        1 => Event::User(Request::Sync, Answer::Denied(DENIAL)),
+        2 => Event::Cleaner(CleanerKind::Ifile, CleanerOutcome::Denied),
+        3 => Event::Cleaner(CleanerKind::Ifile, CleanerOutcome::Done(252)),
+        4 => Event::Cleaner(
             CleanerKind::Infos,
             CleanerOutcome::Fault(CleanFault::Active),
         ),
-        Event::User(Request::Sync, Answer::Refused(Resource::NoSpace)),
-        Event::User(Request::Sync, Answer::Served(Served::Done)),
-    ];
+        5 => Event::User(Request::Sync, Answer::Refused(Resource::NoSpace)),
+        _ => Event::User(Request::Sync, Answer::Served(Served::Done)),
+    }
+}
+
+/// A denial by the rule that is the last of the report.
+const DENIAL: Denial = Denial {
+    rule: Rule::FitsFile,
+    path: 0,
+    at: 1,
+};
+
+#[test]
+fn reports(rt: HostRuntime) -> Result<(), Fail> {
+    let empty = "entries 0\nserved 0\ndenied 0\nrefused 0\ncleaner 0\n";
+    expect_eq(&rt, report(rt.alloc(), &[])?.as_slice(), empty.as_bytes());
     let cred = Cred::new(0, &[0], false)?;
-    let mut entries = Vec::new(alloc);
-    for event in Vec::from_array(alloc, events)? {
+    let mut entries = Vec::new(rt.alloc());
+    for number in 0..ENTRIES {
         entries.push(Entry {
             session: 0,
             cred,
-            event,
+            event: event(number),
         })?;
     }
     let text = "entries 7\nserved 2\ndenied 1\nrefused 1\ncleaner 3\nrule U1 1\nrule Z1 1\n";
-    expect_eq(
-        &rt,
-        report(alloc, entries.as_slice())?.as_slice(),
-        text.as_bytes(),
-    );
+    let lines = report(rt.alloc(), entries.as_slice())?;
+    expect_eq(&rt, lines.as_slice(), text.as_bytes());
     Ok(())
 }

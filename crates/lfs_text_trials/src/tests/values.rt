@@ -1,5 +1,6 @@
 //! Modes, flags, levels, credentials, payloads and lists.
 
+use super::calls::{bytes_of, names_of};
 use super::expect_eq;
 use lfs_types::attrs::Kind;
 use lfs_types::cred::{BadCred, Cred};
@@ -7,8 +8,7 @@ use lfs_types::fault::FormatFault;
 use lfs_types::file_flags::{FileFlags, FlagBits};
 use lfs_types::level::Level;
 use lfs_types::mode::{Mode, ModeBits};
-use lfs_types::name::Name;
-use lfs_types::payload::{BadSize, Bytes, Names, Payload};
+use lfs_types::payload::{BadSize, Payload};
 use std::alloc::AllocError;
 use std::test::Fail;
 
@@ -105,19 +105,20 @@ fn payloads_have_at_most_4096_bytes(rt: HostRuntime) -> Result<(), Fail> {
 }
 
 #[test]
-fn copied_lists_are_equal(rt: HostRuntime) -> Result<(), Fail> {
-    let alloc = rt.alloc();
-    let bytes = Bytes::from(vec![in alloc; 0x61, 0x62, 0x63]?);
-    expect_eq(&rt, &bytes.try_clone(alloc)?, &bytes);
-    assert_ne!(rt; bytes, Bytes::from(vec![in alloc; 0x61, 0x62]?));
+fn copied_bytes_are_equal(rt: HostRuntime) -> Result<(), Fail> {
+    let bytes = bytes_of(rt.alloc(), b"abc")?;
+    expect_eq(&rt, &bytes.try_clone(rt.alloc())?, &bytes);
+    expect_eq(&rt, bytes == bytes_of(rt.alloc(), b"ab")?, false);
     expect_eq(&rt, bytes.as_slice(), b"abc".as_slice());
     expect_eq(&rt, bytes.into_vec().len(), 3);
-    let names = Names::from(vec![in alloc; Name::parse(alloc, b"b")?, Name::parse(alloc, b"c")?]?);
-    expect_eq(&rt, &names.try_clone(alloc)?, &names);
-    assert_ne!(rt;
-        names,
-        Names::from(vec![in alloc; Name::parse(alloc, b"b")?]?)
-    );
+    Ok(())
+}
+
+#[test]
+fn copied_lists_are_equal(rt: HostRuntime) -> Result<(), Fail> {
+    let names = names_of(rt.alloc(), "/b/c")?;
+    expect_eq(&rt, &names.try_clone(rt.alloc())?, &names);
+    expect_eq(&rt, names == names_of(rt.alloc(), "/b")?, false);
     expect_eq(&rt, names.as_slice().len(), 2);
     expect_eq(&rt, names.into_vec().len(), 2);
     Ok(())

@@ -1,35 +1,31 @@
 //! A script that is cut after each of its bytes.
 
 use super::fakes::Shut;
-use super::{expect_eq, run};
+use super::{PARAMS, expect_eq, expect_with};
 use lfs_audit::fault::RunFault;
+use lfs_audit::scripts::run_script;
 use lfs_text::fault::{FaultKind, ScriptFault};
 use std::test::Fail;
 
 /// The lines of a script, and what each prints.
-const LINES: [(&[u8], &[u8]); 6] = [
-    (b"as 0 0\n", b""),
-    (b"create /a 0644\n", b"0 ok\n"),
-    (b"write /a at 0 616263\n", b"0 ok\n"),
-    (b"as 5 5\n", b""),
-    (b"read /a 0 10\n", b"0 bytes 616263\n"),
-    (b"write /a at 0 64\n", b"0 denied M2 EACCES 0 1\n"),
+const LINES: [(&str, &str); 6] = [
+    ("as 0 0\n", ""),
+    ("create /a 0644\n", "0 ok\n"),
+    ("write /a at 0 616263\n", "0 ok\n"),
+    ("as 5 5\n", ""),
+    ("read /a 0 10\n", "0 bytes 616263\n"),
+    ("write /a at 0 64\n", "0 denied M2 EACCES 0 1\n"),
 ];
 
 #[test]
 fn script_cut_behind_each_line(rt: HostRuntime) -> Result<(), Fail> {
     let alloc = rt.alloc();
-    let mut script = Vec::new(alloc);
-    let mut answers = Vec::new(alloc);
+    let mut script = String::new(alloc);
+    let mut answers = String::new(alloc);
     for (line, answer) in LINES {
-        script.extend_from_slice(line)?;
-        answers.extend_from_slice(answer)?;
-        let mut written = Vec::new(alloc);
-        run(alloc, &mut script.as_slice(), &mut written)?;
-        let Some(report) = written.as_slice().strip_prefix(answers.as_slice()) else {
-            return Err(Fail::from("other lines"));
-        };
-        assert!(rt; report.starts_with(b"entries "));
+        script.push_str(line)?;
+        answers.push_str(answer)?;
+        expect_with(&rt, alloc, script.as_str(), PARAMS, answers.as_str())?;
     }
     Ok(())
 }
@@ -37,20 +33,20 @@ fn script_cut_behind_each_line(rt: HostRuntime) -> Result<(), Fail> {
 #[test]
 fn script_cut_within_each_line(rt: HostRuntime) -> Result<(), Fail> {
     let alloc = rt.alloc();
-    let mut script = Vec::new(alloc);
+    let mut script = String::new(alloc);
     for (line, _) in LINES {
-        script.extend_from_slice(line)?;
+        script.push_str(line)?;
     }
     let mut line = 1u32;
     for count in 1..script.len() {
-        let cut = &script.as_slice()[..count];
+        let cut = &script.as_bytes()[..count];
         if cut.ends_with(b"\n") {
             line = line.saturating_add(1);
             continue;
         }
         let kind = FaultKind::Cut;
         let mut writer = Shut { is_asked: false };
-        let result = run(alloc, &mut &*cut, &mut writer);
+        let result = run_script(alloc, &mut &*cut, &mut writer, PARAMS);
         let fault = RunFault::Script(ScriptFault { line, kind });
         expect_eq(&rt, &result, &Err(fault));
         assert!(rt; !writer.is_asked);

@@ -1,10 +1,11 @@
 //! Which of several faults a run is given, and that nothing is written up to it.
 
 use super::fakes::{Failing, Shut};
-use super::{PARAMS, expect_eq, run, run_on_threads};
+use super::{PARAMS, expect_eq};
 use lfs_audit::fault::{RunFault, ThreadsFault};
 use lfs_audit::scripts::run_script;
 use lfs_audit::threaded::run_threads;
+use lfs_options::DEFAULTS;
 use lfs_server::serving::ServeFault;
 use lfs_text::fault::{FaultKind, ScriptFault};
 use lfs_types::fault::FormatFault;
@@ -41,9 +42,13 @@ fn reading_ends_at_its_first_fault(rt: HostRuntime) -> Result<(), Fail> {
         let kind = ErrorKind::Other;
         let mut writer = Shut { is_asked: false };
         let mut reader = Failing { rest, reads, kind };
-        expect_eq(&rt, run(alloc, &mut reader, &mut writer), Err(fault));
+        expect_eq(
+            &rt,
+            run_script(alloc, &mut reader, &mut writer, PARAMS),
+            Err(fault),
+        );
         let mut reader = Failing { rest, reads, kind };
-        let result = run_on_threads(&rt, alloc, &mut reader, &mut writer);
+        let result = run_threads(&rt, alloc, &mut reader, &mut writer, PARAMS);
         expect_eq(&rt, &result, &Err(ThreadsFault::Run(fault)));
         assert!(rt; !writer.is_asked);
     }
@@ -52,7 +57,7 @@ fn reading_ends_at_its_first_fault(rt: HostRuntime) -> Result<(), Fail> {
 
 #[test]
 fn faults_on_threads_come_in_their_order(rt: HostRuntime) {
-    let cases: [(&[u8], ThreadsFault); 7] = [
+    let cases: [(&[u8], ThreadsFault); 8] = [
         (b"show\n", script_fault(1, FaultKind::Words)),
         (b"ifile\nsession 9\n", script_fault(2, FaultKind::Range)),
         (b"session 1\npass\nsync", script_fault(3, FaultKind::Cut)),
@@ -63,8 +68,12 @@ fn faults_on_threads_come_in_their_order(rt: HostRuntime) {
             b"create /a 0644\nread /a 0 1\n",
             ThreadsFault::Serve(ServeFault::Sessions),
         ),
+        (
+            b"as 0 0\ncreate /a 0644\nread /a 0 10\n",
+            ThreadsFault::Serve(ServeFault::Sessions),
+        ),
     ];
-    for params in [PARAMS, TOO_FEW, TOO_MANY] {
+    for params in [PARAMS, DEFAULTS, TOO_FEW, TOO_MANY] {
         for (script, fault) in &cases {
             let mut writer = Shut { is_asked: false };
             let result = run_threads(&rt, rt.alloc(), &mut &**script, &mut writer, params);

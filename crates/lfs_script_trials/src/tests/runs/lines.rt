@@ -1,9 +1,8 @@
-//! Scripts with the cleaner's lines, and what they print.
+//! A script with the cleaner's lines, and what it prints.
 
 use super::store::Unswept;
-use super::{PARAMS, expect_eq, run_script};
+use super::{PARAMS, expect_eq};
 use lfs_audit::run::run_over;
-use lfs_types::store::Params;
 use lfs_volume::flat_files::FlatFiles;
 use lfs_volume::volume::Volume;
 use std::test::Fail;
@@ -47,50 +46,6 @@ rule U1 3
     let mut volume = Volume::new(alloc, store, PARAMS.journal)?;
     let mut writer = Vec::new(alloc);
     run_over(alloc, &mut script.as_slice(), &mut writer, &mut volume)?;
-    expect_eq(&rt, writer.as_slice(), expected.as_slice());
-    Ok(())
-}
-
-#[test]
-fn lines_behind_a_full_journal(rt: HostRuntime) -> Result<(), Fail> {
-    let script = b"create /a 0644
-create /a 0644
-stat /none
-session 2
-as 5 5
-write /a at 0 61
-level 1
-segclean 9999
-pass
-session 0
-as 0 0
-bmapv
-pass
-unlink /a
-";
-    let expected = b"\
-0 ok
-0 refused JournalFull
-0 refused JournalFull
-2 refused JournalFull
-2 refused JournalFull
-2 cleaner segclean refused JournalFull
-2 cleaner ifile refused JournalFull
-0 cleaner bmapv refused JournalFull
-0 cleaner ifile refused JournalFull
-0 refused JournalFull
-entries 1
-served 1
-denied 0
-refused 0
-cleaner 0
-";
-    let params = Params {
-        journal: 1,
-        ..PARAMS
-    };
-    let mut writer = Vec::new(rt.alloc());
-    run_script(rt.alloc(), &mut script.as_slice(), &mut writer, params)?;
     expect_eq(&rt, writer.as_slice(), expected.as_slice());
     Ok(())
 }

@@ -1,8 +1,9 @@
 //! Scripts run over readers and writers that fail, never end or take little.
 
 use super::fakes::{Endless, Failing, Full, Shut, Slow};
-use super::{expect_eq, push_long_reads, run};
+use super::{LONG_READS, PARAMS, expect_eq};
 use lfs_audit::fault::RunFault;
+use lfs_audit::scripts::run_script;
 use lfs_text::fault::{FaultKind, ScriptFault};
 use std::io::ErrorKind;
 use std::test::Fail;
@@ -20,7 +21,7 @@ fn reader_that_fails_at_each_read(rt: HostRuntime) {
                 kind,
             };
             let mut writer = Shut { is_asked: false };
-            let result = run(rt.alloc(), &mut reader, &mut writer);
+            let result = run_script(rt.alloc(), &mut reader, &mut writer, PARAMS);
             expect_eq(&rt, &result, &Err(RunFault::Read));
             assert!(rt; !writer.is_asked);
         }
@@ -31,7 +32,7 @@ fn reader_that_fails_at_each_read(rt: HostRuntime) {
         kind: ErrorKind::Other,
     };
     let mut writer = Vec::new(rt.alloc());
-    let result = run(rt.alloc(), &mut reader, &mut writer);
+    let result = run_script(rt.alloc(), &mut reader, &mut writer, PARAMS);
     expect_eq(&rt, &result, &Ok(()));
 }
 
@@ -42,7 +43,7 @@ fn reader_that_never_ends(rt: HostRuntime) {
         reads: 0,
     };
     let mut writer = Vec::new(rt.alloc());
-    let result = run(rt.alloc(), &mut reader, &mut writer);
+    let result = run_script(rt.alloc(), &mut reader, &mut writer, PARAMS);
     expect_eq(&rt, &result, &Err(RunFault::TooLong));
     expect_eq(&rt, reader.reads, 1_048_577);
     assert!(rt; writer.is_empty());
@@ -56,45 +57,40 @@ fn longest_script(rt: HostRuntime) -> Result<(), Fail> {
         script.extend_from_slice(b"#\n")?;
     }
     let mut writer = Vec::new(alloc);
-    let result = run(alloc, &mut script.as_slice(), &mut writer);
+    let result = run_script(alloc, &mut script.as_slice(), &mut writer, PARAMS);
     expect_eq(&rt, &result, &Ok(()));
     let report = b"entries 0\nserved 0\ndenied 0\nrefused 0\ncleaner 0\n";
     expect_eq(&rt, writer.as_slice(), report.as_slice());
     writer.clear();
     script.push(b'x')?;
-    let result = run(alloc, &mut script.as_slice(), &mut writer);
+    let result = run_script(alloc, &mut script.as_slice(), &mut writer, PARAMS);
     expect_eq(&rt, &result, &Err(RunFault::TooLong));
     script.pop();
     script.pop();
     let line = 524_288;
     let kind = FaultKind::Cut;
     let fault = RunFault::Script(ScriptFault { line, kind });
-    let result = run(alloc, &mut script.as_slice(), &mut writer);
+    let result = run_script(alloc, &mut script.as_slice(), &mut writer, PARAMS);
     expect_eq(&rt, &result, &Err(fault));
     assert!(rt; writer.is_empty());
     Ok(())
 }
 
 #[test]
-fn writer_that_fails_at_each_write(rt: HostRuntime) -> Result<(), Fail> {
-    let mut script = String::new(rt.alloc());
-    push_long_reads(&mut script)?;
-    for writes in 0..3 {
-        let mut writer = Full {
-            writes,
-            flushes: true,
-        };
-        let result = run(rt.alloc(), &mut script.as_bytes(), &mut writer);
-        expect_eq(&rt, &result, &Err(RunFault::Write));
+fn writer_that_fails_at_each_write(rt: HostRuntime) {
+    let script = LONG_READS.trim_start_matches("session 1\n");
+    for (writes, flushes, wanted) in [
+        (0, true, Err(RunFault::Write)),
+        (1, true, Err(RunFault::Write)),
+        (2, true, Err(RunFault::Write)),
+        (3, true, Ok(())),
+        (3, false, Err(RunFault::Write)),
+    ] {
+        let mut writer = Full { writes, flushes };
+        let result = run_script(rt.alloc(), &mut script.as_bytes(), &mut writer, PARAMS);
+        expect_eq(&rt, &result, &wanted);
         expect_eq(&rt, writer.writes, 0);
     }
-    for (flushes, expected) in [(true, Ok(())), (false, Err(RunFault::Write))] {
-        let mut writer = Full { writes: 3, flushes };
-        let result = run(rt.alloc(), &mut script.as_bytes(), &mut writer);
-        expect_eq(&rt, &result, &expected);
-        expect_eq(&rt, writer.writes, 0);
-    }
-    Ok(())
 }
 
 #[test]
@@ -102,7 +98,7 @@ fn writer_that_takes_a_byte_at_a_time(rt: HostRuntime) -> Result<(), Fail> {
     let mut writer = Slow {
         taken: Vec::new(rt.alloc()),
     };
-    let result = run(rt.alloc(), &mut &*SCRIPT, &mut writer);
+    let result = run_script(rt.alloc(), &mut &*SCRIPT, &mut writer, PARAMS);
     expect_eq(&rt, &result, &Ok(()));
     let expected = b"\
 0 ok

@@ -1,10 +1,10 @@
 //! Scripts run on threads over readers and writers that fail, never end or take little.
 
 use super::fakes::{Endless, Failing, Full, Shut, Slow};
-use super::{expect_eq, push_long_reads, run_on_threads};
+use super::{LONG_READS, PARAMS, expect_eq};
 use lfs_audit::fault::{RunFault, ThreadsFault};
+use lfs_audit::threaded::run_threads;
 use std::io::ErrorKind;
-use std::test::Fail;
 
 const SCRIPT: &[u8] = b"create /a 0666\nsession 1\nas 7 7\nwrite /a at 0 616263\nread /a 0 10\n";
 
@@ -19,7 +19,7 @@ fn reader_on_threads_that_fails_at_each_read(rt: HostRuntime) {
                 kind,
             };
             let mut writer = Shut { is_asked: false };
-            let result = run_on_threads(&rt, rt.alloc(), &mut reader, &mut writer);
+            let result = run_threads(&rt, rt.alloc(), &mut reader, &mut writer, PARAMS);
             expect_eq(&rt, &result, &Err(ThreadsFault::Run(RunFault::Read)));
             assert!(rt; !writer.is_asked);
         }
@@ -30,7 +30,7 @@ fn reader_on_threads_that_fails_at_each_read(rt: HostRuntime) {
         kind: ErrorKind::Other,
     };
     let mut writer = Vec::new(rt.alloc());
-    let result = run_on_threads(&rt, rt.alloc(), &mut reader, &mut writer);
+    let result = run_threads(&rt, rt.alloc(), &mut reader, &mut writer, PARAMS);
     expect_eq(&rt, &result, &Ok(()));
 }
 
@@ -41,34 +41,28 @@ fn reader_on_threads_that_never_ends(rt: HostRuntime) {
         reads: 0,
     };
     let mut writer = Shut { is_asked: false };
-    let result = run_on_threads(&rt, rt.alloc(), &mut reader, &mut writer);
+    let result = run_threads(&rt, rt.alloc(), &mut reader, &mut writer, PARAMS);
     expect_eq(&rt, &result, &Err(ThreadsFault::Run(RunFault::TooLong)));
     expect_eq(&rt, reader.reads, 1_048_577);
     assert!(rt; !writer.is_asked);
 }
 
 #[test]
-fn writer_on_threads_that_fails_at_each_write(rt: HostRuntime) -> Result<(), Fail> {
-    let mut script = String::new(rt.alloc());
-    script.push_str("session 1\n")?;
-    push_long_reads(&mut script)?;
+fn writer_on_threads_that_fails_at_each_write(rt: HostRuntime) {
     let fault = ThreadsFault::Run(RunFault::Write);
-    for writes in 0..3 {
-        let mut writer = Full {
-            writes,
-            flushes: true,
-        };
-        let result = run_on_threads(&rt, rt.alloc(), &mut script.as_bytes(), &mut writer);
-        expect_eq(&rt, &result, &Err(fault));
+    for (writes, flushes, wanted) in [
+        (0, true, Err(fault)),
+        (1, true, Err(fault)),
+        (2, true, Err(fault)),
+        (3, true, Ok(())),
+        (3, false, Err(fault)),
+    ] {
+        let mut script = LONG_READS.as_bytes();
+        let mut writer = Full { writes, flushes };
+        let result = run_threads(&rt, rt.alloc(), &mut script, &mut writer, PARAMS);
+        expect_eq(&rt, &result, &wanted);
         expect_eq(&rt, writer.writes, 0);
     }
-    for (flushes, expected) in [(true, Ok(())), (false, Err(fault))] {
-        let mut writer = Full { writes: 3, flushes };
-        let result = run_on_threads(&rt, rt.alloc(), &mut script.as_bytes(), &mut writer);
-        expect_eq(&rt, &result, &expected);
-        expect_eq(&rt, writer.writes, 0);
-    }
-    Ok(())
 }
 
 #[test]
@@ -76,7 +70,7 @@ fn writer_on_threads_that_takes_a_byte_at_a_time(rt: HostRuntime) {
     let mut writer = Slow {
         taken: Vec::new(rt.alloc()),
     };
-    let result = run_on_threads(&rt, rt.alloc(), &mut &*SCRIPT, &mut writer);
+    let result = run_threads(&rt, rt.alloc(), &mut &*SCRIPT, &mut writer, PARAMS);
     expect_eq(&rt, &result, &Ok(()));
     let written = writer.taken.as_slice();
     assert!(rt; written.starts_with(b"0 ok\n1 ok\n1 bytes 616263\nentries "));
