@@ -4,6 +4,7 @@ use super::expect_eq;
 use clap::error::ErrorKind;
 use lfs_options::{DEFAULTS, Options, options_of};
 use lfs_types::store::Params;
+use std::alloc::Global;
 use std::test::Fail;
 
 /// Words of a command line, and what they ask for.
@@ -123,6 +124,14 @@ fn help(rt: HostRuntime) -> Result<(), Fail> {
     Ok(())
 }
 
+/// What is told of a word that is refused.
+fn fault_text(alloc: Global, word: &str) -> Result<String, Fail> {
+    match options_of(alloc, &["lfsd", word]) {
+        Ok(_) => Err(Fail::from("no fault")),
+        Err(error) => Ok(format!(in alloc; "{error}")?),
+    }
+}
+
 #[test]
 fn usage_fault_names_the_range(rt: HostRuntime) -> Result<(), Fail> {
     let cases = [
@@ -136,10 +145,7 @@ fn usage_fault_names_the_range(rt: HostRuntime) -> Result<(), Fail> {
         ("--journal=+1", "from 1 to 100000"),
     ];
     for (word, range) in cases {
-        let Err(error) = options_of(rt.alloc(), &["lfsd", word]) else {
-            return Err(Fail::from("no fault"));
-        };
-        let text = format!(in rt.alloc(); "{error}")?;
+        let text = fault_text(rt.alloc(), word)?;
         assert!(rt; text.contains(range));
     }
     Ok(())

@@ -1,5 +1,5 @@
-//! Tests of what no contract says: scripts over a plain store whose cleaner finds nothing to do, a journal at its limit,
-//! scripts that are cut, readers and writers that fail or never end, and which of several faults a run is given.
+//! Tests of what no contract says: a script over a plain store whose cleaner finds nothing to do, scripts that are cut,
+//! readers and writers that fail or never end, and which of several faults a run is given.
 
 mod cuts;
 mod faults;

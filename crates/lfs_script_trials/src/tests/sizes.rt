@@ -3,7 +3,7 @@
 use super::expect_with;
 use lfs_options::DEFAULTS;
 use lfs_types::store::Params;
-use std::alloc::Global;
+use std::alloc::{AllocError, Global};
 use std::process::Abort;
 use std::test::Fail;
 
@@ -24,27 +24,38 @@ struct Listing {
     lack: &'static str,
 }
 
-/// Asserts that the names are made and listed, and that another is refused.
-fn expect_list(rt: &impl Abort, alloc: Global, listing: Listing) -> Result<(), Fail> {
+/// The script that makes the names, lists them and asks for another.
+fn script_of(alloc: Global, listing: Listing) -> Result<String, AllocError> {
     let Listing { stem, digits, .. } = listing;
     let mut script = String::new(alloc);
-    let mut names = String::new(alloc);
-    let mut expected = String::new(alloc);
     for number in 0..listing.count {
         writeln!(script, "create /{stem}{number:0digits$} 0600")?;
-        write!(names, " {stem}{number:0digits$}")?;
-        expected.push_str("0 ok\n")?;
     }
     script.push_str("list /\ncreate /x 0600\n")?;
+    Ok(script)
+}
+
+/// What it prints up to the report.
+fn lines_of(alloc: Global, listing: Listing) -> Result<String, AllocError> {
+    let Listing { stem, digits, .. } = listing;
+    let mut lines = String::new(alloc);
+    for _ in 0..listing.count {
+        lines.push_str("0 ok\n")?;
+    }
+    lines.push_str("0 names")?;
+    for number in 0..listing.count {
+        write!(lines, " {stem}{number:0digits$}")?;
+    }
     let lack = listing.lack;
-    writeln!(expected, "0 names{names}\n0 refused {lack}")?;
-    expect_with(
-        rt,
-        alloc,
-        script.as_str(),
-        listing.params,
-        expected.as_str(),
-    )
+    writeln!(lines, "\n0 refused {lack}")?;
+    Ok(lines)
+}
+
+/// Asserts that the names are made and listed, and that another is refused.
+fn expect_list(rt: &impl Abort, alloc: Global, listing: Listing) -> Result<(), Fail> {
+    let script = script_of(alloc, listing)?;
+    let lines = lines_of(alloc, listing)?;
+    expect_with(rt, alloc, script.as_str(), listing.params, lines.as_str())
 }
 
 #[test]

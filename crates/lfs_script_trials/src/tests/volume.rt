@@ -1,14 +1,11 @@
 //! A run of calls over a volume on the plain store, and its journal.
 
 use super::expect_eq;
-use lfs_text::plan::{Act, Plan, Step};
+use lfs_text::plan::{Act, Plan};
 use lfs_text::print::append_answer;
 use lfs_text::script::parse_script;
 use lfs_types::answer::Answer;
-use lfs_types::cred::Cred;
 use lfs_types::level::Level;
-use lfs_types::path::{BadPath, Path};
-use lfs_types::request::Request;
 use lfs_types::rule::{Denial, Rule};
 use lfs_volume::flat_files::FlatFiles;
 use lfs_volume::journal::{Call, Entry, Event};
@@ -35,30 +32,35 @@ const ANSWERS: &[u8] = b"\
 ";
 
 /// The users' calls of a plan.
-fn calls_of(alloc: Global, plan: Plan) -> Result<Vec<Call>, AllocError> {
+fn calls_of(alloc: Global, plan: &Plan) -> Result<Vec<Call>, AllocError> {
     let mut calls = Vec::new(alloc);
-    for step in plan.into_steps() {
-        let Step { session, cred, act } = step;
-        if let Act::User(request) = act {
+    for step in plan.steps() {
+        if let Act::User(request) = &step.act {
             calls.push(Call {
-                session,
-                cred,
-                request,
+                session: step.session,
+                cred: step.cred,
+                request: request.try_clone(alloc)?,
             })?;
         }
     }
     Ok(calls)
 }
 
+/// The lines of answers in session 2.
+fn lines_of(alloc: Global, answers: &[Answer]) -> Result<Vec<u8>, AllocError> {
+    let mut lines = Vec::new(alloc);
+    for answer in answers {
+        append_answer(&mut lines, 2, answer)?;
+    }
+    Ok(lines)
+}
+
 #[test]
 fn run_answers_each_call_and_enters_it(rt: HostRuntime) -> Result<(), Fail> {
     let alloc = rt.alloc();
-    let calls = calls_of(alloc, parse_script(alloc, CALLS)?)?;
+    let calls = calls_of(alloc, &parse_script(alloc, CALLS)?)?;
     let mut volume = Volume::new(alloc, FlatFiles::new(alloc, 256)?, 4)?;
-    let mut lines = Vec::new(alloc);
-    for answer in &volume.run(calls)? {
-        append_answer(&mut lines, 2, answer)?;
-    }
+    let lines = lines_of(alloc, volume.run(calls)?.as_slice())?;
     expect_eq(&rt, lines.as_slice(), ANSWERS);
     expect_eq(&rt, volume.journal().len(), 4);
     expect_eq(&rt, volume.journal_limit(), 4);
@@ -76,30 +78,37 @@ fn denied(rule: Rule) -> Answer {
     })
 }
 
-/// A Read of `/a`.
-fn read(alloc: Global) -> Result<Request, BadPath> {
-    let path = Path::parse(alloc, "/a")?;
-    let (off, len) = (0, 10);
-    Ok(Request::Read { path, off, len })
+/// User 5 reads `/a`.
+const READ: &[u8] = b"session 2\nas 5 5\nread /a 0 10\n";
+
+/// The entry of a call that was denied, as the name isn't there.
+fn entry(alloc: Global, call: &Call) -> Result<Entry, AllocError> {
+    let request = call.request.try_clone(alloc)?;
+    Ok(Entry {
+        session: call.session,
+        cred: call.cred,
+        event: Event::User(request, denied(Rule::NameThere)),
+    })
+}
+
+/// Whether it is the entry of this call in this session, denied by this rule.
+fn is_denied(entry: &Entry, session: u8, call: &Call, rule: Rule) -> bool {
+    entry.is_call(session, &call.cred, &call.request, &denied(rule))
 }
 
 #[test]
 fn entry_tells_whether_it_is_a_call(rt: HostRuntime) -> Result<(), Fail> {
-    let cred = Cred::new(5, &[5], false)?;
-    let asked = read(rt.alloc())?;
-    let event = Event::User(read(rt.alloc())?, denied(Rule::NameThere));
-    let entry = Entry {
-        session: 2,
-        cred,
-        event,
+    let calls = calls_of(rt.alloc(), &parse_script(rt.alloc(), READ)?)?;
+    let [call] = calls.as_slice() else {
+        return Err(Fail::from("one call"));
     };
+    let entry = entry(rt.alloc(), call)?;
     for (session, rule, is_call) in [
         (2, Rule::NameThere, true),
         (3, Rule::NameThere, false),
         (2, Rule::GrantsRead, false),
     ] {
-        let answer = denied(rule);
-        let found = entry.is_call(session, &cred, &asked, &answer);
+        let found = is_denied(&entry, session, call, rule);
         expect_eq(&rt, found, is_call);
     }
     Ok(())

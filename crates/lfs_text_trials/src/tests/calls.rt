@@ -1,7 +1,8 @@
 //! Copies of requests and answers.
 
 use super::expect_eq;
-use super::plans::requests_of;
+use lfs_text::plan::{Act, Step};
+use lfs_text::script::parse_script;
 use lfs_types::answer::{Answer, Resource, Served};
 use lfs_types::attrs::{Attrs, Kind};
 use lfs_types::file_flags::FileFlags;
@@ -9,12 +10,13 @@ use lfs_types::mode::Mode;
 use lfs_types::name::clone_names;
 use lfs_types::path::Path;
 use lfs_types::payload::{Bytes, Names};
+use lfs_types::request::Request;
 use lfs_types::rule::{Denial, Rule};
 use std::alloc::{AllocError, Global};
 use std::test::Fail;
 
 /// A call of each kind, some of them twice with other values or at other paths.
-const CALLS: &str = "\
+const CALLS: &[u8] = b"\
 create /a 644
 write /a at 0 616263
 read /a 0 10
@@ -34,6 +36,14 @@ chmod /a 755
 rename /b /a
 sync
 ";
+
+/// The user's call of a step, where it is one.
+fn request_of(step: &Step) -> Option<&Request> {
+    match &step.act {
+        Act::User(request) => Some(request),
+        Act::Cleaner(_) | Act::Pass => None,
+    }
+}
 
 /// How many answers there are below.
 const ANSWERS: u32 = 8;
@@ -84,13 +94,14 @@ pub fn names_of(alloc: Global, path: &str) -> Result<Names, Fail> {
 
 #[test]
 fn copied_requests_are_equal_to_their_own_alone(rt: HostRuntime) -> Result<(), Fail> {
-    let alloc = rt.alloc();
-    let requests = requests_of(alloc, CALLS)?;
-    expect_eq(&rt, requests.len(), 18);
-    for (i, request) in requests.iter().enumerate() {
-        let copy = request.try_clone(alloc)?;
-        for (j, other) in requests.iter().enumerate() {
-            expect_eq(&rt, copy == *other, i == j);
+    let plan = parse_script(rt.alloc(), CALLS)?;
+    let steps = plan.steps();
+    expect_eq(&rt, steps.len(), 18);
+    for (i, step) in steps.iter().enumerate() {
+        let request = request_of(step).ok_or("a call")?;
+        let copy = request.try_clone(rt.alloc())?;
+        for (j, other) in steps.iter().enumerate() {
+            expect_eq(&rt, request_of(other) == Some(&copy), i == j);
         }
     }
     Ok(())

@@ -1,31 +1,15 @@
 //! What scripts without a fault ask.
 
 use super::expect_eq;
-use lfs_text::plan::{Act, Plan, Step};
+use lfs_text::plan::{Plan, Step};
 use lfs_text::script::parse_script;
 use lfs_text::split::SplitFault;
 use lfs_types::cred::Cred;
 use lfs_types::request::Request;
+use lfs_types::script::Script;
 use std::alloc::{AllocError, Global};
+use std::process::Abort;
 use std::test::Fail;
-
-/// The users' calls of a script.
-pub fn requests_of(alloc: Global, script: &str) -> Result<Vec<Request>, Fail> {
-    let text = script.as_bytes();
-    if text.len() > 4096 {
-        return Err(Fail::from("a long script"));
-    }
-    let plan = parse_script(alloc, text)?;
-    let mut requests = Vec::new(alloc);
-    for step in plan.into_steps() {
-        let Step { act, .. } = step;
-        match act {
-            Act::User(request) => requests.push(request)?,
-            _other => {}
-        }
-    }
-    Ok(requests)
-}
 
 #[test]
 fn sixteen_groups(rt: HostRuntime) -> Result<(), Fail> {
@@ -151,27 +135,29 @@ fn cleaner_calls_as_they_are_written(rt: HostRuntime) -> Result<(), Fail> {
     Ok(())
 }
 
+/// Asserts that a script is Syncs, by these callers.
+fn expect_syncs(rt: &impl Abort, script: &Script, callers: &[Cred]) {
+    let calls = script.as_slice();
+    expect_eq(rt, calls.len(), callers.len());
+    for ((cred, request), caller) in calls.iter().zip(callers) {
+        expect_eq(rt, cred, caller);
+        expect_eq(rt, request, &Request::Sync);
+    }
+}
+
 #[test]
 fn a_script_for_each_session(rt: HostRuntime) -> Result<(), Fail> {
-    let alloc = rt.alloc();
-    let script = "sync\nsession 2\nas 7 8\nsync\nsession 0\nsync\nsession 3\nsession 2\nsync\n";
-    let (setup, scripts) = parse_script(alloc, script.as_bytes())?.split(alloc)?;
     let root = Cred::new(0, &[0], false)?;
     let user = Cred::new(7, &[8], false)?;
-    let setup = setup.into_vec();
-    expect_eq(
-        &rt,
-        setup.as_slice(),
-        [(root, Request::Sync), (user, Request::Sync)].as_slice(),
-    );
-    assert_eq!(rt; scripts.len(), 3);
-    expect_eq(&rt, scripts[0].as_slice().len(), 0);
-    expect_eq(
-        &rt,
-        scripts[1].as_slice(),
-        [(user, Request::Sync), (user, Request::Sync)].as_slice(),
-    );
-    expect_eq(&rt, scripts[2].as_slice().len(), 0);
+    let script = b"sync\nsession 2\nas 7 8\nsync\nsession 0\nsync\nsession 3\nsession 2\nsync\n";
+    let (setup, scripts) = parse_script(rt.alloc(), script)?.split(rt.alloc())?;
+    expect_syncs(&rt, &setup, &[root, user]);
+    let [first, second, third] = scripts.as_slice() else {
+        return Err(Fail::from("three scripts"));
+    };
+    expect_syncs(&rt, first, &[]);
+    expect_syncs(&rt, second, &[user, user]);
+    expect_syncs(&rt, third, &[]);
     Ok(())
 }
 

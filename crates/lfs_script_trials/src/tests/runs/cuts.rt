@@ -5,6 +5,7 @@ use super::{PARAMS, expect_eq, expect_with};
 use lfs_audit::fault::RunFault;
 use lfs_audit::scripts::run_script;
 use lfs_text::fault::{FaultKind, ScriptFault};
+use std::alloc::{AllocError, Global};
 use std::test::Fail;
 
 /// The lines of a script, and what each prints.
@@ -30,13 +31,19 @@ fn script_cut_behind_each_line(rt: HostRuntime) -> Result<(), Fail> {
     Ok(())
 }
 
-#[test]
-fn script_cut_within_each_line(rt: HostRuntime) -> Result<(), Fail> {
-    let alloc = rt.alloc();
+/// All the lines.
+fn whole_script(alloc: Global) -> Result<String, AllocError> {
     let mut script = String::new(alloc);
     for (line, _) in LINES {
         script.push_str(line)?;
     }
+    Ok(script)
+}
+
+#[test]
+fn script_cut_within_each_line(rt: HostRuntime) -> Result<(), Fail> {
+    let alloc = rt.alloc();
+    let script = whole_script(alloc)?;
     let mut line = 1u32;
     for count in 1..script.len() {
         let cut = &script.as_bytes()[..count];

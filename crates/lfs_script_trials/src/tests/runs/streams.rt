@@ -78,6 +78,7 @@ fn longest_script(rt: HostRuntime) -> Result<(), Fail> {
 
 #[test]
 fn writer_that_fails_at_each_write(rt: HostRuntime) {
+    // Without their first line they are lines of session 0.
     let script = LONG_READS.trim_start_matches("session 1\n");
     for (writes, flushes, wanted) in [
         (0, true, Err(RunFault::Write)),
