@@ -37,11 +37,19 @@ rename /b /a
 sync
 ";
 
-/// The user's call of a step, where it is one.
-fn request_of(step: &Step) -> Option<&Request> {
+/// A copy of the user's call of a step.
+fn copy_of(alloc: Global, step: &Step) -> Result<Request, Fail> {
     match &step.act {
-        Act::User(request) => Some(request),
-        Act::Cleaner(_) | Act::Pass => None,
+        Act::User(request) => Ok(request.try_clone(alloc)?),
+        Act::Cleaner(_) | Act::Pass => Err(Fail::from("no user's call")),
+    }
+}
+
+/// Whether a step is this call.
+fn is_call(step: &Step, call: &Request) -> bool {
+    match &step.act {
+        Act::User(request) => request == call,
+        Act::Cleaner(_) | Act::Pass => false,
     }
 }
 
@@ -98,10 +106,9 @@ fn copied_requests_are_equal_to_their_own_alone(rt: HostRuntime) -> Result<(), F
     let steps = plan.steps();
     expect_eq(&rt, steps.len(), 18);
     for (i, step) in steps.iter().enumerate() {
-        let request = request_of(step).ok_or("a call")?;
-        let copy = request.try_clone(rt.alloc())?;
+        let copy = copy_of(rt.alloc(), step)?;
         for (j, other) in steps.iter().enumerate() {
-            expect_eq(&rt, request_of(other) == Some(&copy), i == j);
+            expect_eq(&rt, is_call(other, &copy), i == j);
         }
     }
     Ok(())
