@@ -3,7 +3,7 @@
 ghost use Rattle.std.specs.Prelude.{◌≡◌, ◌≤◌, ◌<◌};
 ghost use Rattle.lfs_recency.specs.FrameLists.{frame_count};
 
-use crate::store::Measure;
+use crate::measure::Measure;
 use anyhow::Result;
 use lfs_cache::{Cache, Key};
 use lfs_recency::{Frames, Queue};
@@ -17,45 +17,34 @@ const TURNS: u32 = 512;
 
 /// Moves each frame to the front of a queue, the next round of another, as often as the scale says. A move counts
 /// as served.
-pub fn run_moves<R: Clock + AllocGlobal>(rt: &R, scale: Scale) -> Result<Measure> {
-    let count = scale.frames;
-    let mut frames = Frames::new(rt.alloc(), count)?;
-    let rounds = rounds_of(&scale);
+pub fn run_moves<R: Clock + AllocGlobal>(rt: &R, scale: &Scale) -> Result<Measure> {
+    let mut frames = Frames::new(rt.alloc(), scale.frames)?;
+    let rounds = rounds_of(scale);
     let start = Instant::now(rt)?;
-    for round in 0..rounds {
-        let queue = if round % 2 == 0 {
-            Queue::Lru
-        } else {
-            Queue::Age
-        };
-        move_each(&mut frames, count, queue);
-    }
-    let seconds = start.elapsed(rt)?.as_secs_f64();
-    let counts = Counts {
-        served: u64::from(rounds) * u64::from(count),
-        ..Counts::default()
-    };
-    Ok(Measure { counts, seconds })
+    move_all(&mut frames, scale.frames, rounds);
+    Measure::since(
+        rt,
+        start,
+        served(u64::from(rounds) * u64::from(scale.frames)),
+    )
 }
 
 /// Looks up the keys of all frames, as often as the scale says. A key that is held counts as served.
-pub fn run_look_ups<R: Clock + AllocGlobal>(rt: &R, scale: Scale) -> Result<Measure> {
-    let count = scale.frames;
-    let mut cache = Cache::new(rt.alloc(), count)?;
-    for lbn in 0..count {
-        fill_new(&mut cache, lbn);
-    }
-    let mut served = 0u64;
+pub fn run_look_ups<R: Clock + AllocGlobal>(rt: &R, scale: &Scale) -> Result<Measure> {
+    let mut cache = Cache::new(rt.alloc(), scale.frames)?;
+    fill_all(&mut cache, scale.frames);
     let start = Instant::now(rt)?;
-    for _ in 0..rounds_of(&scale) {
-        served = served.wrapping_add(held_of(&mut cache, count));
-    }
-    let seconds = start.elapsed(rt)?.as_secs_f64();
-    let counts = Counts {
+    let held = held_in_all(&mut cache, scale.frames, rounds_of(scale));
+    Measure::since(rt, start, served(held))
+}
+
+/// Counts of so many served calls.
+fn served(served: u64) -> Counts {
+    Counts {
         served,
-        ..Counts::default()
-    };
-    Ok(Measure { counts, seconds })
+        denied: 0,
+        refused: 0,
+    }
 }
 
 /// How often all frames have their turn.
@@ -72,6 +61,20 @@ fn key(lbn: u32) -> Key {
     }
 }
 
+/// Moves each frame to the front of a queue so many times, by turns of one and of another.
+fn move_all(frames: &mut Frames, count: u32, rounds: u32)
+    requires { count ≤ frame_count frames.old }
+{
+    for round in 0..rounds {
+        let queue = if round % 2 == 0 {
+            Queue::Lru
+        } else {
+            Queue::Age
+        };
+        move_each(frames, count, queue);
+    }
+}
+
 /// Moves each frame to the front of a queue.
 fn move_each(frames: &mut Frames, count: u32, queue: Queue)
     requires { count ≤ frame_count frames.old }
@@ -82,6 +85,15 @@ fn move_each(frames: &mut Frames, count: u32, queue: Queue)
     }
 }
 
+/// Looks each key up so many times, and tells how often one is held.
+fn held_in_all(cache: &mut Cache, count: u32, rounds: u32) -> u64 {
+    let mut held = 0u64;
+    for _ in 0..rounds {
+        held = held.wrapping_add(held_of(cache, count));
+    }
+    held
+}
+
 /// Looks each key up, and tells how many are held.
 fn held_of(cache: &mut Cache, count: u32) -> u64 {
     let mut held = 0u64;
@@ -89,6 +101,13 @@ fn held_of(cache: &mut Cache, count: u32) -> u64 {
         held = held.wrapping_add(u64::from(cache.get(key(lbn)).is_some()));
     }
     held
+}
+
+/// Puts a block into each frame.
+fn fill_all(cache: &mut Cache, count: u32) {
+    for lbn in 0..count {
+        fill_new(cache, lbn);
+    }
 }
 
 /// Puts a block into a frame, where its key isn't held.

@@ -1,4 +1,4 @@
-//! Times the calls of the file server over each store, and the frames of its cache, as what may grow grows; and calls of
+//! Times calls of the file server over each store, and the frames of its cache, as what may grow grows; and calls of
 //! eight sessions on threads against those of one.
 //!
 //! What the calls were answered is counted on standard output. The times go to standard error, as the table that
@@ -7,33 +7,46 @@
 
 mod cleaned;
 mod frames;
+mod measure;
 mod options;
 mod rows;
 mod sessions;
 mod stopwatch;
 mod store;
 
-use options::options_of;
+use options::{Options, matches_of, options_in};
 use std::env::{self, Env};
 use std::io;
 use std::process::ExitCode;
+use std::rt::Clock;
+use std::sync::Wait;
+use std::thread::Threads;
 
 fn main(rt: HostRuntime) -> anyhow::Result<ExitCode> {
     let words = program_words(&rt)?;
-    let options = match options_of(rt.alloc(), words.as_slice()) {
-        Ok(options) => options,
+    let matches = match matches_of(rt.alloc(), words.as_slice()) {
+        Ok(matches) => matches,
         Err(error) => {
             error.print(&rt)?;
             return Ok(ExitCode::from(error.exit_code() as u8));
         }
     };
-    if !options.workloads.is_empty() {
-        rows::print_rows(&rt, &options)?;
-    }
-    if options.sessions {
-        sessions::print_sessions(&rt, &options)?;
-    }
+    print_tables(&rt, &options_in(&matches))?;
     Ok(ExitCode::SUCCESS)
+}
+
+/// Prints the tables of what is asked for.
+fn print_tables<R>(rt: &R, options: &Options<'_>) -> anyhow::Result<()>
+where
+    R: Threads + Wait + Sync + Clock + AllocGlobal + Print + Eprint,
+{
+    if options.has_rows() {
+        rows::print_rows(rt, options)?;
+    }
+    if options.has_sessions() {
+        sessions::print_sessions(rt, options)?;
+    }
+    Ok(())
 }
 
 /// The words of the command line, the program's name first.

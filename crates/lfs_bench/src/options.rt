@@ -3,9 +3,9 @@
 ghost use Rattle.std.specs.Prelude.{◌≤◌};
 
 use clap::builder::ValueParser;
-use clap::{Arg, ArgAction, ArgMatches, Command, Error, value_parser};
+use clap::{Arg, ArgAction, ArgMatches, Command, Error};
 use lfs_runs::scale::CALLS_MAX;
-use lfs_workloads::workload::Workload;
+use lfs_workloads::workload::{SESSIONS, Workload};
 use std::alloc::{AllocError, Global};
 use std::convert::AsStr;
 
@@ -15,16 +15,36 @@ const CALLS: u32 = 2048;
 /// How many runs each time is the best of where no argument says otherwise.
 const RUNS: u32 = 5;
 
-/// The name by which sessions on threads are asked for.
-const SESSIONS: &str = "sessions";
+/// An option that takes a number from 1 on.
+#[derive(Clone, Copy)]
+struct NumberOption {
+    /// Its name.
+    name: &'static str,
+    /// The greatest number that it takes.
+    most: u64,
+    /// What `--help` tells of it.
+    help: &'static str,
+}
+
+/// The options that take a number, in the order of `--help`.
+const NUMBERS: [NumberOption; 2] = [
+    NumberOption {
+        name: "calls",
+        most: 65_536,
+        help: "How many calls are timed before they grow, 1 to 65536; by default 2048",
+    },
+    NumberOption {
+        name: "runs",
+        most: 100,
+        help: "How many runs each time is the best of, 1 to 100; by default 5",
+    },
+];
 
 /// What is asked for.
-#[derive(Drop)]
-pub struct Options {
-    /// The workloads of one session, in the order in which they are run.
-    pub workloads: Vec<Workload>,
-    /// Whether sessions on threads are run behind them.
-    pub sessions: bool,
+#[derive(Clone, Copy)]
+pub struct Options<'a> {
+    /// The names of the workloads, in the order in which they are run.
+    pub names: &'a [&'a str],
     /// How many calls are timed before they grow: 1 to 65,536.
     pub calls: u32,
     /// How many runs each time is the best of: 1 to 100.
@@ -32,91 +52,67 @@ pub struct Options {
     ghost few: { calls ≤ 65536 },
 }
 
-/// The options that the program's words ask for; the first word is the program's name.
-pub fn options_of<'a, S: AsStr>(alloc: Global, words: &'a [S]) -> Result<Options, Error> {
-    let names = names(alloc)?;
-    let mut command = command(alloc, names.as_slice())?;
-    let matches = command.try_get_matches_from_mut(words)?;
-    Ok(options_in(alloc, &matches)?)
+impl Options<'_> {
+    /// Whether a workload of one session is asked for.
+    pub fn has_rows(&self) -> bool {
+        for name in self.names {
+            if *name != SESSIONS {
+                return true;
+            }
+        }
+        false
+    }
+
+    /// Whether sessions on threads are asked for, which are run behind the others.
+    pub fn has_sessions(&self) -> bool {
+        self.names.contains(&SESSIONS)
+    }
+}
+
+/// What the program's words give; the first word is the program's name.
+pub fn matches_of<'a, S: AsStr>(alloc: Global, words: &'a [S]) -> Result<ArgMatches<'a>, Error> {
+    command(alloc)?.try_get_matches_from(words)
 }
 
 /// The options that the matches hold.
-fn options_in(alloc: Global, matches: &ArgMatches<'_>) -> Result<Options, AllocError> {
+pub fn options_in<'a>(matches: &'a ArgMatches<'_>) -> Options<'a> {
     let calls = matches.get_one::<u32>("calls").unwrap_or(CALLS);
-    let runs = matches.get_one::<u32>("runs").unwrap_or(RUNS);
-    let (workloads, sessions) = workloads_in(alloc, matches)?;
-    Ok(Options {
-        workloads,
-        sessions,
+    Options {
+        names: matches.get_strs("workload").unwrap_or(&Workload::NAMES),
         calls: calls.min(CALLS_MAX),
-        runs,
-    })
-}
-
-/// The names by which workloads are asked for.
-fn names(alloc: Global) -> Result<Vec<&'static str>, AllocError> {
-    let mut names = Vec::new(alloc);
-    for workload in Workload::ALL {
-        names.push(workload.name())?;
+        runs: matches.get_one::<u32>("runs").unwrap_or(RUNS),
     }
-    names.push(SESSIONS)?;
-    Ok(names)
 }
 
-/// The program's options, with these names of workloads.
-fn command<'a>(alloc: Global, names: &'a [&'a str]) -> Result<Command<'a>, AllocError> {
-    Command::new(alloc, "lfs_bench")
+/// The program's options.
+fn command<'a>(alloc: Global) -> Result<Command<'a>, AllocError> {
+    let mut command = Command::new(alloc, "lfs_bench")
         .about("Times calls of the file server as what may grow grows")
-        .arg(workload(alloc, names))?
-        .arg(calls(alloc))?
-        .arg(runs(alloc))
+        .arg(workload(alloc))?;
+    for number in NUMBERS {
+        command = command.arg(number.arg(alloc))?;
+    }
+    Ok(command)
 }
 
 /// The names of what is timed.
-fn workload<'a>(alloc: Global, names: &'a [&'a str]) -> Arg<'a> {
+fn workload<'a>(alloc: Global) -> Arg<'a> {
     Arg::new(alloc, "workload")
         .value_name("NAME")
         .num_args(0..)
         .action(ArgAction::Append)
-        .value_parser(ValueParser::Names(names))
+        .value_parser(ValueParser::Names(&Workload::NAMES))
         .help("The workloads; by default all")
 }
 
-/// The option for the number of calls.
-fn calls<'a>(alloc: Global) -> Arg<'a> {
-    Arg::new(alloc, "calls")
-        .long("calls")
-        .value_name("N")
-        .action(ArgAction::Set)
-        .value_parser(value_parser!(u32).range(1..=65_536))
-        .help("How many calls are timed before they grow, 1 to 65536; by default 2048")
-}
-
-/// The option for the number of runs.
-fn runs<'a>(alloc: Global) -> Arg<'a> {
-    Arg::new(alloc, "runs")
-        .long("runs")
-        .value_name("N")
-        .action(ArgAction::Set)
-        .value_parser(value_parser!(u32).range(1..=100))
-        .help("How many runs each time is the best of, 1 to 100; by default 5")
-}
-
-/// The workloads that are named, or all, and whether sessions are among them.
-fn workloads_in(
-    alloc: Global,
-    matches: &ArgMatches<'_>,
-) -> Result<(Vec<Workload>, bool), AllocError> {
-    let Some(names) = matches.get_strs("workload") else {
-        return Ok((Vec::from_slice(alloc, &Workload::ALL)?, true));
-    };
-    let mut workloads = Vec::with_capacity(alloc, names.len())?;
-    let mut sessions = false;
-    for name in names {
-        match Workload::named(name) {
-            Some(workload) => workloads.push(workload)?,
-            None => sessions = sessions || *name == SESSIONS,
-        }
+impl NumberOption {
+    /// The option for the command line.
+    fn arg<'a>(self, alloc: Global) -> Arg<'a> {
+        Arg::new(alloc, self.name)
+            .long(self.name)
+            .value_name("N")
+            .action(ArgAction::Set)
+            .value_parser(ValueParser::Unsigned(1, self.most))
+            .help(self.help)
     }
-    Ok((workloads, sessions))
 }

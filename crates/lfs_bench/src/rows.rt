@@ -3,17 +3,22 @@
 ghost use Rattle.std.specs.Prelude.{◌≤◌};
 
 use crate::frames::{run_look_ups, run_moves};
+use crate::measure::Measure;
 use crate::options::Options;
-use crate::store::{Measure, Store, run_on};
+use crate::store::{Store, run_on};
 use anyhow::Result;
 use lfs_runs::scale::{Factor, Growth, Scale};
 use lfs_workloads::workload::{UserLoad, Workload};
 use std::fmt;
 use std::rt::Clock;
 
-/// What a row is about.
+/// The head of the table.
+const HEAD: &str = "| Workload | What grows | From | ns a call | 4 times | 16 times | Ratio |
+|---|---|---|---|---|---|---|";
+
+/// What a row runs.
 #[derive(Clone, Copy)]
-pub enum Subject {
+enum Runs {
     /// Calls of users, over a store.
     Users(UserLoad, Store),
     /// Moves of frames.
@@ -22,26 +27,13 @@ pub enum Subject {
     LookUps,
 }
 
-impl fmt::Display for Subject {
-    fn fmt<W: fmt::Write>(&self, f: &mut fmt::Formatter<W>) -> fmt::Result {
-        match self {
-            Subject::Users(load, store) => {
-                let (load, store) = (load.name(), store.name());
-                write!(f, "{load}, {store}")
-            }
-            Subject::Frames => f.write_str(Workload::Frames.name()),
-            Subject::LookUps => f.write_str(Workload::LookUps.name()),
-        }
-    }
-}
-
-impl Subject {
+impl Runs {
     /// What grows in its rows.
     fn growths(self) -> &'static [Growth] {
         match self {
-            Subject::Users(_, Store::Plain) => &Growth::OF_VOLUMES,
-            Subject::Users(_, Store::Log | Store::LogCleaned) => &Growth::OF_LOGS,
-            Subject::Frames | Subject::LookUps => &Growth::OF_CACHES,
+            Runs::Users(_, Store::Plain) => &Growth::OF_VOLUMES,
+            Runs::Users(_, Store::Log | Store::LogCleaned) => &Growth::OF_LOGS,
+            Runs::Frames | Runs::LookUps => &Growth::OF_CACHES,
         }
     }
 
@@ -50,26 +42,26 @@ impl Subject {
         requires { calls ≤ 65536 }
     {
         let components = match self {
-            Subject::Users(load, _) => load.components(),
-            Subject::Frames | Subject::LookUps => 0,
+            Runs::Users(load, _) => load.components(),
+            Runs::Frames | Runs::LookUps => 0,
         };
         Scale::grown(calls, components, growth, factor)
     }
 
     /// Runs it once.
-    pub fn run<R: Clock + AllocGlobal>(self, rt: &R, scale: Scale) -> Result<Measure> {
+    fn once<R: Clock + AllocGlobal>(self, rt: &R, scale: &Scale) -> Result<Measure> {
         match self {
-            Subject::Users(load, store) => run_on(rt, store, load, scale),
-            Subject::Frames => run_moves(rt, scale),
-            Subject::LookUps => run_look_ups(rt, scale),
+            Runs::Users(load, store) => run_on(rt, store, load, scale),
+            Runs::Frames => run_moves(rt, scale),
+            Runs::LookUps => run_look_ups(rt, scale),
         }
     }
 
     /// The shortest of so many runs.
-    fn best_of<R: Clock + AllocGlobal>(self, rt: &R, scale: Scale, runs: u32) -> Result<Measure> {
-        let mut best = self.run(rt, scale)?;
+    fn best_of<R: Clock + AllocGlobal>(self, rt: &R, scale: &Scale, runs: u32) -> Result<Measure> {
+        let mut best = self.once(rt, scale)?;
         for _ in 1..runs {
-            let next = self.run(rt, scale)?;
+            let next = self.once(rt, scale)?;
             if next.seconds < best.seconds {
                 best = next;
             }
@@ -78,15 +70,63 @@ impl Subject {
     }
 }
 
+/// What a row is about.
+#[derive(Clone, Copy)]
+struct Subject<'a> {
+    /// The name of the workload.
+    name: &'a str,
+    /// What it runs.
+    runs: Runs,
+    /// What grows in it.
+    growth: Growth,
+}
+
+impl fmt::Display for Subject<'_> {
+    fn fmt<W: fmt::Write>(&self, f: &mut fmt::Formatter<W>) -> fmt::Result {
+        f.write_str(self.name)?;
+        match self.runs {
+            Runs::Users(_, store) => write!(f, ", {}", store.name()),
+            Runs::Frames | Runs::LookUps => Ok(()),
+        }
+    }
+}
+
+/// A row of the table.
+#[derive(Clone, Copy)]
+struct Row<'a> {
+    /// What it is about.
+    subject: Subject<'a>,
+    /// How much there is of what grows, before it does.
+    from: u32,
+    /// The nanoseconds of a call before that grows, and at four and sixteen times as much.
+    times: [f64; 3],
+}
+
+impl fmt::Display for Row<'_> {
+    fn fmt<W: fmt::Write>(&self, f: &mut fmt::Formatter<W>) -> fmt::Result {
+        let Row {
+            subject,
+            from,
+            times,
+        } = *self;
+        let growth = subject.growth.name();
+        write!(f, "| {subject} | {growth} | {from} |")?;
+        for time in times {
+            write!(f, " {time:.0} |")?;
+        }
+        let ratio = times[2] / times[0];
+        write!(f, " {ratio:.2} |")
+    }
+}
+
 /// Prints the table of what is asked for, and counts what was answered.
 pub fn print_rows<R: Clock + AllocGlobal + Print + Eprint>(
     rt: &R,
-    options: &Options,
+    options: &Options<'_>,
 ) -> Result<()> {
-    eprintln!(rt; "| Workload | What grows | From | ns a call | 4 times | 16 times | Ratio |")?;
-    eprintln!(rt; "|---|---|---|---|---|---|---|")?;
-    for workload in &options.workloads {
-        print_workload(rt, options, *workload)?;
+    eprintln!(rt; "{HEAD}")?;
+    for name in options.names {
+        print_workload(rt, options, name)?;
     }
     Ok(())
 }
@@ -94,54 +134,77 @@ pub fn print_rows<R: Clock + AllocGlobal + Print + Eprint>(
 /// Prints the rows of a workload, over each store where it is one of users' calls.
 fn print_workload<R: Clock + AllocGlobal + Print + Eprint>(
     rt: &R,
-    options: &Options,
-    workload: Workload,
+    options: &Options<'_>,
+    name: &str,
 ) -> Result<()> {
-    match workload {
-        Workload::Users(load) => {
-            for store in Store::ALL {
-                print_subject(rt, options, Subject::Users(load, store))?;
-            }
-            Ok(())
-        }
-        Workload::Frames => print_subject(rt, options, Subject::Frames),
-        Workload::LookUps => print_subject(rt, options, Subject::LookUps),
-    }
+    let runs = match Workload::named(name) {
+        Some(Workload::Users(load)) => return print_stores(rt, options, name, load),
+        Some(Workload::Frames) => Runs::Frames,
+        Some(Workload::LookUps) => Runs::LookUps,
+        Some(Workload::Sessions) | None => return Ok(()),
+    };
+    print_growths(rt, options, name, runs)
 }
 
-/// Prints the rows of a subject.
-fn print_subject<R: Clock + AllocGlobal + Print + Eprint>(
+/// Prints the rows of users' calls over each store.
+fn print_stores<R: Clock + AllocGlobal + Print + Eprint>(
     rt: &R,
-    options: &Options,
-    subject: Subject,
+    options: &Options<'_>,
+    name: &str,
+    load: UserLoad,
 ) -> Result<()> {
-    for growth in subject.growths() {
-        let growth = *growth;
-        let first = subject.scale(options.calls, growth, Factor::One).of(growth);
-        let one = nanoseconds(rt, options, subject, growth, Factor::One)?;
-        let four = nanoseconds(rt, options, subject, growth, Factor::Four)?;
-        let sixteen = nanoseconds(rt, options, subject, growth, Factor::Sixteen)?;
-        let ratio = sixteen / one;
-        let growth = growth.name();
-        eprintln!(rt;
-            "| {subject} | {growth} | {first} | {one:.0} | {four:.0} | {sixteen:.0} | {ratio:.2} |"
-        )?;
+    for store in Store::ALL {
+        print_growths(rt, options, name, Runs::Users(load, store))?;
     }
     Ok(())
+}
+
+/// Prints a row for each of what may grow.
+fn print_growths<R: Clock + AllocGlobal + Print + Eprint>(
+    rt: &R,
+    options: &Options<'_>,
+    name: &str,
+    runs: Runs,
+) -> Result<()> {
+    for growth in runs.growths() {
+        let growth = *growth;
+        print_row(rt, options, Subject { name, runs, growth })?;
+    }
+    Ok(())
+}
+
+/// Prints a row.
+fn print_row<R: Clock + AllocGlobal + Print + Eprint>(
+    rt: &R,
+    options: &Options<'_>,
+    subject: Subject<'_>,
+) -> Result<()> {
+    let one = nanoseconds(rt, options, subject, Factor::One)?;
+    let four = nanoseconds(rt, options, subject, Factor::Four)?;
+    let sixteen = nanoseconds(rt, options, subject, Factor::Sixteen)?;
+    let from = subject
+        .runs
+        .scale(options.calls, subject.growth, Factor::One)
+        .of(subject.growth);
+    let times = [one, four, sixteen];
+    Ok(rt.eprintln(Row {
+        subject,
+        from,
+        times,
+    })?)
 }
 
 /// The nanoseconds of a call, at best. What was answered is counted on standard output.
 fn nanoseconds<R: Clock + AllocGlobal + Print>(
     rt: &R,
-    options: &Options,
-    subject: Subject,
-    growth: Growth,
+    options: &Options<'_>,
+    subject: Subject<'_>,
     factor: Factor,
 ) -> Result<f64> {
-    let scale = subject.scale(options.calls, growth, factor);
-    let Measure { counts, seconds } = subject.best_of(rt, scale, options.runs)?;
-    let amount = scale.of(growth);
-    let growth = growth.name();
-    println!(rt; "{subject}, {growth} {amount}: {counts}")?;
+    let Subject { runs, growth, .. } = subject;
+    let scale = runs.scale(options.calls, growth, factor);
+    let Measure { counts, seconds } = runs.best_of(rt, &scale, options.runs)?;
+    let (word, amount) = (growth.name(), scale.of(growth));
+    println!(rt; "{subject}, {word} {amount}: {counts}")?;
     Ok(seconds * 1e9 / counts.total())
 }

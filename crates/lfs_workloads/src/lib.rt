@@ -1,7 +1,9 @@
-//! The benchmark's calls: the tree on which they are made, those of each workload, and those of eight sessions.
+//! The benchmark's calls: those that make the tree, those of each workload, and those of eight sessions.
 #![tactic(auto)]
 
+pub mod calls;
 pub mod meeting;
-pub mod timed;
-pub mod tree;
+pub mod series;
+mod step;
+mod timed;
 pub mod workload;

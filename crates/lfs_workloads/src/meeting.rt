@@ -2,13 +2,13 @@
 
 ghost use Rattle.std.specs.Prelude.{◌≤◌};
 
+use crate::calls::calls_of;
+use crate::series::Series;
+use crate::step::{Spot, Step, Verb};
 use crate::timed::{SMALL, read, write};
-use crate::tree::{OWNER, Tree, call_of};
 use anyhow::Result;
-use lfs_runs::playing::Call;
 use lfs_runs::scale::Scale;
-use lfs_types::path::Path;
-use lfs_types::request::{Place, Request};
+use lfs_types::request::Place;
 use lfs_types::script::Script;
 use std::alloc::Global;
 
@@ -29,87 +29,36 @@ pub fn each_of(scale: &Scale) -> u32
     (scale.calls / SESSIONS).max(1)
 }
 
-/// The calls that make the tree, as a script.
-pub fn setup_of(tree: &Tree) -> Result<Script> {
-    Ok(Script::from(tree.calls()?))
-}
-
 /// The scripts of all sessions, the first session's first.
-pub fn scripts_of(alloc: Global, tree: &Tree) -> Result<Vec<Script>> {
+pub fn scripts_of(alloc: Global, scale: &Scale) -> Result<Vec<Script>> {
     let mut scripts = Vec::with_capacity(alloc, SESSIONS as usize)?;
     for session in 1..=SESSIONS {
-        scripts.push(script_of(alloc, tree, session)?)?;
+        let calls = calls_of(alloc, scale, &[Series::Session(session)])?;
+        scripts.push(Script::from(calls))?;
     }
     Ok(scripts)
 }
 
-/// The script of a session, counted from 1.
-fn script_of(alloc: Global, tree: &Tree, session: u32) -> Result<Script> {
-    let each = each_of(tree.scale());
-    let mut calls = Vec::with_capacity(alloc, each as usize)?;
-    for index in 0..each {
-        calls.push(session_call(tree, session, index)?)?;
-    }
-    Ok(Script::from(calls))
-}
-
-/// The calls of all sessions as the script of one: the first of each, then the second of each, and so on.
-pub fn lone_script(alloc: Global, tree: &Tree) -> Result<Script> {
-    let all = each_of(tree.scale()) * SESSIONS;
-    let mut calls = Vec::with_capacity(alloc, all as usize)?;
-    for index in 0..all {
-        calls.push(session_call(tree, index % SESSIONS + 1, index / SESSIONS)?)?;
-    }
-    Ok(Script::from(calls))
-}
-
-/// The call of this index of a session. All sessions ask for each file of the tree, and read and write its first one;
-/// another file of it and a name in the directory are the session's own.
-fn session_call(tree: &Tree, session: u32, index: u32) -> Result<Call> {
-    let request = match index % KINDS {
-        0 | 6 | 12 => stat(tree.file(index % tree.scale().names)?),
-        1 | 7 | 13 => read(tree, index)?,
-        2 => write_own(tree, session, index)?,
-        3 | 14 => stat(tree.file(session)?),
-        4 | 10 | 15 => read_own(tree, session)?,
-        5 => Request::Create {
-            path: own_name(tree, session)?,
-            mode: tree.mode(0o644)?,
-        },
-        8 => write(tree, index, SMALL)?,
-        9 => stat(own_name(tree, session)?),
-        _ => Request::Unlink {
-            path: own_name(tree, session)?,
-        },
+/// The call of this index of a session, counted from 1. All sessions ask for each file of the tree, and read and write
+/// its first one; another file of it and a name in the directory are the session's own.
+pub fn session_step(scale: &Scale, session: u32, index: u32) -> Step {
+    let (first, own, made) = (Spot::File(0), Spot::File(session), Spot::MadeBy(session));
+    let (spot, verb) = match index % KINDS {
+        0 | 6 | 12 => (Spot::File(index % scale.names), Verb::Stat),
+        1 | 7 | 13 => (first, read(scale, index)),
+        2 => (own, write_own(index)),
+        3 | 14 => (own, Verb::Stat),
+        4 | 10 | 15 => (own, Verb::Read(0, SMALL)),
+        5 => (made, Verb::Create),
+        8 => (first, write(scale, index, SMALL)),
+        9 => (made, Verb::Stat),
+        _ => (made, Verb::Unlink),
     };
-    call_of(OWNER, request)
+    Step::new(spot, verb)
 }
 
-/// A Stat of a path.
-fn stat(path: Path) -> Request {
-    Request::Stat { path }
-}
-
-/// A Write into the session's own file.
-fn write_own(tree: &Tree, session: u32, index: u32) -> Result<Request> {
-    Ok(Request::Write {
-        path: tree.file(session)?,
-        place: Place::At(u64::from(index / KINDS % PLACES) * u64::from(SMALL)),
-        bytes: tree.payload(SMALL as usize)?,
-    })
-}
-
-/// A Read of the first bytes of the session's own file.
-fn read_own(tree: &Tree, session: u32) -> Result<Request> {
-    Ok(Request::Read {
-        path: tree.file(session)?,
-        off: 0,
-        len: SMALL,
-    })
-}
-
-/// The name that the session makes and removes.
-fn own_name(tree: &Tree, session: u32) -> Result<Path> {
-    let name = format!(in tree.alloc(); "made{session}")?;
-    tree.path(name.as_str())
+/// A Write into a session's own file, at the place whose turn it is.
+fn write_own(index: u32) -> Verb {
+    let place = u64::from(index / KINDS % PLACES) * u64::from(SMALL);
+    Verb::Write(Place::At(place), SMALL)
 }

@@ -25,6 +25,9 @@ pub enum UserLoad {
     Mixed,
 }
 
+/// The name by which calls of sessions on threads are asked for.
+pub const SESSIONS: &str = "sessions";
+
 /// What is timed.
 #[derive(Clone, Copy)]
 pub enum Workload {
@@ -34,11 +37,29 @@ pub enum Workload {
     Frames,
     /// Look-ups of keys that the cache holds.
     LookUps,
+    /// Calls of eight sessions on threads, and the same calls of one session.
+    Sessions,
 }
 
 impl Workload {
-    /// All workloads, in the order of the table.
-    pub const ALL: [Workload; 11] = [
+    /// The names by which workloads are asked for, in the order of the table.
+    pub const NAMES: [&'static str; 12] = [
+        "stat-deep",
+        "read-hot",
+        "write-4k",
+        "write-small",
+        "create-unlink",
+        "rename",
+        "list-large",
+        "deny",
+        "mixed",
+        "frames",
+        "look-ups",
+        SESSIONS,
+    ];
+
+    /// The workload of each of the names.
+    const ALL: [Workload; 12] = [
         Workload::Users(UserLoad::StatDeep),
         Workload::Users(UserLoad::ReadHot),
         Workload::Users(UserLoad::Write4k),
@@ -50,39 +71,21 @@ impl Workload {
         Workload::Users(UserLoad::Mixed),
         Workload::Frames,
         Workload::LookUps,
+        Workload::Sessions,
     ];
-
-    /// The name by which it is asked for.
-    pub fn name(self) -> &'static str {
-        match self {
-            Workload::Users(load) => load.name(),
-            Workload::Frames => "frames",
-            Workload::LookUps => "look-ups",
-        }
-    }
 
     /// The workload of this name.
     pub fn named(name: &str) -> Option<Workload> {
-        Workload::ALL.into_iter().find(|load| load.name() == name)
+        for index in 0..Workload::ALL.len() {
+            if Workload::NAMES[index] == name {
+                return Some(Workload::ALL[index]);
+            }
+        }
+        None
     }
 }
 
 impl UserLoad {
-    /// The name by which it is asked for.
-    pub fn name(self) -> &'static str {
-        match self {
-            UserLoad::StatDeep => "stat-deep",
-            UserLoad::ReadHot => "read-hot",
-            UserLoad::Write4k => "write-4k",
-            UserLoad::WriteSmall => "write-small",
-            UserLoad::CreateUnlink => "create-unlink",
-            UserLoad::Rename => "rename",
-            UserLoad::ListLarge => "list-large",
-            UserLoad::Deny => "deny",
-            UserLoad::Mixed => "mixed",
-        }
-    }
-
     /// How many components its paths have before they grow.
     pub fn components(self) -> u32
         ensures { result ≤ 7 }

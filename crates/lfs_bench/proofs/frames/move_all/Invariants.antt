@@ -1,6 +1,6 @@
 use Rattle.std.proofs.Common.{◌≤◌}
 use Rattle.lfs_recency.specs.FrameLists.{frame_count}
-use Rattle.lfs_bench.proofs.frames.run_moves.Given as goal
+use Rattle.lfs_bench.proofs.frames.move_all.Given as goal
 
 abbrev pub invariant-loop-round : goal.invariant-loop-round
-invariant-loop-round g l = l.count ≤ frame_count l.frames
+invariant-loop-round l = l.count ≤ frame_count l.frames

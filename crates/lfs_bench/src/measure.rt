@@ -1,0 +1,38 @@
+//! What a run gave.
+
+use anyhow::Result;
+use lfs_runs::counts::Counts;
+use std::num::nearest_u64_to_f64;
+use std::rt::Clock;
+use std::time::Instant;
+
+/// What a run gave.
+#[derive(Clone, Copy)]
+pub struct Measure {
+    /// What was answered.
+    pub counts: Counts,
+    /// How many seconds it took.
+    pub seconds: f64,
+}
+
+impl Measure {
+    /// What was answered since this moment.
+    pub fn since<R: Clock>(rt: &R, start: Instant, counts: Counts) -> Result<Measure> {
+        let seconds = start.elapsed(rt)?.as_secs_f64();
+        Ok(Measure { counts, seconds })
+    }
+
+    /// How many calls were served in a second.
+    pub fn served_a_second(&self) -> f64 {
+        nearest_u64_to_f64(self.counts.served) / self.seconds
+    }
+
+    /// Of this and another the one with more calls served in a second.
+    pub fn faster(self, other: Measure) -> Measure {
+        if other.served_a_second() > self.served_a_second() {
+            other
+        } else {
+            self
+        }
+    }
+}
