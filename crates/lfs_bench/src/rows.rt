@@ -77,8 +77,6 @@ struct Subject<'a> {
     name: &'a str,
     /// What it runs.
     runs: Runs,
-    /// What grows in it.
-    growth: Growth,
 }
 
 impl fmt::Display for Subject<'_> {
@@ -88,34 +86,6 @@ impl fmt::Display for Subject<'_> {
             Runs::Users(_, store) => write!(f, ", {}", store.name()),
             Runs::Frames | Runs::LookUps => Ok(()),
         }
-    }
-}
-
-/// A row of the table.
-#[derive(Clone, Copy)]
-struct Row<'a> {
-    /// What it is about.
-    subject: Subject<'a>,
-    /// How much there is of what grows, before it does.
-    from: u32,
-    /// The nanoseconds of a call before that grows, and at four and sixteen times as much.
-    times: [f64; 3],
-}
-
-impl fmt::Display for Row<'_> {
-    fn fmt<W: fmt::Write>(&self, f: &mut fmt::Formatter<W>) -> fmt::Result {
-        let Row {
-            subject,
-            from,
-            times,
-        } = *self;
-        let growth = subject.growth.name();
-        write!(f, "| {subject} | {growth} | {from} |")?;
-        for time in times {
-            write!(f, " {time:.0} |")?;
-        }
-        let ratio = times[2] / times[0];
-        write!(f, " {ratio:.2} |")
     }
 }
 
@@ -138,60 +108,41 @@ fn print_workload<R: Clock + AllocGlobal + Print + Eprint>(
     name: &str,
 ) -> Result<()> {
     let runs = match Workload::named(name) {
-        Some(Workload::Users(load)) => return print_stores(rt, options, name, load),
+        Some(Workload::Users(load)) => {
+            for store in Store::ALL {
+                let runs = Runs::Users(load, store);
+                print_subject(rt, options, Subject { name, runs })?;
+            }
+            return Ok(());
+        }
         Some(Workload::Frames) => Runs::Frames,
         Some(Workload::LookUps) => Runs::LookUps,
         Some(Workload::Sessions) | None => return Ok(()),
     };
-    print_growths(rt, options, name, runs)
+    print_subject(rt, options, Subject { name, runs })
 }
 
-/// Prints the rows of users' calls over each store.
-fn print_stores<R: Clock + AllocGlobal + Print + Eprint>(
-    rt: &R,
-    options: &Options<'_>,
-    name: &str,
-    load: UserLoad,
-) -> Result<()> {
-    for store in Store::ALL {
-        print_growths(rt, options, name, Runs::Users(load, store))?;
-    }
-    Ok(())
-}
-
-/// Prints a row for each of what may grow.
-fn print_growths<R: Clock + AllocGlobal + Print + Eprint>(
-    rt: &R,
-    options: &Options<'_>,
-    name: &str,
-    runs: Runs,
-) -> Result<()> {
-    for growth in runs.growths() {
-        let growth = *growth;
-        print_row(rt, options, Subject { name, runs, growth })?;
-    }
-    Ok(())
-}
-
-/// Prints a row.
-fn print_row<R: Clock + AllocGlobal + Print + Eprint>(
+/// Prints the rows of a subject.
+fn print_subject<R: Clock + AllocGlobal + Print + Eprint>(
     rt: &R,
     options: &Options<'_>,
     subject: Subject<'_>,
 ) -> Result<()> {
-    let one = nanoseconds(rt, options, subject, Factor::One)?;
-    let four = nanoseconds(rt, options, subject, Factor::Four)?;
-    let sixteen = nanoseconds(rt, options, subject, Factor::Sixteen)?;
-    let from = subject
-        .runs
-        .scale(options.calls, subject.growth, Factor::One)
-        .of(subject.growth);
-    let times = [one, four, sixteen];
-    Ok(rt.eprintln(Row {
-        subject,
-        from,
-        times,
-    })?)
+    for growth in subject.runs.growths() {
+        let growth = *growth;
+        let from = subject
+            .runs
+            .scale(options.calls, growth, Factor::One)
+            .of(growth);
+        let one = nanoseconds(rt, options, subject, growth, Factor::One)?;
+        let four = nanoseconds(rt, options, subject, growth, Factor::Four)?;
+        let sixteen = nanoseconds(rt, options, subject, growth, Factor::Sixteen)?;
+        let (growth, ratio) = (growth.name(), sixteen / one);
+        eprintln!(rt;
+            "| {subject} | {growth} | {from} | {one:.0} | {four:.0} | {sixteen:.0} | {ratio:.2} |"
+        )?;
+    }
+    Ok(())
 }
 
 /// The nanoseconds of a call, at best. What was answered is counted on standard output.
@@ -199,11 +150,11 @@ fn nanoseconds<R: Clock + AllocGlobal + Print>(
     rt: &R,
     options: &Options<'_>,
     subject: Subject<'_>,
+    growth: Growth,
     factor: Factor,
 ) -> Result<f64> {
-    let Subject { runs, growth, .. } = subject;
-    let scale = runs.scale(options.calls, growth, factor);
-    let Measure { counts, seconds } = runs.best_of(rt, &scale, options.runs)?;
+    let scale = subject.runs.scale(options.calls, growth, factor);
+    let Measure { counts, seconds } = subject.runs.best_of(rt, &scale, options.runs)?;
     let (word, amount) = (growth.name(), scale.of(growth));
     println!(rt; "{subject}, {word} {amount}: {counts}")?;
     Ok(seconds * 1e9 / counts.total())
