@@ -1,5 +1,5 @@
 -- The infos whose address is unchanged, pair by pair, and how many calls a pass may still make.
-use Rattle.std.proofs.Common.{◌≡◌, ◌==◌, ℕ, ◌+◌, ◌≤◌, ◌⊎◌, Bool, true, false, List, [], ◌∷◌, ◌++◌, length, append_assoc, sym, ap, subst, ◌∙◌, inl, inr, if◌then◌else◌, arith}
+use Rattle.std.proofs.Common.{◌≡◌, ◌==◌, ℕ, ◌≤◌, ◌⊎◌, Bool, true, false, List, [], ◌∷◌, ◌++◌, length, append_assoc, sym, ap, subst, ◌∙◌, inl, inr, if◌then◌else◌, arith}
 use Rattle.std.proofs.lemmas.List.{append-nil}
 use Rattle.lfs_types.specs.declared.cleaner.BlockInfo.{BlockInfo}
 use Rattle.lfs_types.specs.declared.cleaner.CleanerCall.{CleanerCall}
