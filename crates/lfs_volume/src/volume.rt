@@ -93,6 +93,7 @@ impl<F: FileStore + Drop> Volume<F> {
         ensures follows { Follows (F.state self.old.store) (F.state self.new.store) }
     {
         if self.journal.len() >= self.limit as usize {
+            // Left to the return, it would be dropped variant by variant, which takes the prover long.
             drop(request);
             return Answer::Refused(Resource::JournalFull);
         }
