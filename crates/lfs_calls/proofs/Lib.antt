@@ -28,7 +28,6 @@ pub mod ShrunkStore
 pub mod StateLemmas
 pub mod StepLemmas
 pub mod TakeLemmas
-pub mod TestLemmas
 pub mod Visible
 pub mod WithBlock
 pub mod WriteLemmas

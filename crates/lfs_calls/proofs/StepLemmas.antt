@@ -1,7 +1,7 @@
 -- What the store says of a row, and what a step of a walk finds.
-use Rattle.std.proofs.Common.{◌≡◌, ℕ, ◌+◌, true, false, List, [], ◌∷◌, length, Option, None, Some, Ok, Err, refl, sym, ap, ◌∙◌, subst}
+use Rattle.std.proofs.Common.{◌≡◌, ℕ, ◌+◌, Bool, true, false, cond, List, [], ◌∷◌, length, Option, None, Some, Result, Ok, Err, refl, sym, ap, ◌∙◌, subst}
 use Rattle.std.specs.Prelude.{option_map, IsSome, ok_or}
-use Rattle.std.proofs.lemmas.Bool.{cond-true, cond-false}
+use Rattle.std.proofs.lemmas.Bool.{cond-true}
 use Rattle.std.specs.FinMap as map
 use Rattle.lfs_types.specs.Caller.{Caller}
 use Rattle.lfs_types.specs.Kinds.{is_directory_kind}
@@ -11,11 +11,13 @@ use Rattle.lfs_types.specs.declared.attrs.Attrs.{Attrs}
 use Rattle.lfs_types.specs.declared.attrs.Bit.{Bit}
 use Rattle.lfs_types.specs.declared.attrs.Bit.TheVariants as bits
 use Rattle.lfs_types.specs.declared.attrs.Kind.TheVariants.{File as Regular, Directory}
-use Rattle.lfs_types.specs.declared.rule.Rule.TheVariants.{IsDirectory, GrantsSearch, NameThere}
+use Rattle.lfs_types.specs.declared.rule.Denial.{Denial}
+use Rattle.lfs_types.specs.declared.rule.Rule.TheVariants.{NameThere}
 use Rattle.lfs_dirs.specs.Directory.{number_in}
 use Rattle.lfs_rules.specs.Grants.{grants_of}
 use Rattle.lfs_model.specs.World.{child, file_at, IsTree}
-use Rattle.lfs_model.specs.Rules.{is_directory_row, row_grants, attrs_at}
+use Rattle.lfs_model.specs.Rules.{is_directory_row, judged, row_grants, attrs_at}
+use Rattle.lfs_judgments.specs.Parts.{searching_tests}
 use Rattle.lfs_calls.specs.Content.{visible, Shows, listed}
 use Rattle.lfs_model.specs.Walks.{stepped, walked}
 use Rattle.lfs_calls.proofs.Visible.{Stored, shown_of, stored_of}
@@ -76,14 +78,22 @@ module _ (c : Content) (w : World) (shows : Shows c w) (n : ℕ) (a : Attrs) (sh
   pub child_listed : is_directory_kind a.kind ≡ true → (name : List ℕ) → number_in name (listed (bytes_of c n)) ≡ child w.rows n name
   child_listed h name = ap (λ o. number_in name (listed (bytes_of_file o))) the_file.stored ∙ (shows.listings n the_file.file the_file.stored (stored_directory c n a shown h)).names name
 
-module _ (c : Content) (w : World) (shows : Shows c w) (caller : Caller) (path k n : ℕ) (name : List ℕ) (a : Attrs) (shown : Some a ≡ shown_attrs c n) where
-  -- a step from a file is denied
-  pub steps_not_directory : is_directory_kind a.kind ≡ false → stepped w.rows caller path k n name ≡ Err (record { rule = IsDirectory; path = path; at = k })
-  steps_not_directory h = cond-false _ _ _ (directory_reads c w shows n a shown ∙ h)
+-- two tests that say the same ask the same
+cond_same : {A : Type 0} {d s e t : Bool} (x y z : A) → d ≡ e → s ≡ t → cond d (cond s x y) z ≡ cond e (cond t x y) z
+cond_same {A} {d} {s} {e} {t} x y z same also = ap (λ b. cond b (cond s x y) z) same ∙ ap (λ b. cond e (cond b x y) z) also
 
-  -- and one from a directory that the caller may not search
-  pub steps_no_search : is_directory_kind a.kind ≡ true → grants_of caller a bits.Search ≡ false → stepped w.rows caller path k n name ≡ Err (record { rule = GrantsSearch; path = path; at = k })
-  steps_no_search h g = cond-true _ _ _ (directory_reads c w shows n a shown ∙ h) ∙ cond-false _ _ _ (grants_reads c w shows n a shown caller bits.Search ∙ g)
+-- what two tests deny is denied, whatever is asked behind them
+stopped : (d s : Bool) (there here denial : Denial) (u : Unit {0}) (rest : Result ℕ Denial) → cond d (cond s (Ok u) (Err there)) (Err here) ≡ Err denial → cond d (cond s rest (Err there)) (Err here) ≡ Err denial
+stopped true true there here denial u rest h = absurd (cc)
+stopped true false there here denial u rest h = let same : there ≡ denial = cc in ap Err same
+stopped false s there here denial u rest h = let same : here ≡ denial = cc in ap Err same
+
+module _ (c : Content) (w : World) (shows : Shows c w) (caller : Caller) (path k n : ℕ) (name : List ℕ) (a : Attrs) (shown : Some a ≡ shown_attrs c n) where
+  -- a step from what isn't a directory that grants search is denied
+  pub steps_barred : (denial : Denial) → judged (searching_tests caller path a k) ≡ Err denial → stepped w.rows caller path k n name ≡ Err denial
+  steps_barred denial h =
+      cond_same _ _ _ (directory_reads c w shows n a shown) (grants_reads c w shows n a shown caller bits.Search)
+      ∙ stopped (is_directory_kind a.kind) (grants_of caller a bits.Search) _ _ denial tt _ h
 
   -- another goes to the child, or is denied where there is none
   pub steps_on : is_directory_kind a.kind ≡ true → grants_of caller a bits.Search ≡ true → (o : Option ℕ) → o ≡ number_in name (listed (bytes_of c n))

@@ -5,22 +5,19 @@ ghost use Rattle.lfs_types.specs.declared.limits.TheConstants.{FILE_BYTES};
 ghost use Rattle.lfs_types.specs.Kinds.{is_directory_kind};
 ghost use Rattle.lfs_types.specs.Splicing.{resized};
 ghost use Rattle.lfs_types.specs.Stored.{shown_attrs};
-ghost use Rattle.lfs_model.specs.Rules.{judged, length_tests};
 ghost use Rattle.lfs_calls.specs.Calls.{ChangesTo, IsCall};
 ghost use Rattle.lfs_calls.specs.Volumes.{HasWorld};
 ghost use Rattle.lfs_calls.specs.Writes.{ChangesBytes};
 
-use crate::attributes::mode_after;
 use crate::halt::Halt;
-use crate::walking::{Reached, ask, depth, find};
-use crate::writing::may_change;
+use crate::walking::{Reached, depth, find};
+use lfs_judgments::attributes::mode_after;
+use lfs_judgments::bytes::may_set_length;
 use lfs_types::answer::Served;
 use lfs_types::attrs::Attrs;
 use lfs_types::cred::Cred;
-use lfs_types::limits::FILE_BYTES;
 use lfs_types::path::Path;
 use lfs_types::request::Request;
-use lfs_types::rule::{Denial, Rule};
 use lfs_types::store::{Change, FileStore, StoreRefusal};
 
 /// Cuts a file, or adds zeros to it.
@@ -39,14 +36,6 @@ pub fn set_length<F: FileStore>(
     may_set_length(&file.attrs, cred, len, depth(path))?;
     cut(store, cred, &file, len)?;
     Ok(Served::Done)
-}
-
-/// Whether a caller may give a file, which stands at component `at`, so many bytes, or the first rule that fails.
-fn may_set_length(attrs: &Attrs, cred: &Cred, len: u64, at: u32) -> Result<(), Denial>
-    ensures { result ≡ judged (length_tests cred.now len attrs.now at) }
-{
-    may_change(attrs, cred, false, at)?;
-    ask(len <= FILE_BYTES, Rule::FitsFile, 0, at)
 }
 
 /// Gives a file so many bytes, as it may have; a caller who isn't the superuser clears its set-id bits.

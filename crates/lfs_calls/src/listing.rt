@@ -8,25 +8,22 @@ ghost use Rattle.lfs_types.specs.Naming.{name_fault};
 ghost use Rattle.lfs_types.specs.Stored.{bytes_of};
 ghost use Rattle.lfs_dirs.specs.Directory.{IsDirectoryBlock};
 ghost use Rattle.lfs_dirs.specs.Reading.{entries_of};
-ghost use Rattle.lfs_model.specs.Rules.{judged, list_tests};
 ghost use Rattle.lfs_calls.specs.Calls.{IsCall};
 ghost use Rattle.lfs_calls.specs.Content.{AreBlocks, HasBlocks, listed};
 ghost use Rattle.lfs_calls.specs.Volumes.{HasWorld};
 
 use crate::directory::read_block;
 use crate::halt::Halt;
-use crate::walking::{ask, depth, find};
+use crate::walking::{depth, find};
 use lfs_dirs::entries;
-use lfs_rules::access::grants;
+use lfs_judgments::names::may_list;
 use lfs_types::answer::{Resource, Served};
-use lfs_types::attrs::{Attrs, Bit};
 use lfs_types::block::{BLOCK_SIZE, Block};
 use lfs_types::cred::Cred;
 use lfs_types::name::{BadName, Name};
 use lfs_types::path::Path;
 use lfs_types::payload::Names;
 use lfs_types::request::Request;
-use lfs_types::rule::{Denial, Rule};
 use lfs_types::store::FileStore;
 use std::alloc::{AllocError, Global};
 
@@ -48,14 +45,6 @@ pub fn list<F: FileStore>(
         Ok(names) => Ok(Served::Names(Names::from(sorted(names)))),
         Err(AllocError) => Err(Halt::Refused(Resource::NoMemory)),
     }
-}
-
-/// Whether a caller may list a directory, which stands at component `at`, or the first rule that fails.
-fn may_list(attrs: &Attrs, cred: &Cred, at: u32) -> Result<(), Denial>
-    ensures { result ≡ judged (list_tests cred.now attrs.now at) }
-{
-    ask(attrs.kind.is_directory(), Rule::IsDirectory, 0, at)?;
-    ask(grants(attrs, cred, Bit::Read), Rule::GrantsRead, 0, at)
 }
 
 /// The names that a directory of this size lists, as they stand in its blocks; an error where a growth was refused.

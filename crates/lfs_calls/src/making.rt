@@ -17,12 +17,12 @@ ghost use Rattle.lfs_calls.specs.Makes.{CanEnter, CanMake, EntersFirst, IsParent
 
 use crate::directory::{look_up, read_block};
 use crate::halt::Halt;
-use crate::walking::{Reached, ask, component, denial, last_name, reach};
+use crate::walking::{Reached, component, denial, last_name, reach};
 use lfs_dirs::added;
-use lfs_rules::access::grants;
-use lfs_rules::flags::immutable;
+use lfs_judgments::asking::ask;
+use lfs_judgments::names::{may_enter, may_search};
 use lfs_types::answer::{Resource, Served};
-use lfs_types::attrs::{Attrs, Bit, Kind};
+use lfs_types::attrs::{Attrs, Kind};
 use lfs_types::block::{BLOCK_SIZE, Block};
 use lfs_types::cred::Cred;
 use lfs_types::file_flags::FileFlags;
@@ -84,22 +84,10 @@ fn may_make<F: FileStore>(
     ensures state { F.state store.new ≡ F.state store.old }
 {
     let Reached { number, attrs } = *dir;
-    ask(attrs.kind.is_directory(), Rule::IsDirectory, path, at)?;
-    ask(
-        grants(&attrs, cred, Bit::Search),
-        Rule::GrantsSearch,
-        path,
-        at,
-    )?;
+    may_search(&attrs, cred, path, at)?;
     let free = look_up(store, number, attrs.size, name).is_none();
     ask(free, Rule::NameFree, path, at + 1)?;
-    ask(!immutable(&attrs), Rule::IsMutable, path, at)?;
-    ask(
-        grants(&attrs, cred, Bit::Write),
-        Rule::GrantsWrite,
-        path,
-        at,
-    )
+    may_enter(&attrs, cred, path, at)
 }
 
 /// The first block of a directory that has room for a new entry, with that entry, else a new block at the end; None

@@ -1,24 +1,22 @@
 //! The calls that show a file.
 
-ghost use Rattle.std.specs.Prelude.{◌≡◌, true, false, IsSome, IfSome, length};
+ghost use Rattle.std.specs.Prelude.{◌≡◌, IsSome, IfSome, length};
 ghost use Rattle.std.specs.FinMap.{get};
-ghost use Rattle.lfs_types.specs.Kinds.{is_directory_kind};
 ghost use Rattle.lfs_types.specs.Stored.{bytes_of, slice_of};
-ghost use Rattle.lfs_model.specs.Rules.{judged, read_tests};
 ghost use Rattle.lfs_calls.specs.Calls.{IsCall};
 ghost use Rattle.lfs_calls.specs.Volumes.{HasWorld};
 
 use crate::halt::Halt;
-use crate::walking::{ask, depth, find};
-use lfs_rules::access::grants;
+use crate::walking::{depth, find};
+use lfs_judgments::attributes::shown_size;
+use lfs_judgments::bytes::may_read;
 use lfs_types::answer::{Resource, Served};
-use lfs_types::attrs::{Attrs, Bit};
+use lfs_types::attrs::Attrs;
 use lfs_types::cred::Cred;
 use lfs_types::limits::TRANSFER_BYTES;
 use lfs_types::path::Path;
 use lfs_types::payload::Bytes;
 use lfs_types::request::Request;
-use lfs_types::rule::{Denial, Rule};
 use lfs_types::store::FileStore;
 use std::alloc::Global;
 
@@ -32,18 +30,6 @@ pub fn stat<F: FileStore>(store: &mut F, cred: &Cred, path: &Path) -> Result<Ser
     let file = find(store, cred, path)?;
     let size = shown_size(&file.attrs);
     Ok(Served::Stat(file.number, Attrs { size, ..file.attrs }))
-}
-
-/// The size that is shown of a file: a directory's as 0.
-fn shown_size(attrs: &Attrs) -> u64
-    ensures directory { is_directory_kind attrs.now.kind ≡ true → result ≡ 0 }
-    ensures file { is_directory_kind attrs.now.kind ≡ false → result ≡ attrs.now.size }
-{
-    if attrs.kind.is_directory() {
-        0
-    } else {
-        attrs.size
-    }
 }
 
 /// At most `len` bytes of a file from `off` on, and at most 4,096.
@@ -68,14 +54,6 @@ pub fn read<F: FileStore>(
         Some(bytes) => Ok(Served::Bytes(Bytes::from(bytes))),
         None => Err(Halt::Refused(Resource::NoMemory)),
     }
-}
-
-/// Whether a caller may read a file, which stands at component `at`, or the first rule that fails.
-fn may_read(attrs: &Attrs, cred: &Cred, at: u32) -> Result<(), Denial>
-    ensures { result ≡ judged (read_tests cred.now attrs.now at) }
-{
-    ask(!attrs.kind.is_directory(), Rule::IsNoDirectory, 0, at)?;
-    ask(grants(attrs, cred, Bit::Read), Rule::GrantsRead, 0, at)
 }
 
 /// The bytes of a file of this size from `off` on, at most `count`; None where a growth was refused.

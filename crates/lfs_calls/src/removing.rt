@@ -1,10 +1,10 @@
 //! The calls that take away a name.
 
-ghost use Rattle.std.specs.Prelude.{◌≡◌, ◌==◌, Some, ◌↔◌, ℕ, ◌<◌, ◌≤◌, [], length, IsTrue};
+ghost use Rattle.std.specs.Prelude.{◌≡◌, ◌==◌, Some, ◌↔◌, ℕ, ◌≤◌, [], length, IsTrue};
 ghost use Rattle.lfs_types.specs.declared.path.TheConstants.{PATH_MAX};
 ghost use Rattle.lfs_types.specs.Stored.{bytes_of, shown_attrs};
 ghost use Rattle.lfs_types.specs.Tree.{World};
-ghost use Rattle.lfs_model.specs.Rules.{Judges, judged, removing, removing_tests, rmdir_tests, rule_table, unlink_tests};
+ghost use Rattle.lfs_model.specs.Rules.{Judges, judged, removing, rmdir_tests, rule_table};
 ghost use Rattle.lfs_model.specs.World.{children};
 ghost use Rattle.lfs_calls.specs.Calls.{ChangesTo, IsCall};
 ghost use Rattle.lfs_calls.specs.Volumes.{HasWorld, InWorld, IsVolume};
@@ -14,12 +14,11 @@ ghost use Rattle.lfs_calls.specs.Removes.{HangsAs, IsRemovable, IsRemoval, IsTak
 use crate::directory::read_block;
 use crate::halt::Halt;
 use crate::making::Room;
-use crate::walking::{Reached, ask, component, denial, last_name, reach, step};
+use crate::walking::{Reached, component, denial, last_name, reach, step};
 use lfs_dirs::{entries, find, removed};
-use lfs_rules::access::{grants, sticky_bars};
-use lfs_rules::flags::{append_only, immutable};
+use lfs_judgments::asking::ask;
+use lfs_judgments::names::{may_remove, may_unlink};
 use lfs_types::answer::Served;
-use lfs_types::attrs::{Attrs, Bit};
 use lfs_types::block::BLOCK_SIZE;
 use lfs_types::cred::Cred;
 use lfs_types::name::Name;
@@ -61,20 +60,6 @@ pub(crate) fn judge_remove<F: FileStore>(
     may_remove(&dir.attrs, &attrs, cred, at)?;
     let file = Reached { number, attrs };
     Ok(Removal { dir, file })
-}
-
-/// Whether a caller may take away the name of a file in a directory, which stands at component `at`, or the first rule
-/// that fails.
-fn may_remove(dir: &Attrs, file: &Attrs, cred: &Cred, at: u32) -> Result<(), Denial>
-    requires { at < PATH_MAX }
-    ensures { result ≡ judged (removing_tests cred.now dir.now file.now at) }
-{
-    ask(!immutable(dir), Rule::IsMutable, 0, at)?;
-    ask(grants(dir, cred, Bit::Write), Rule::GrantsWrite, 0, at)?;
-    ask(!append_only(dir), Rule::IsNotAppendOnly, 0, at)?;
-    ask(!sticky_bars(dir, file, cred), Rule::PassesSticky, 0, at + 1)?;
-    ask(!immutable(file), Rule::IsMutable, 0, at + 1)?;
-    ask(!append_only(file), Rule::IsNotAppendOnly, 0, at + 1)
 }
 
 /// The block of a directory that lists a name, without the name, and where it goes.
@@ -141,13 +126,6 @@ fn judge_unlink<F: FileStore>(store: &mut F, cred: &Cred, names: &[Name]) -> Res
     let removal = judge_remove(store, cred, names)?;
     may_unlink(&removal.file.attrs, component(names))?;
     Ok(removal)
-}
-
-/// Whether a file, which stands at component `at`, may be unlinked, or the rule that fails.
-fn may_unlink(file: &Attrs, at: u32) -> Result<(), Denial>
-    ensures { result ≡ judged (unlink_tests file.now at) }
-{
-    ask(!file.kind.is_directory(), Rule::IsNoDirectory, 0, at)
 }
 
 /// Removes an empty directory.

@@ -6,7 +6,7 @@ ghost use Rattle.lfs_types.specs.declared.block.TheConstants.{BLOCK_SIZE};
 ghost use Rattle.lfs_types.specs.Stored.{bytes_of, shown_attrs};
 ghost use Rattle.lfs_types.specs.Tree.{World, root};
 ghost use Rattle.lfs_types.specs.declared.rule.Rule.TheVariants.{IsNotBeneathItself};
-ghost use Rattle.lfs_model.specs.Rules.{Judges, apart_test, first_failing, judged, leaves_test, making, position, rule_table, visited};
+ghost use Rattle.lfs_model.specs.Rules.{Judges, apart_test, first_failing, judged, making, position, rule_table, visited};
 ghost use Rattle.lfs_calls.specs.Calls.{ChangesTo, IsCall};
 ghost use Rattle.lfs_calls.specs.Volumes.{HasWorld, InWorld, IsVolume};
 ghost use Rattle.lfs_calls.specs.Content.{FitsNowhere};
@@ -18,10 +18,9 @@ ghost use Rattle.lfs_model.specs.Walks.{walked};
 use crate::halt::Halt;
 use crate::making::{Room, find_room, judge_make};
 use crate::removing::{Removal, judge_remove, take_name};
-use crate::walking::{Reached, ask, component, denial, last_name, parents_of, step};
-use lfs_rules::access::grants;
+use crate::walking::{Reached, component, denial, last_name, parents_of, step};
+use lfs_judgments::names::may_move;
 use lfs_types::answer::{Resource, Served};
-use lfs_types::attrs::{Attrs, Bit};
 use lfs_types::cred::Cred;
 use lfs_types::limits::ROOT_INODE;
 use lfs_types::name::{NAME_MAX, Name};
@@ -69,15 +68,6 @@ fn judge_rename<F: FileStore>(
     let stays = removal.dir.number == dir.number;
     may_move(&removal.file.attrs, cred, stays, component(from))?;
     Ok(Move { removal, dir })
-}
-
-/// Whether a caller may give a file or a directory, which stands at component `at`, its place, where it may stay in its
-/// directory, or the rule that fails.
-fn may_move(file: &Attrs, cred: &Cred, stays: bool, at: u32) -> Result<(), Denial>
-    ensures { result ≡ judged (leaves_test cred.now stays file.now at ∷ []) }
-{
-    let leaves = !file.kind.is_directory() || stays || grants(file, cred, Bit::Write);
-    ask(leaves, Rule::GrantsWrite, 0, at)
 }
 
 /// Whether a row doesn't lie on the way to its new place, or the rule that fails.

@@ -12,9 +12,8 @@ use crate::making::{create, mkdir};
 use crate::reading::{read, stat};
 use crate::removing::{rmdir, unlink};
 use crate::renaming::rename;
-use crate::walking::denial;
 use crate::writing::write;
-use lfs_rules::level::level_change;
+use lfs_judgments::level::may_set_level;
 use lfs_types::answer::Served;
 use lfs_types::cred::Cred;
 use lfs_types::level::Level;
@@ -63,10 +62,8 @@ fn set_level<F: FileStore>(
     ensures { IsCallAt level (F.state store.old) (F.state store.new) cred.now (Request.SetLevel new)
         result }
 {
-    match level_change(cred, level, new) {
-        None => Ok(Served::Done),
-        Some(rule) => Err(Halt::Denied(denial(rule, 0, 0))),
-    }
+    may_set_level(cred, level, new)?;
+    Ok(Served::Done)
 }
 
 /// Has the store write what waits.

@@ -1,34 +1,23 @@
-//! The walk along a path, and the tests of the rules.
+//! The walk along a path.
 
-ghost use Rattle.std.specs.Prelude.{◌≡◌, ◌<◌, ◌≤◌, [], ◌∷◌, IsSome, length};
+ghost use Rattle.std.specs.Prelude.{◌≡◌, ◌<◌, ◌≤◌, IsSome, length};
 ghost use Rattle.std.specs.FinMap.{get};
 ghost use Rattle.lfs_types.specs.declared.path.TheConstants.{PATH_MAX};
 ghost use Rattle.lfs_types.specs.Tree.{root};
-ghost use Rattle.lfs_model.specs.Rules.{asks, front, judged, last};
+ghost use Rattle.lfs_model.specs.Rules.{front, last};
 ghost use Rattle.lfs_model.specs.Walks.{stepped, walked};
 ghost use Rattle.lfs_calls.specs.Reaches.{Reaches};
 ghost use Rattle.lfs_calls.specs.Volumes.{HasWorld, InWorld};
 
 use crate::directory::look_up;
-use lfs_rules::access::grants;
-use lfs_types::attrs::{Attrs, Bit};
+use lfs_judgments::names::may_search;
+use lfs_types::attrs::Attrs;
 use lfs_types::cred::Cred;
 use lfs_types::limits::ROOT_INODE;
 use lfs_types::name::Name;
 use lfs_types::path::Path;
 use lfs_types::rule::{Denial, Rule};
 use lfs_types::store::FileStore;
-
-/// Tests a rule at a component of the path of this index.
-pub(crate) fn ask(met: bool, rule: Rule, path: u8, at: u32) -> Result<(), Denial>
-    ensures { result ≡ judged (asks met rule path at ∷ []) }
-{
-    if met {
-        Ok(())
-    } else {
-        Err(Denial { rule, path, at })
-    }
-}
 
 /// One step of a walk: from the row at component `at` to a name, or the first rule that fails.
 pub(crate) fn step<F: FileStore>(
@@ -49,13 +38,7 @@ pub(crate) fn step<F: FileStore>(
     let Some(attrs) = store.attrs(dir) else {
         unreachable!()
     };
-    ask(attrs.kind.is_directory(), Rule::IsDirectory, path, at)?;
-    ask(
-        grants(&attrs, cred, Bit::Search),
-        Rule::GrantsSearch,
-        path,
-        at,
-    )?;
+    may_search(&attrs, cred, path, at)?;
     look_up(store, dir, attrs.size, name).ok_or(denial(Rule::NameThere, path, at + 1))
 }
 
