@@ -7,7 +7,7 @@ ghost use Rattle.lfs_calls.specs.Calls.{ChangesTo, IsCall, IsCallAt};
 ghost use Rattle.lfs_calls.specs.Volumes.{HasWorld};
 
 use crate::halt::Halt;
-use crate::walking::{depth, find};
+use crate::walking::{Reached, depth, find};
 use lfs_judgments::attributes::{may_chflags, may_chmod, may_chown, mode_after};
 use lfs_types::answer::Served;
 use lfs_types::attrs::Attrs;
@@ -76,14 +76,8 @@ pub fn chflags<F: FileStore>(
 {
     let file = find(store, cred, path)?;
     may_chflags(&file.attrs, cred, level, flags, depth(path))?;
-    set_attrs(
-        store,
-        file.number,
-        Attrs {
-            flags,
-            ..file.attrs
-        },
-    )?;
+    let Reached { number, attrs } = file;
+    set_attrs(store, number, Attrs { flags, ..attrs })?;
     Ok(Served::Done)
 }
 

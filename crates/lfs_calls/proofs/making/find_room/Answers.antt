@@ -1,4 +1,3 @@
-use Rattle.std.proofs.lemmas.Grind.{common_steps}
 use Rattle.std.proofs.Common.{◌≡◌, ◌<◌, ◌/◌, ◌%◌, [], ◌∷◌, ◌++◌, length, sym, ap, subst, ◌∙◌, arith}
 use Rattle.lfs_calls.proofs.StateLemmas.{same_content}
 use Rattle.lfs_types.specs.Stored.{bytes_of}
@@ -37,4 +36,10 @@ returns-clause-room g c =
     )
 
 pub returns-then-size-eq-FILE_BYTES-clause-room : goal.returns-then-size-eq-FILE_BYTES-clause-room
-returns-then-size-eq-FILE_BYTES-clause-room g c = grind (arith, common_steps)
+returns-then-size-eq-FILE_BYTES-clause-room g c =
+    let stored = bytes_of (g.F.FileStore.state c.args.store.now).content c.args.dir in
+    let size : length (with_block stored c.args.taken) ≡ c.args.size = length-with_block stored c.args.taken c.args.size c.requires.stands c.requires.stored.sized c.requires.stored.whole in
+    record {
+      whole = size ∙ c.if-size-eq-FILE_BYTES.true;
+      full = λ j before. let whole = c.if-size-eq-FILE_BYTES.true in c.loop-k.invariant.full j (omega (arith, before, whole, c.loop-k-test.false));
+    }
