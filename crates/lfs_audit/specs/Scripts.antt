@@ -2,8 +2,8 @@
 use Rattle.std.specs.Prelude.{◌≡◌, ℕ, List, Option}
 use Rattle.lfs_types.specs.declared.fault.FormatFault.{FormatFault}
 use Rattle.lfs_types.specs.declared.fault.FormatFault.TheVariants as faults
-use Rattle.lfs_landing.specs.Opening.{IsTooFew, IsTooMany}
-use Rattle.lfs_landing.specs.declared.parts.Parts.{Parts}
+use Rattle.lfs_staging.specs.Opening.{IsTooFew, IsTooMany}
+use Rattle.lfs_staging.specs.declared.parts.Parts.{Parts}
 use Rattle.lfs_logstore.specs.Cleaning.{GivesAddresses, GivesIfile, GivesInfos, Reclaims}
 use Rattle.lfs_logstore.specs.Marking.{WritesAgain}
 use Rattle.lfs_logstore.specs.States.{opening_state, state_of}

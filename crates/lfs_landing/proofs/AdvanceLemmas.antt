@@ -3,11 +3,11 @@ use Rattle.std.proofs.Common.{◌≡◌, ℕ, zero, suc, ◌+◌, ◌*◌, ◌/�
 use Rattle.std.proofs.lemmas.Bool.{cases_Bool, false≢true}
 use Rattle.lfs_segments.specs.Memory.{next_address}
 use Rattle.lfs_cache.specs.Contents.{block_in}
-use Rattle.lfs_landing.specs.declared.parts.Parts.{Parts}
+use Rattle.lfs_staging.specs.declared.parts.Parts.{Parts}
 use Rattle.lfs_landing.specs.Flushing.{Waits}
-use Rattle.lfs_landing.specs.Keys.{log_state}
+use Rattle.lfs_staging.specs.Keys.{log_state}
 use Rattle.lfs_landing.specs.Recording.{Advances}
-use Rattle.lfs_landing.specs.View.{key_of, version_of, waiting_in}
+use Rattle.lfs_staging.specs.View.{key_of, version_of, waiting_in}
 
 -- a key waits, or does not
 is_or_not : (b : Bool) → (b ≡ true) ⊎ (b ≡ true → ⊥)

@@ -19,21 +19,21 @@ use Rattle.lfs_ways.specs.Ways.{way_of}
 use Rattle.lfs_ways.proofs.PlaceLemmas.{data_block-same}
 use Rattle.lfs_ways.proofs.ReadingLemmas.{address-cell, table-root}
 use Rattle.lfs_ways.proofs.WayLemmas.{way_of-code_of}
-use Rattle.lfs_landing.specs.declared.parts.Parts.{Parts}
-use Rattle.lfs_landing.specs.declared.parts.TheConstants.{WAITING_LIMIT}
+use Rattle.lfs_staging.specs.declared.parts.Parts.{Parts}
+use Rattle.lfs_staging.specs.declared.parts.TheConstants.{WAITING_LIMIT}
 use Rattle.lfs_landing.specs.Flushing.{Waits}
-use Rattle.lfs_landing.specs.Keys.{log_state}
+use Rattle.lfs_staging.specs.Keys.{log_state}
 use Rattle.lfs_landing.specs.Marking.{SameShown, StagesAgain}
-use Rattle.lfs_landing.specs.Staging.{IsStaged, IsZeroPast, MayStage, SameFiles, StagesData, StagesParents}
-use Rattle.lfs_landing.specs.Store.{IsFile, IsWithin}
-use Rattle.lfs_landing.specs.View.{key_of, record_of, root_in, tree_of, version_of, waiting_in}
-use Rattle.lfs_landing.specs.Waiting.{without}
-use Rattle.lfs_landing.proofs.FileLemmas.{free_place}
-use Rattle.lfs_landing.proofs.KeptLemmas.{few_records, log_kept}
-use Rattle.lfs_landing.proofs.KeyLemmas.{lies_in, place-block, unused_nowhere}
+use Rattle.lfs_staging.specs.Staging.{IsStaged, IsZeroPast, MayStage, SameFiles, StagesData, StagesParents}
+use Rattle.lfs_staging.specs.Store.{IsFile, IsWithin}
+use Rattle.lfs_staging.specs.View.{key_of, record_of, root_in, tree_of, version_of, waiting_in}
+use Rattle.lfs_staging.specs.Waiting.{without}
+use Rattle.lfs_staging.proofs.FileLemmas.{free_place}
+use Rattle.lfs_staging.proofs.KeptLemmas.{few_records, log_kept}
+use Rattle.lfs_staging.proofs.KeyLemmas.{lies_in, place-block, unused_nowhere}
 use Rattle.lfs_landing.proofs.NamedLemmas.{frames-one, frames-two}
-use Rattle.lfs_landing.proofs.StagingLemmas.{version-same}
-use Rattle.lfs_landing.proofs.WaitingLemmas.{length-rest, length-without, waiting-without}
+use Rattle.lfs_staging.proofs.StagingLemmas.{version-same}
+use Rattle.lfs_staging.proofs.WaitingLemmas.{length-rest, length-without, waiting-without}
 
 -- a block that isn't a record waits under its key
 pub waits_block : (p : Parts) (number code : ℕ) → code ≢ 0 → IsLocked (key_of number (version_of p number) code) p.cache → Waits p number code

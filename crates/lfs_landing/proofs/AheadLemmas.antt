@@ -16,15 +16,15 @@ use Rattle.lfs_ways.specs.Log.{HasPlace}
 use Rattle.lfs_ways.specs.Moves.{DirtyIn, Moves, StaysDirty}
 use Rattle.lfs_ways.proofs.LogLemmas.{dirty_not_active}
 use Rattle.lfs_ways.proofs.MoveLemmas.{StaysDirty-trans, moves-same, moves-trans}
-use Rattle.lfs_landing.specs.declared.parts.Parts.{Parts}
+use Rattle.lfs_staging.specs.declared.parts.Parts.{Parts}
 use Rattle.lfs_landing.specs.Applying.{MakesChanges, StagesAll, WritesAhead, frames_of_all, needs_of, records_of_all, reserve_of}
 use Rattle.lfs_landing.specs.Collecting.{blocks_of_entries, entries_of}
-use Rattle.lfs_landing.specs.Files.{content_of}
+use Rattle.lfs_staging.specs.Files.{content_of}
 use Rattle.lfs_landing.specs.Flushing.{Flushes, Waits}
-use Rattle.lfs_landing.specs.Keys.{log_state}
+use Rattle.lfs_staging.specs.Keys.{log_state}
 use Rattle.lfs_landing.specs.Room.{KeepsFiles}
-use Rattle.lfs_landing.specs.Store.{IsSettled}
-use Rattle.lfs_landing.specs.View.{key_of, version_of, waiting_in}
+use Rattle.lfs_staging.specs.Store.{IsSettled}
+use Rattle.lfs_staging.specs.View.{key_of, version_of, waiting_in}
 use Rattle.lfs_landing.proofs.BoundLemmas.{blocks_more}
 use Rattle.lfs_landing.proofs.CollectingLemmas.{entries_of-length}
 

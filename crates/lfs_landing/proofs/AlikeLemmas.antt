@@ -20,16 +20,16 @@ use Rattle.lfs_ways.specs.Reading.{SameReadings, data_block}
 use Rattle.lfs_ways.specs.Ways.{IsKnown, data_way, way_of}
 use Rattle.lfs_ways.proofs.PlaceLemmas.{data_block-same}
 use Rattle.lfs_ways.proofs.WayLemmas.{way_of-data, way_of-known}
-use Rattle.lfs_landing.specs.declared.parts.Parts.{Parts}
-use Rattle.lfs_landing.specs.Files.{content_of}
-use Rattle.lfs_landing.specs.Keys.{log_state}
-use Rattle.lfs_landing.specs.Staging.{IsStaged}
-use Rattle.lfs_landing.specs.Store.{AreFiles, IsFile, IsPresent}
-use Rattle.lfs_landing.specs.View.{key_of, record_of, tree_of, version_of, waiting_in}
-use Rattle.lfs_landing.specs.Waiting.{AreOnce}
-use Rattle.lfs_landing.proofs.FileLemmas.{record_of-past}
-use Rattle.lfs_landing.proofs.KeyLemmas.{place-block}
-use Rattle.lfs_landing.proofs.SameContentLemmas.{content_of-same, file_at-kept}
+use Rattle.lfs_staging.specs.declared.parts.Parts.{Parts}
+use Rattle.lfs_staging.specs.Files.{content_of}
+use Rattle.lfs_staging.specs.Keys.{log_state}
+use Rattle.lfs_staging.specs.Staging.{IsStaged}
+use Rattle.lfs_staging.specs.Store.{AreFiles, IsFile, IsPresent}
+use Rattle.lfs_staging.specs.View.{key_of, record_of, tree_of, version_of, waiting_in}
+use Rattle.lfs_staging.specs.Waiting.{AreOnce}
+use Rattle.lfs_staging.proofs.FileLemmas.{record_of-past}
+use Rattle.lfs_staging.proofs.KeyLemmas.{place-block}
+use Rattle.lfs_staging.proofs.SameContentLemmas.{content_of-same, file_at-kept}
 
 pub record AreAlike (p q : Parts) : Type 0 where
   pub cache : q.cache ≡ p.cache

@@ -16,15 +16,15 @@ use Rattle.lfs_ways.specs.Reading.{IsUnread, address}
 use Rattle.lfs_ways.specs.Ways.{code_at}
 use Rattle.lfs_ways.proofs.LogLemmas.{written_log}
 use Rattle.lfs_ways.proofs.ReadingLemmas.{kept_blocks}
-use Rattle.lfs_landing.specs.declared.parts.Parts.{Parts}
+use Rattle.lfs_staging.specs.declared.parts.Parts.{Parts}
 use Rattle.lfs_landing.specs.Flushing.{Waits}
-use Rattle.lfs_landing.specs.Keys.{log_state}
+use Rattle.lfs_staging.specs.Keys.{log_state}
 use Rattle.lfs_landing.specs.Landing.{AppendsBlock}
 use Rattle.lfs_landing.specs.Recording.{Advances}
-use Rattle.lfs_landing.specs.Staging.{IsStaged}
-use Rattle.lfs_landing.specs.Store.{IsPresent}
-use Rattle.lfs_landing.specs.View.{key_of, root_in, tree_of, version_of, waiting_in}
-use Rattle.lfs_landing.specs.Waiting.{AreOnce}
+use Rattle.lfs_staging.specs.Staging.{IsStaged}
+use Rattle.lfs_staging.specs.Store.{IsPresent}
+use Rattle.lfs_staging.specs.View.{key_of, root_in, tree_of, version_of, waiting_in}
+use Rattle.lfs_staging.specs.Waiting.{AreOnce}
 use Rattle.lfs_landing.proofs.PutLemmas.{blocks_put, next_some, record_put, unread_next}
 use Rattle.lfs_landing.proofs.AlikeLemmas.{AreAlike, alike_content, alike_files, alike_place, alike_staged}
 

@@ -19,15 +19,15 @@ use Rattle.lfs_inodes.specs.Reading.{Fields}
 use Rattle.lfs_inodes.specs.declared.inode.Inode.{Inode}
 use Rattle.lfs_ways.specs.Reading.{data_block}
 use Rattle.lfs_ways.proofs.PieceLemmas.{file_bytes-length}
-use Rattle.lfs_landing.specs.declared.parts.Parts.{Parts}
-use Rattle.lfs_landing.specs.Files.{content_of, file_with}
-use Rattle.lfs_landing.specs.Putting.{MayChange, with_put}
-use Rattle.lfs_landing.specs.Staging.{IsStaged}
-use Rattle.lfs_landing.specs.Store.{AreFiles}
-use Rattle.lfs_landing.specs.View.{record_of, tree_of}
-use Rattle.lfs_landing.specs.Waiting.{without}
-use Rattle.lfs_landing.proofs.FileLemmas.{file_at-some, free_shown, get-content_of, used_shown}
-use Rattle.lfs_landing.proofs.KeyLemmas.{lies_in}
+use Rattle.lfs_staging.specs.declared.parts.Parts.{Parts}
+use Rattle.lfs_staging.specs.Files.{content_of, file_with}
+use Rattle.lfs_staging.specs.Putting.{MayChange, with_put}
+use Rattle.lfs_staging.specs.Staging.{IsStaged}
+use Rattle.lfs_staging.specs.Store.{AreFiles}
+use Rattle.lfs_staging.specs.View.{record_of, tree_of}
+use Rattle.lfs_staging.specs.Waiting.{without}
+use Rattle.lfs_staging.proofs.FileLemmas.{file_at-some, free_shown, get-content_of, used_shown}
+use Rattle.lfs_staging.proofs.KeyLemmas.{lies_in}
 
 -- ---- which numbers are in use
 pub some_from : (o : Option File) (P : File → Type 0) → IsSomeAnd o P → IsSome o

@@ -9,7 +9,7 @@ use Rattle.lfs_types.specs.Tree.{Content}
 use Rattle.lfs_types.specs.declared.store.Change.{Change}
 use Rattle.lfs_types.specs.declared.store.Change.TheVariants.{Make, Remove, SetAttrs, Put, SetLength}
 use Rattle.lfs_landing.specs.Applying.{IsInReach, blocks_for, frames_of_all, gives_back, needs_of, records_of_all, reserve_of}
-use Rattle.lfs_landing.specs.Changing.{frames_of, frames_of_length, frames_of_put, frames_of_single, records_of}
+use Rattle.lfs_staging.specs.Changing.{frames_of, frames_of_length, frames_of_put, frames_of_single, records_of}
 use Rattle.lfs_landing.specs.Collecting.{inode_blocks}
 use Rattle.lfs_landing.proofs.AskedLemmas.{length_limit, put_limit}
 

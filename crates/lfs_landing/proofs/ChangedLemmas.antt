@@ -10,14 +10,14 @@ use Rattle.lfs_ways.specs.Reading.{address}
 use Rattle.lfs_ways.specs.Ways.{IsKnown, way_of}
 use Rattle.lfs_ways.proofs.MoveLemmas.{moves-refl, moves-same, moves-trans}
 use Rattle.lfs_ways.proofs.WayLemmas.{way_of-known}
-use Rattle.lfs_landing.specs.declared.parts.Parts.{Parts}
+use Rattle.lfs_staging.specs.declared.parts.Parts.{Parts}
 use Rattle.lfs_landing.specs.Applying.{StagesTo}
-use Rattle.lfs_landing.specs.Changing.{StaysInLog}
-use Rattle.lfs_landing.specs.Files.{content_of}
-use Rattle.lfs_landing.specs.Keys.{log_state}
-use Rattle.lfs_landing.specs.Staging.{IsStaged}
-use Rattle.lfs_landing.specs.View.{tree_of}
-use Rattle.lfs_landing.proofs.KeyLemmas.{place-block, place-record}
+use Rattle.lfs_staging.specs.Changing.{StaysInLog}
+use Rattle.lfs_staging.specs.Files.{content_of}
+use Rattle.lfs_staging.specs.Keys.{log_state}
+use Rattle.lfs_staging.specs.Staging.{IsStaged}
+use Rattle.lfs_staging.specs.View.{tree_of}
+use Rattle.lfs_staging.proofs.KeyLemmas.{place-block, place-record}
 
 -- the log and the addresses are the same
 pub same_keys : (old new : Parts) → new.log ≡ old.log → ((n : ℕ) (way : List ℕ) → IsKnown way → address (tree_of new n) way ≡ address (tree_of old n) way)

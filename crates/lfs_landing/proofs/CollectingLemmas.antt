@@ -17,10 +17,10 @@ use Rattle.lfs_ifile.specs.Tables.{row_of}
 use Rattle.lfs_cache.specs.Contents.{IsLocked, keys_of}
 use Rattle.lfs_cache.proofs.CallerLemmas.{listed_has_block}
 use Rattle.lfs_cache.proofs.Entries.{same_self}
-use Rattle.lfs_landing.specs.Store.{AreFiles}
-use Rattle.lfs_landing.specs.declared.parts.Parts.{Parts}
+use Rattle.lfs_staging.specs.Store.{AreFiles}
+use Rattle.lfs_staging.specs.declared.parts.Parts.{Parts}
 use Rattle.lfs_landing.specs.Collecting.{entries_of, entry_of, in_order, inode_blocks, is_of}
-use Rattle.lfs_landing.specs.Opening.{inodes_entry}
+use Rattle.lfs_staging.specs.Opening.{inodes_entry}
 
 -- a number in use is in the inode map
 in_range : (p : Parts) (n : ℕ) → (row_of p.log.tables n).used ≡ true → n < length p.log.tables.rows

@@ -15,14 +15,14 @@ use Rattle.lfs_segments.specs.Memory.{next_address}
 use Rattle.lfs_ways.specs.declared.blocks.FileBlock.{FileBlock}
 use Rattle.lfs_ways.specs.declared.blocks.FileBlock.TheVariants.{Single}
 use Rattle.lfs_ways.specs.Blocks.{IsFileBlock, code_of, file_block_of, logical_of}
-use Rattle.lfs_landing.specs.declared.parts.Parts.{Parts}
+use Rattle.lfs_staging.specs.declared.parts.Parts.{Parts}
 use Rattle.lfs_landing.specs.Collecting.{entries_of, entry_of, in_order, inode_blocks, is_of}
 use Rattle.lfs_landing.specs.Flushing.{Flushes, Waits}
-use Rattle.lfs_landing.specs.Opening.{inodes_entry}
+use Rattle.lfs_staging.specs.Opening.{inodes_entry}
 use Rattle.lfs_landing.specs.Recording.{Advances, entry_at_version}
-use Rattle.lfs_landing.specs.Staging.{IsStaged}
-use Rattle.lfs_landing.specs.Store.{AreFiles, IsSettled}
-use Rattle.lfs_landing.specs.View.{key_of, version_of, waiting_in}
+use Rattle.lfs_staging.specs.Staging.{IsStaged}
+use Rattle.lfs_staging.specs.Store.{AreFiles, IsSettled}
+use Rattle.lfs_staging.specs.View.{key_of, version_of, waiting_in}
 use Rattle.lfs_ways.proofs.BlockLemmas.{logical_of-file_block}
 use Rattle.lfs_landing.proofs.CollectingLemmas.{entries_of-length, in_order-length}
 use Rattle.lfs_landing.proofs.OrderLemmas.{entries_of-block, in_order-after, in_order-locked}

@@ -22,17 +22,17 @@ use Rattle.lfs_ways.specs.Pieces.{IsPadded}
 use Rattle.lfs_ways.specs.Reading.{address, data_block}
 use Rattle.lfs_ways.specs.Ways.{code_at, data_way}
 use Rattle.lfs_ways.proofs.WayLemmas.{data_way-direct, data_way-single, way_of-data}
-use Rattle.lfs_landing.specs.declared.parts.TheConstants.{WAITING_LIMIT}
-use Rattle.lfs_landing.specs.declared.parts.Parts.{Parts}
-use Rattle.lfs_landing.specs.Files.{content_of}
-use Rattle.lfs_landing.specs.Landing.{ParentWaits, StaysWaiting}
-use Rattle.lfs_landing.specs.Store.{AreFiles, IsFile, IsPresent, IsWithin}
-use Rattle.lfs_landing.specs.View.{key_of, record_of, tree_of}
-use Rattle.lfs_landing.proofs.FileLemmas.{record_of-past}
+use Rattle.lfs_staging.specs.declared.parts.TheConstants.{WAITING_LIMIT}
+use Rattle.lfs_staging.specs.declared.parts.Parts.{Parts}
+use Rattle.lfs_staging.specs.Files.{content_of}
+use Rattle.lfs_staging.specs.Addressing.{ParentWaits, StaysWaiting}
+use Rattle.lfs_staging.specs.Store.{AreFiles, IsFile, IsPresent, IsWithin}
+use Rattle.lfs_staging.specs.View.{key_of, record_of, tree_of}
+use Rattle.lfs_staging.proofs.FileLemmas.{record_of-past}
 use Rattle.lfs_landing.proofs.LandedLemmas.{Steps, address_same, data_same, record_other, rows_all, version_same, waits_key}
-use Rattle.lfs_landing.proofs.SameContentLemmas.{content_of-same, file_at-kept, file_at-same}
-use Rattle.lfs_landing.proofs.SettingLemmas.{at_way, waiting_record}
-use Rattle.lfs_landing.proofs.ViewLemmas.{code_at-way_to}
+use Rattle.lfs_staging.proofs.SameContentLemmas.{content_of-same, file_at-kept, file_at-same}
+use Rattle.lfs_staging.proofs.SettingLemmas.{at_way, waiting_record}
+use Rattle.lfs_staging.proofs.ViewLemmas.{code_at-way_to}
 
 -- a block within the size is none past it
 within_apart : (block : FileBlock) (size k : ℕ) → code_of block ≢ 0 → IsWithin block size → block_count size ≤ k → 131 + k ≢ code_of block

@@ -24,19 +24,20 @@ use Rattle.lfs_ways.specs.Ways.{data_way}
 use Rattle.lfs_ways.proofs.BlockLemmas.{same_block}
 use Rattle.lfs_ways.proofs.CountingLemmas.{placed-cases}
 use Rattle.lfs_ways.proofs.WayLemmas.{data_way-direct, data_way-single}
-use Rattle.lfs_landing.specs.declared.parts.Parts.{Parts}
-use Rattle.lfs_landing.specs.Files.{content_of}
+use Rattle.lfs_staging.specs.declared.parts.Parts.{Parts}
+use Rattle.lfs_staging.specs.Files.{content_of}
 use Rattle.lfs_landing.specs.Flushing.{Waits}
-use Rattle.lfs_landing.specs.Keys.{log_state}
-use Rattle.lfs_landing.specs.Landing.{IsWaiting, entry_of, LandsBlock, MayLand, ParentWaits, StaysWaiting, TakesPlace, numbers_of}
+use Rattle.lfs_staging.specs.Keys.{log_state}
+use Rattle.lfs_staging.specs.Addressing.{IsWaiting, ParentWaits, StaysWaiting, numbers_of}
+use Rattle.lfs_landing.specs.Landing.{entry_of, LandsBlock, MayLand, TakesPlace}
 use Rattle.lfs_landing.specs.Recording.{Advances, entry_at_version}
-use Rattle.lfs_landing.specs.Staging.{IsStaged}
-use Rattle.lfs_landing.specs.Store.{AreFiles, IsPresent, IsWithin}
-use Rattle.lfs_landing.specs.View.{key_of, record_of, version_of, waiting_in}
-use Rattle.lfs_landing.specs.Waiting.{AreOnce}
-use Rattle.lfs_landing.proofs.SettingLemmas.{at_way, waiting_record}
-use Rattle.lfs_landing.proofs.ViewLemmas.{code_at-way_to}
-use Rattle.lfs_landing.proofs.WaitingLemmas.{waiting-head, waiting-tail}
+use Rattle.lfs_staging.specs.Staging.{IsStaged}
+use Rattle.lfs_staging.specs.Store.{AreFiles, IsPresent, IsWithin}
+use Rattle.lfs_staging.specs.View.{key_of, record_of, version_of, waiting_in}
+use Rattle.lfs_staging.specs.Waiting.{AreOnce}
+use Rattle.lfs_staging.proofs.SettingLemmas.{at_way, waiting_record}
+use Rattle.lfs_staging.proofs.ViewLemmas.{code_at-way_to}
+use Rattle.lfs_staging.proofs.WaitingLemmas.{waiting-head, waiting-tail}
 
 -- the record that waits of a number has it
 pub waiting_number : (vs : List Inode) (n : ℕ) (v : Inode) → waiting_in vs n ≡ Some v → v.number ≡ n

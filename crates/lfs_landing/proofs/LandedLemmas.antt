@@ -1,13 +1,7 @@
 -- A block that waits lands: what that makes of each file, and of the log.
-use Rattle.std.proofs.Common.{◌≡◌, ◌≢◌, ℕ, ◌+◌, ◌-◌, ◌*◌, ◌/◌, ◌<◌, ◌≤◌, ◌⊎◌, List, [], ◌∷◌, length, Option, None, Some, IsSome, true, false, refl, sym, ap, ◌∙◌, subst, inl, inr, arith}
+use Rattle.std.proofs.Common.{◌≡◌, ◌≢◌, ℕ, ◌+◌, ◌-◌, ◌*◌, ◌/◌, ◌<◌, ◌≤◌, ◌⊎◌, List, [], ◌∷◌, length, Option, None, Some, IsSome, false, refl, sym, ap, ◌∙◌, subst, inl, inr, arith}
 use Rattle.std.specs.Prelude.{slice_set, if◌then◌else◌, ◌==◌}
-use Rattle.std.proofs.lemmas.Bool.{cases_eq, cases_lt, cond-true, cond-false, eq-eqb, ne_eqb, lt-ltb, le-ltb, false≢true}
-use Rattle.std.proofs.lemmas.List.{get_or_past}
-use Rattle.std.proofs.lemmas.List.Elements.{All-weaker}
-use Rattle.std.specs.Prelude.{All}
-use Rattle.std.specs.Vec.{vec_capacity}
-use Rattle.lfs_ifile.specs.Inode.{fresh_row}
-use Rattle.lfs_cache.specs.Changes.{IsContents}
+use Rattle.std.proofs.lemmas.Bool.{cases_eq, cases_lt, cond-true, cond-false, eq-eqb, ne_eqb, lt-ltb, le-ltb}
 use Rattle.lfs_ifile.specs.declared.inode.InodeRow.{InodeRow}
 use Rattle.lfs_ifile.specs.Tables.{Tables, row_at, row_of}
 use Rattle.lfs_inodes.specs.declared.inode.Inode.{Inode}
@@ -17,7 +11,7 @@ use Rattle.lfs_inodes.proofs.Cells.{length-numbers}
 use Rattle.lfs_segments.specs.Log.{entry_at}
 use Rattle.lfs_segments.specs.Memory.{SegmentMemory, block_at, next_address}
 use Rattle.lfs_cache.specs.declared.key.Key.{Key}
-use Rattle.lfs_cache.specs.Contents.{Contents, block_in, block_of, forgotten, forgotten_by, without_key}
+use Rattle.lfs_cache.specs.Contents.{Contents, block_in}
 use Rattle.lfs_cache.specs.Keys.{same_key}
 use Rattle.lfs_cache.proofs.Entries.{same_cases, same_is}
 use Rattle.lfs_log.specs.Parts.{LogParts, live_of, record_place}
@@ -27,24 +21,24 @@ use Rattle.lfs_ways.specs.declared.blocks.TheConstants.{BLOCK_CODES}
 use Rattle.lfs_ways.specs.declared.blocks.FileBlock.{FileBlock}
 use Rattle.lfs_ways.specs.declared.blocks.FileBlock.TheVariants.{Record, Single, Data}
 use Rattle.lfs_ways.specs.Blocks.{IsFileBlock, code_of, logical_of, way_to}
-use Rattle.lfs_ways.specs.Counting.{placed, units, weight_of}
+use Rattle.lfs_ways.specs.Counting.{placed, units}
 use Rattle.lfs_ways.specs.Log.{Assigns, IsLog, LogState, MayTake}
 use Rattle.lfs_ways.specs.Reading.{Lands, SameReadings, Tree, address, data_block, read, table}
 use Rattle.lfs_ways.specs.Ways.{IsKnown, code_at, data_way, way_of}
 use Rattle.lfs_ways.proofs.BlockLemmas.{code_of-below}
-use Rattle.lfs_ways.proofs.CountingLemmas.{live-part, placed-cases, weight-here}
+use Rattle.lfs_ways.proofs.CountingLemmas.{placed-cases}
 use Rattle.lfs_ways.proofs.LogLemmas.{taken_log, written_log}
 use Rattle.lfs_ways.proofs.ReadingLemmas.{kept_blocks, landed_address, landed_addresses, landed_data, read-waits, table-read, table-root}
 use Rattle.lfs_ways.proofs.WayLemmas.{data_way-direct, data_way-single, known_way_of, same_code, up_known, way_of-code_of, way_of-data, way_of-known}
-use Rattle.lfs_landing.specs.declared.parts.Parts.{Parts}
-use Rattle.lfs_landing.specs.Keys.{log_state}
-use Rattle.lfs_landing.specs.Landing.{numbers_of, IsWaiting, ParentWaits, AppendsBlock, Sets, StaysWaiting}
-use Rattle.lfs_landing.specs.Store.{IsPresent}
-use Rattle.lfs_landing.specs.View.{key_of, record_of, root_in, tree_of, version_of, waiting_in}
-use Rattle.lfs_landing.proofs.KeyLemmas.{place-block, place-record}
-use Rattle.lfs_landing.proofs.PutLemmas.{record_like}
-use Rattle.lfs_landing.proofs.SettingLemmas.{at_way, record_table, some_there}
-use Rattle.lfs_landing.proofs.ViewLemmas.{code_at-way_to}
+use Rattle.lfs_staging.specs.declared.parts.Parts.{Parts}
+use Rattle.lfs_staging.specs.Keys.{log_state}
+use Rattle.lfs_staging.specs.Addressing.{IsWaiting, ParentWaits, Sets}
+use Rattle.lfs_landing.specs.Landing.{AppendsBlock}
+use Rattle.lfs_staging.specs.View.{key_of, record_of, root_in, tree_of, version_of, waiting_in}
+use Rattle.lfs_staging.proofs.KeyLemmas.{place-block, place-record}
+use Rattle.lfs_staging.proofs.ViewLemmas.{record_like}
+use Rattle.lfs_staging.proofs.SettingLemmas.{at_way, record_table, some_there}
+use Rattle.lfs_staging.proofs.ViewLemmas.{code_at-way_to}
 
 -- The steps of a landing: the block is put, its address is set, its live bytes move, and it waits no more.
 pub record Steps (p r s q : Parts) (v : Inode) (block : FileBlock) (a i : ℕ) (up : List ℕ) : Type 0 where
@@ -274,19 +268,6 @@ live_fits p a code log end inside =
     let live : live_of p.log.tables (a / 64) ≡ live_of p.log.tables p.log.memory.active = ap (live_of p.log.tables) here in
     omega (arith, live, spared, most)
 
--- the segment of the old address has the block's live bytes
-pub live_had : (p : Parts) (number code from : ℕ) → IsLog (log_state p) 0 → number < length p.log.tables.rows → code < BLOCK_CODES → code ≢ 0
-    → address (tree_of p number) (way_of code) ≡ from → from ≢ 0 → 128 * units code ≤ live_of p.log.tables (from / 64)
-live_had p number code from log low below block is some =
-    let at : (log_state p).at number code ≡ 4 * from = place-block p number code block ∙ ap (λ a. 4 * a) is in
-    let key = log.keys number code (record { number_below = low; code_below = below; somewhere = λ none. omega (arith, at, none, some) }) in
-    let inside : from / 64 < p.log.memory.segments = omega (arith, at, key.in_volume) in
-    let part = live-part (length p.log.tables.rows) BLOCK_CODES (log_state p).at (from / 64) number code low below in
-    let weight : weight_of ((log_state p).at number code) (from / 64) code ≡ 128 * units code =
-    ap (λ w. weight_of w (from / 64) code) at ∙ weight-here (4 * from) (from / 64) code (λ none. omega arith) (omega arith) in
-    let counted = log.counted (from / 64) inside in
-    omega (arith, part, weight, counted)
-
 -- spare bytes may be fewer
 spare_none : (l : LogState) (spare : ℕ) → IsLog l spare → IsLog l 0
 spare_none l spare log = record { segments = log.segments; keys = log.keys; counted = log.counted; spared = let spared = log.spared in omega arith }
@@ -328,28 +309,6 @@ log_after p r s q v block a i up h waited named taken =
     spare_none (log_state q) (0 + 512 * 1 - 128 * units (code_of block)) (taken_log was (log_state q) (0 + 512 * 1) v.number (code_of block) (4 * a) mid may now)
 
 -- ---- what lets a block land
--- a number in use is one of the volume
-pub used_low : (p : Parts) (number : ℕ) → (row_of p.log.tables number).used ≡ true → number < length p.log.tables.rows
-used_low p number used =
-    elim (cases_lt number (length p.log.tables.rows)) [
-      | inl low ↦ low
-      | inr past ↦ absurd (false≢true (sym (ap (λ (r : InodeRow). r.used) (get_or_past p.log.tables.rows number fresh_row past)) ∙ used))
-    ]
-
--- a block's way leads somewhere, but for the record's
-pub way_some : (block : FileBlock) → IsFileBlock block → code_of block ≢ 0 → (i : ℕ) × (up : List ℕ) × (way_to block ≡ i ∷ up)
-way_some Record can other = absurd (other refl)
-way_some Single can other = (12, [], refl)
-way_some (Data index) can other =
-    elim (cases_lt index 12) [
-      | inl direct ↦ (index, [], data_way-direct index direct)
-      | inr past ↦ (index - 12, 12 ∷ [], data_way-single index past can)
-    ]
-
-pub waited_parent : (p : Parts) (v : Inode) → IsWaiting p v → (up : List ℕ) → ParentWaits p v up → up ≢ [] → IsSome ((tree_of p v.number).waits up)
-waited_parent p v is [] waits some = absurd (some refl)
-waited_parent p v is (j ∷ above) waits some = subst (λ n. IsSome (block_in (key_of v.number n (code_at (j ∷ above))) p.cache.locked)) is.at_version waits
-
 pub parent_kept : (p q : Parts) (v : Inode) (up : List ℕ) → q.cache ≡ p.cache → ParentWaits p v up → ParentWaits q v up
 parent_kept p q v [] cache waits = tt
 parent_kept p q v (j ∷ above) cache waits = subst (λ (c : Contents). IsSome (block_in (key_of v.number v.version (code_at (j ∷ above))) c.locked)) (sym cache) waits
@@ -358,34 +317,3 @@ parent_kept p q v (j ∷ above) cache waits = subst (λ (c : Contents). IsSome (
 pub some_or_none : (o : Option (List ℕ)) → IsSome o ⊎ (o ≡ None)
 some_or_none None = inr refl
 some_or_none (Some b) = inl refl
-
--- where nothing clean is held, nothing clean is when a key was forgotten
-forgotten_none : (o : Option (List ℕ)) (k : Key) (c : Contents) → c.lru ≡ [] → (forgotten_by o k c).lru ≡ []
-forgotten_none None k c none = none
-forgotten_none (Some b) k c none = ap (without_key k) none
-
-pub forgotten_clean : (k : Key) (c : Contents) → c.lru ≡ [] → (forgotten k c).lru ≡ []
-forgotten_clean k c none = forgotten_none (block_of k c) k c none
-
--- what waits stays of its number where the inode map is the same
-pub stays_landed : (p r s q : Parts) (v : Inode) → StaysWaiting r s v → r.waiting.items ≡ p.waiting.items → vec_capacity r.waiting ≡ vec_capacity p.waiting → q.waiting.items ≡ s.waiting.items → vec_capacity q.waiting ≡ vec_capacity s.waiting → q.log.tables.rows ≡ s.log.tables.rows
-    → IsContents q.cache → q.cache.lru ≡ [] → StaysWaiting p q v
-stays_landed p r s q v stays before capacity after room rows formed none = record {
-  cache = formed;
-  none_clean = none;
-  present = subst (λ items. All (λ (x : Inode). IsPresent q x.number x.version) items) (sym after)
-      (All-weaker (λ (x : Inode). IsPresent s x.number x.version) (λ (x : Inode). IsPresent q x.number x.version) (λ x h. record {
-        in_use = ap (λ (rs : List InodeRow). (row_at rs x.number).used) rows ∙ h.in_use;
-        at_version = h.at_version ∙ sym (ap (λ (rs : List InodeRow). (row_at rs x.number).version) rows);
-      }) s.waiting.items stays.present);
-  room = room ∙ stays.room ∙ capacity;
-  after = stays.after;
-  here = record {
-    waits = ap (λ items. waiting_in items stays.after.number) after ∙ stays.here.waits;
-    in_use = ap (λ (rs : List InodeRow). (row_at rs stays.after.number).used) rows ∙ stays.here.in_use;
-    at_version = stays.here.at_version ∙ sym (ap (λ (rs : List InodeRow). (row_at rs stays.after.number).version) rows);
-  };
-  same = stays.same;
-  others = λ number other. ap (λ items. waiting_in items number) after ∙ stays.others number other ∙ ap (λ items. waiting_in items number) before;
-  numbers = ap numbers_of after ∙ stays.numbers ∙ ap numbers_of before;
-}

@@ -14,19 +14,19 @@ use Rattle.lfs_ways.specs.Counting.{seg_of}
 use Rattle.lfs_ways.specs.Log.{HasPlace}
 use Rattle.lfs_ways.specs.Moves.{DirtyIn, Moves}
 use Rattle.lfs_ways.proofs.LogLemmas.{dirty_not_active}
-use Rattle.lfs_landing.specs.declared.parts.Parts.{Parts}
+use Rattle.lfs_staging.specs.declared.parts.Parts.{Parts}
 use Rattle.lfs_landing.specs.Collecting.{blocks_of_entries, entries_of}
-use Rattle.lfs_landing.specs.Files.{content_of}
+use Rattle.lfs_staging.specs.Files.{content_of}
 use Rattle.lfs_landing.specs.Flushing.{Flushes, Waits}
-use Rattle.lfs_landing.specs.Keys.{log_state}
+use Rattle.lfs_staging.specs.Keys.{log_state}
 use Rattle.lfs_landing.specs.Marking.{AreNamed, IsRewritten, MarksAgain, SameShown, StagesNamed, blocks_to_mark, code_named}
 use Rattle.lfs_landing.specs.Room.{KeepsFiles}
-use Rattle.lfs_landing.specs.Store.{IsSettled}
-use Rattle.lfs_landing.specs.View.{key_of, version_of, waiting_in}
+use Rattle.lfs_staging.specs.Store.{IsSettled}
+use Rattle.lfs_staging.specs.View.{key_of, version_of, waiting_in}
 use Rattle.lfs_landing.proofs.CollectingLemmas.{entries_of-length}
-use Rattle.lfs_landing.proofs.KeptLemmas.{keys_kept}
+use Rattle.lfs_staging.proofs.KeptLemmas.{keys_kept}
 use Rattle.lfs_landing.proofs.NamedLemmas.{named_there}
-use Rattle.lfs_landing.proofs.SameContentLemmas.{content_of-same, file_at-kept}
+use Rattle.lfs_staging.proofs.SameContentLemmas.{content_of-same, file_at-kept}
 
 -- a key waits, or doesn't
 tested : (o : Option (List ℕ)) → IsSome o ⊎ (IsSome o → ⊥)

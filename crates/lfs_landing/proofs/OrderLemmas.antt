@@ -12,9 +12,9 @@ use Rattle.lfs_cache.specs.Keys.{same_key}
 use Rattle.lfs_cache.proofs.Entries.{same_cases, same_is, same_self}
 use Rattle.lfs_cache.proofs.CallerLemmas.{listed_has_block}
 use Rattle.lfs_inodes.specs.declared.inode.Inode.{Inode}
-use Rattle.lfs_landing.specs.declared.parts.Parts.{Parts}
+use Rattle.lfs_staging.specs.declared.parts.Parts.{Parts}
 use Rattle.lfs_landing.specs.Collecting.{AreLocked, entries_of, entry_of, in_order, inode_blocks, is_of}
-use Rattle.lfs_landing.specs.Opening.{inodes_entry}
+use Rattle.lfs_staging.specs.Opening.{inodes_entry}
 use Rattle.lfs_landing.proofs.CollectingLemmas.{entries_of-length, in_order-all, in_order-length}
 use Rattle.lfs_segments.specs.declared.entry.SummaryEntry.{SummaryEntry}
 

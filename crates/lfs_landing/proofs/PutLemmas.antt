@@ -2,9 +2,8 @@
 use Rattle.std.proofs.Common.{◌≡◌, ◌≢◌, ℕ, zero, suc, ◌+◌, ◌*◌, ◌/◌, ◌<◌, ◌≤◌, List, [], length, Some, option_and_then, sym, ap, ◌∙◌, subst, inl, inr, arith}
 use Rattle.std.proofs.lemmas.Bool.{cases_Bool, cases_eq, cases_lt, cond-true, cond-false, ne_eqb}
 use Rattle.lfs_ifile.specs.declared.inode.InodePlace.{InodePlace}
-use Rattle.lfs_ifile.specs.declared.inode.InodeRow.{InodeRow}
-use Rattle.lfs_ifile.specs.Inode.{fresh_row, place_in}
-use Rattle.lfs_ifile.specs.Tables.{Tables, place_of, row_at, row_of}
+use Rattle.lfs_ifile.specs.Inode.{fresh_row}
+use Rattle.lfs_ifile.specs.Tables.{Tables, place_of, row_of}
 use Rattle.lfs_inodes.specs.Reading.{fields_in}
 use Rattle.lfs_inodes.specs.Slots.{slot_of}
 use Rattle.lfs_segments.specs.declared.entry.SummaryEntry.{SummaryEntry}
@@ -17,12 +16,12 @@ use Rattle.lfs_ways.specs.Reading.{IsUnread, address}
 use Rattle.lfs_ways.specs.Ways.{code_at, way_of}
 use Rattle.lfs_ways.proofs.ReadingLemmas.{address-root}
 use Rattle.lfs_ways.proofs.WayLemmas.{known_way_of, way_of-zero}
-use Rattle.lfs_landing.specs.declared.parts.Parts.{Parts}
-use Rattle.lfs_landing.specs.Keys.{log_state}
-use Rattle.lfs_landing.specs.View.{fields_at, record_of, tree_of, waiting_in, waiting_or}
-use Rattle.lfs_landing.proofs.FileLemmas.{free_place, record_of-past}
-use Rattle.lfs_landing.proofs.KeyLemmas.{place-block}
-use Rattle.lfs_landing.proofs.ViewLemmas.{record_of-unused}
+use Rattle.lfs_staging.specs.declared.parts.Parts.{Parts}
+use Rattle.lfs_staging.specs.Keys.{log_state}
+use Rattle.lfs_staging.specs.View.{fields_at, record_of, tree_of, waiting_in, waiting_or}
+use Rattle.lfs_staging.proofs.FileLemmas.{free_place, record_of-past}
+use Rattle.lfs_staging.proofs.KeyLemmas.{place-block}
+use Rattle.lfs_staging.proofs.ViewLemmas.{record_of-unused}
 
 -- the log never goes on at address 0
 first_some : (active fill : ℕ) → log_start active ≤ fill → 0 < active * 64 + fill
@@ -107,12 +106,3 @@ unread_next p number spare parts log room low = λ way known e.
           let below = key.written (omega (arith, at, room)) in
           omega (arith, at, below)
     ]
-
--- the record of a number rests on the blocks of the log, on the number's row and on what waits for it
-pub record_like : (p q : Parts) (number : ℕ) → q.log.memory ≡ p.log.memory → q.log.tables.rows ≡ p.log.tables.rows
-    → waiting_in q.waiting.items number ≡ waiting_in p.waiting.items number → record_of q number ≡ record_of p number
-unfolding record_of
-record_like p q number memory rows waits =
-    ap (λ w. option_and_then (λ (place : InodePlace). waiting_or w (fields_at q.log.memory place)) (place_of q.log.tables number)) waits
-    ∙ ap (λ (m : SegmentMemory). option_and_then (λ (place : InodePlace). waiting_or (waiting_in p.waiting.items number) (fields_at m place)) (place_of q.log.tables number)) memory
-    ∙ ap (λ (rs : List InodeRow). option_and_then (λ (place : InodePlace). waiting_or (waiting_in p.waiting.items number) (fields_at p.log.memory place)) (place_in (row_at rs number))) rows

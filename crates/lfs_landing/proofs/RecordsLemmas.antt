@@ -12,11 +12,11 @@ use Rattle.lfs_segments.specs.Log.{entry_at, first_of}
 use Rattle.lfs_segments.specs.Memory.{IsLaidOut, SegmentMemory, block_at, next_address}
 use Rattle.lfs_log.specs.Names.{inode_key, named_at, record_in}
 use Rattle.lfs_log.proofs.NameLemmas.{named_at-record}
-use Rattle.lfs_landing.specs.declared.parts.Parts.{Parts}
+use Rattle.lfs_staging.specs.declared.parts.Parts.{Parts}
 use Rattle.lfs_landing.specs.Landing.{AppendsBlock}
-use Rattle.lfs_landing.specs.Opening.{inodes_entry}
+use Rattle.lfs_staging.specs.Opening.{inodes_entry}
 use Rattle.lfs_landing.specs.Recording.{Advances, StandsAt}
-use Rattle.lfs_landing.specs.Staging.{IsStaged}
+use Rattle.lfs_staging.specs.Staging.{IsStaged}
 use Rattle.lfs_landing.proofs.AdvanceLemmas.{Advances-trans}
 use Rattle.lfs_landing.proofs.AppendedLemmas.{appended_advances, appended_staged, fewer_spare}
 

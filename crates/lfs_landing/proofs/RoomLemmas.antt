@@ -27,15 +27,15 @@ use Rattle.lfs_ways.proofs.PlaceLemmas.{data_block-same}
 use Rattle.lfs_ways.proofs.ReadingLemmas.{SameReadings-refl, address-root, kept_blocks}
 use Rattle.lfs_ways.proofs.SegmentLemmas.{opened_log}
 use Rattle.lfs_ways.proofs.WayLemmas.{known_way_of, way_of-data, way_of-known, way_of-zero}
-use Rattle.lfs_landing.specs.declared.parts.Parts.{Parts}
-use Rattle.lfs_landing.specs.Files.{content_below, content_of, file_at, file_with, with_file}
-use Rattle.lfs_landing.specs.Keys.{log_state}
+use Rattle.lfs_staging.specs.declared.parts.Parts.{Parts}
+use Rattle.lfs_staging.specs.Files.{content_below, content_of, file_at, file_with, with_file}
+use Rattle.lfs_staging.specs.Keys.{log_state}
 use Rattle.lfs_landing.specs.Room.{KeepsFiles, OpensSegment}
-use Rattle.lfs_landing.specs.Store.{AreFiles, IsFile, IsStore}
-use Rattle.lfs_landing.specs.View.{record_of, root_in, tree_of, waiting_in}
-use Rattle.lfs_landing.proofs.FileLemmas.{file_at-record, record_of-past}
-use Rattle.lfs_landing.proofs.KeyLemmas.{place-block, place-record, unused_waits}
-use Rattle.lfs_landing.proofs.ViewLemmas.{nowhere, record_of-logged, record_of-unused, record_of-waiting}
+use Rattle.lfs_staging.specs.Store.{AreFiles, IsFile, IsStore}
+use Rattle.lfs_staging.specs.View.{record_of, root_in, tree_of, waiting_in}
+use Rattle.lfs_staging.proofs.FileLemmas.{file_at-record, record_of-past}
+use Rattle.lfs_staging.proofs.KeyLemmas.{place-block, place-record, unused_waits}
+use Rattle.lfs_staging.proofs.ViewLemmas.{nowhere, record_of-logged, record_of-unused, record_of-waiting}
 
 -- ---- parts whose files read the same
 below_same : (old new : ℕ → Option File) → ((n : ℕ) → new n ≡ old n) → (n : ℕ) → content_below new n ≡ content_below old n

@@ -24,19 +24,19 @@ use Rattle.lfs_ways.specs.Log.{Assigns, IsLog, MayTake}
 use Rattle.lfs_ways.proofs.CountingLemmas.{placed-code, placed-here, placed-number}
 use Rattle.lfs_ways.proofs.LogLemmas.{taken_log}
 use Rattle.lfs_ways.proofs.ReadingLemmas.{kept_blocks}
-use Rattle.lfs_landing.specs.declared.parts.Parts.{Parts}
+use Rattle.lfs_staging.specs.declared.parts.Parts.{Parts}
 use Rattle.lfs_landing.specs.Flushing.{Waits}
-use Rattle.lfs_landing.specs.Keys.{log_state}
+use Rattle.lfs_staging.specs.Keys.{log_state}
 use Rattle.lfs_landing.specs.Recording.{Advances, StandsAt}
-use Rattle.lfs_landing.specs.Staging.{IsStaged}
-use Rattle.lfs_landing.specs.Store.{IsPresent}
-use Rattle.lfs_landing.specs.View.{fields_at, key_of, record_of, root_in, tree_of, version_of, waiting_in, waiting_or}
-use Rattle.lfs_landing.specs.Waiting.{AreOnce}
+use Rattle.lfs_staging.specs.Staging.{IsStaged}
+use Rattle.lfs_staging.specs.Store.{IsPresent}
+use Rattle.lfs_staging.specs.View.{fields_at, key_of, record_of, root_in, tree_of, version_of, waiting_in, waiting_or}
+use Rattle.lfs_staging.specs.Waiting.{AreOnce}
 use Rattle.lfs_landing.proofs.AlikeLemmas.{AreAlike, alike_content, alike_files, alike_place, alike_staged}
-use Rattle.lfs_landing.proofs.LandedLemmas.{used_low}
-use Rattle.lfs_landing.proofs.SettingLemmas.{waiting_record}
-use Rattle.lfs_landing.proofs.ViewLemmas.{record_of-logged}
-use Rattle.lfs_landing.proofs.WaitingLemmas.{waiting-head, waiting-tail}
+use Rattle.lfs_staging.proofs.ForgettingLemmas.{used_low}
+use Rattle.lfs_staging.proofs.SettingLemmas.{waiting_record}
+use Rattle.lfs_staging.proofs.ViewLemmas.{record_of-logged}
+use Rattle.lfs_staging.proofs.WaitingLemmas.{waiting-head, waiting-tail}
 
 -- ---- the list of records, and the last of them
 pub waiting-front : (front : List Inode) (v : Inode) (n : ℕ) → v.number ≢ n → waiting_in (front ++ v ∷ []) n ≡ waiting_in front n

@@ -7,17 +7,17 @@ use Rattle.std.proofs.lemmas.List.Sums.{sum_by-cons, sum_by_more}
 use Rattle.lfs_types.specs.declared.cleaner.BlockInfo.{BlockInfo}
 use Rattle.lfs_inodes.specs.declared.inode.Inode.{Inode}
 use Rattle.lfs_cache.specs.Contents.{IsLocked}
-use Rattle.lfs_landing.specs.declared.parts.Parts.{Parts}
+use Rattle.lfs_staging.specs.declared.parts.Parts.{Parts}
 use Rattle.lfs_landing.specs.Flushing.{Waits}
-use Rattle.lfs_landing.specs.Keys.{log_state}
+use Rattle.lfs_staging.specs.Keys.{log_state}
 use Rattle.lfs_landing.specs.Marking.{IsNamed, StagesAgain, StagesNamed, code_named, frames_to_mark}
-use Rattle.lfs_landing.specs.Staging.{IsStaged}
-use Rattle.lfs_landing.specs.Store.{IsSettled}
-use Rattle.lfs_landing.specs.View.{key_of}
+use Rattle.lfs_staging.specs.Staging.{IsStaged}
+use Rattle.lfs_staging.specs.Store.{IsSettled}
+use Rattle.lfs_staging.specs.View.{key_of}
 use Rattle.lfs_landing.proofs.AgainLemmas.{SameShown-refl, SameShown-trans}
-use Rattle.lfs_landing.proofs.KeptLemmas.{keys_kept}
+use Rattle.lfs_staging.proofs.KeptLemmas.{keys_kept}
 use Rattle.lfs_landing.proofs.NamedLemmas.{frames-most, named_kept}
-use Rattle.lfs_landing.proofs.StagingLemmas.{version-same}
+use Rattle.lfs_staging.proofs.StagingLemmas.{version-same}
 
 -- at most two frames for each
 pub frames_few : (xs : List BlockInfo) → sum_by frames_to_mark xs ≤ 2 * length xs

@@ -11,13 +11,13 @@ use Rattle.lfs_ifile.specs.declared.segment.SegState.TheVariants.{Clean}
 use Rattle.lfs_log.specs.Parts.{state_of}
 use Rattle.lfs_segments.specs.Memory.{block_at, next_address, room_of}
 use Rattle.lfs_ways.specs.Moves.{DirtyIn, Moves, StaysDirty}
-use Rattle.lfs_landing.specs.declared.parts.Parts.{Parts}
-use Rattle.lfs_landing.specs.Changing.{StaysInLog, frames_of, records_of}
+use Rattle.lfs_staging.specs.declared.parts.Parts.{Parts}
+use Rattle.lfs_staging.specs.Changing.{StaysInLog, frames_of, records_of}
 use Rattle.lfs_landing.specs.Collecting.{inode_blocks}
-use Rattle.lfs_landing.specs.Files.{content_of}
-use Rattle.lfs_landing.specs.Keys.{log_state}
-use Rattle.lfs_landing.specs.Staging.{IsStaged}
-use Rattle.lfs_landing.specs.Store.{IsSettled, IsStore}
+use Rattle.lfs_staging.specs.Files.{content_of}
+use Rattle.lfs_staging.specs.Keys.{log_state}
+use Rattle.lfs_staging.specs.Staging.{IsStaged}
+use Rattle.lfs_staging.specs.Store.{IsSettled, IsStore}
 
 -- a change ends within the limit of a file, and puts no more bytes than one call brings
 abbrev pub IsInReach : Change → Type 0

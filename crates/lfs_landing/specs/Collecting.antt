@@ -7,8 +7,8 @@ use Rattle.lfs_cache.specs.declared.key.Key.{Key}
 use Rattle.lfs_cache.specs.Contents.{AreApart, Contents, IsLocked, keys_of}
 use Rattle.lfs_log.specs.declared.packing.TheConstants.{SLOT_COUNT}
 use Rattle.lfs_ways.specs.declared.blocks.TheConstants.{FIRST_DATA_CODE}
-use Rattle.lfs_landing.specs.declared.parts.Parts.{Parts}
-use Rattle.lfs_landing.specs.Opening.{inodes_entry}
+use Rattle.lfs_staging.specs.declared.parts.Parts.{Parts}
+use Rattle.lfs_staging.specs.Opening.{inodes_entry}
 
 -- a key is of a data block; another one is of a single indirect block
 abbrev pub is_data : Key → Bool

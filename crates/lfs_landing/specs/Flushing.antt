@@ -5,11 +5,11 @@ use Rattle.lfs_cache.specs.Contents.{IsLocked}
 use Rattle.lfs_ifile.specs.Tables.{row_of}
 use Rattle.lfs_segments.specs.Memory.{block_at, next_address}
 use Rattle.lfs_ways.specs.declared.blocks.TheConstants.{BLOCK_CODES}
-use Rattle.lfs_landing.specs.declared.parts.Parts.{Parts}
-use Rattle.lfs_landing.specs.Files.{content_of}
-use Rattle.lfs_landing.specs.Keys.{log_state}
-use Rattle.lfs_landing.specs.Store.{IsSettled, IsStore}
-use Rattle.lfs_landing.specs.View.{key_of, version_of, waiting_in}
+use Rattle.lfs_staging.specs.declared.parts.Parts.{Parts}
+use Rattle.lfs_staging.specs.Files.{content_of}
+use Rattle.lfs_staging.specs.Keys.{log_state}
+use Rattle.lfs_staging.specs.Store.{IsSettled, IsStore}
+use Rattle.lfs_staging.specs.View.{key_of, version_of, waiting_in}
 
 -- a key waits to be written: a record, or another block of a number in use
 abbrev pub Waits : Parts → ℕ → ℕ → Type 0

@@ -14,11 +14,11 @@ use Rattle.lfs_ways.specs.Log.{LogState}
 use Rattle.lfs_ways.specs.Moves.{DirtyIn, Moves, present_address}
 use Rattle.lfs_ways.specs.Reading.{address, data_block}
 use Rattle.lfs_ways.specs.Ways.{IsKnown}
-use Rattle.lfs_landing.specs.declared.parts.Parts.{Parts}
+use Rattle.lfs_staging.specs.declared.parts.Parts.{Parts}
 use Rattle.lfs_landing.specs.Flushing.{Waits}
-use Rattle.lfs_landing.specs.Keys.{log_state}
-use Rattle.lfs_landing.specs.Staging.{IsStaged}
-use Rattle.lfs_landing.specs.View.{record_of, tree_of, version_of, waiting_in}
+use Rattle.lfs_staging.specs.Keys.{log_state}
+use Rattle.lfs_staging.specs.Staging.{IsStaged}
+use Rattle.lfs_staging.specs.View.{record_of, tree_of, version_of, waiting_in}
 
 -- the code of the block that an info names, BLOCK_CODES where no file can have such a block
 unfoldable pub code_named : ℕ → ℕ

@@ -11,11 +11,11 @@ use Rattle.lfs_segments.specs.Memory.{block_at, next_address}
 use Rattle.lfs_ways.specs.declared.blocks.TheConstants.{BLOCK_CODES}
 use Rattle.lfs_ways.specs.declared.blocks.FileBlock.{FileBlock}
 use Rattle.lfs_ways.specs.Blocks.{logical_of}
-use Rattle.lfs_landing.specs.declared.parts.Parts.{Parts}
-use Rattle.lfs_landing.specs.Files.{content_of}
+use Rattle.lfs_staging.specs.declared.parts.Parts.{Parts}
+use Rattle.lfs_staging.specs.Files.{content_of}
 use Rattle.lfs_landing.specs.Flushing.{Waits}
-use Rattle.lfs_landing.specs.Keys.{log_state}
-use Rattle.lfs_landing.specs.View.{fields_at, version_of}
+use Rattle.lfs_staging.specs.Keys.{log_state}
+use Rattle.lfs_staging.specs.View.{fields_at, version_of}
 
 -- The log went on behind an address: each key that waits no more has a place there, every other one the place that it
 -- had. No other block changed, and the content is the same.

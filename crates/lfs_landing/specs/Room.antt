@@ -7,11 +7,11 @@ use Rattle.lfs_log.specs.Parts.{state_of}
 use Rattle.lfs_ways.specs.Log.{SameKeys}
 use Rattle.lfs_ways.specs.Moves.{StaysDirty}
 use Rattle.lfs_ways.specs.Reading.{SameReadings}
-use Rattle.lfs_landing.specs.declared.parts.Parts.{Parts}
-use Rattle.lfs_landing.specs.Files.{content_of}
-use Rattle.lfs_landing.specs.Keys.{log_state}
-use Rattle.lfs_landing.specs.Store.{IsStore}
-use Rattle.lfs_landing.specs.View.{record_of, tree_of}
+use Rattle.lfs_staging.specs.declared.parts.Parts.{Parts}
+use Rattle.lfs_staging.specs.Files.{content_of}
+use Rattle.lfs_staging.specs.Keys.{log_state}
+use Rattle.lfs_staging.specs.Store.{IsStore}
+use Rattle.lfs_staging.specs.View.{record_of, tree_of}
 
 -- The files are what they were: each number has its record, each block its address, its bytes and its place, and what
 -- waits is the same. No block changed in a segment that was in use, and the segments that were dirty are dirty. The log

@@ -6,16 +6,16 @@ ghost use Rattle.lfs_types.specs.Changes.{CanApply, CanChange, CanChangeAll};
 ghost use Rattle.lfs_types.specs.declared.store.Change.TheVariants.{Put};
 ghost use Rattle.lfs_types.specs.declared.limits.TheConstants.{FILE_BYTES};
 ghost use Rattle.lfs_landing.specs.Applying.{IsInReach, LacksRoom, MakesChanges, StagesAll, StagesChange, frames_of_all, gives_back, needs_of, records_of_all, reserve_of};
-ghost use Rattle.lfs_landing.specs.Changing.{frames_of, frames_of_length, frames_of_put, frames_of_single, records_of};
-ghost use Rattle.lfs_landing.specs.Files.{content_of};
-ghost use Rattle.lfs_landing.specs.Staging.{IsStaged};
-ghost use Rattle.lfs_landing.specs.Store.{IsSettled, IsStore};
+ghost use Rattle.lfs_staging.specs.Changing.{frames_of, frames_of_length, frames_of_put, frames_of_single, records_of};
+ghost use Rattle.lfs_staging.specs.Files.{content_of};
+ghost use Rattle.lfs_staging.specs.Staging.{IsStaged};
+ghost use Rattle.lfs_staging.specs.Store.{IsSettled, IsStore};
 ghost use Rattle.lfs_landing.specs.declared.applying.TheConstants.{APPLIED_FRAMES, APPLIED_RECORDS};
 
 use crate::collecting::inode_blocks;
-use crate::parts::Parts;
-use crate::room::NoRoom;
-use lfs_types::attrs::Attrs;
+use crate::flushing::flush;
+use crate::room::{NoRoom, make_room};
+use lfs_staging::parts::Parts;
 use lfs_types::block::BLOCK_SIZE;
 use lfs_types::store::Change;
 use lfs_ways::blocks::DIRECT_BLOCKS;
@@ -127,103 +127,101 @@ fn needs(changes: &[Change<'_>]) -> u32
     if blocks == 0 { 0 } else { blocks as u32 + 1 }
 }
 
-impl Parts {
-    /// Whether a change gives blocks back: it removes a file, or cuts one.
-    fn gives_back(&self, change: &Change<'_>) -> bool
-        requires { IsStore self.now }
-        ensures { result ≡ gives_back (content_of self.now) change.now }
-    {
-        match *change {
-            Change::Remove { .. } => true,
-            Change::SetLength { ino, len } => match self.attrs(ino) {
-                Some(attrs) => len < attrs.size,
-                None => false,
-            },
-            Change::Make { .. } | Change::SetAttrs { .. } | Change::Put { .. } => false,
+/// Whether a change gives blocks back: it removes a file, or cuts one.
+fn gives_back(parts: &Parts, change: &Change<'_>) -> bool
+    requires { IsStore parts.now }
+    ensures { result ≡ gives_back (content_of parts.now) change.now }
+{
+    match *change {
+        Change::Remove { .. } => true,
+        Change::SetLength { ino, len } => match parts.attrs(ino) {
+            Some(attrs) => len < attrs.size,
+            None => false,
+        },
+        Change::Make { .. } | Change::SetAttrs { .. } | Change::Put { .. } => false,
+    }
+}
+
+/// How many segments stay clean when these changes open one.
+fn reserve_of(parts: &Parts, changes: &[Change<'_>]) -> u32
+    requires { IsStore parts.now }
+    ensures { result ≡ reserve_of (content_of parts.now) changes.now }
+{
+    for change in changes {
+        if gives_back(parts, change) {
+            return LEAST_RESERVE;
         }
     }
+    RESERVE
+}
 
-    /// How many segments stay clean when these changes open one.
-    fn reserve_of(&self, changes: &[Change<'_>]) -> u32
-        requires { IsStore self.now }
-        ensures { result ≡ reserve_of (content_of self.now) changes.now }
-    {
-        for change in changes {
-            if self.gives_back(change) {
-                return LEAST_RESERVE;
-            }
-        }
-        RESERVE
+/// Has bytes wait that are put into a file in use; no bytes change nothing.
+fn put_some(parts: &mut Parts, ino: u32, off: u64, bytes: &[u8])
+    requires staged { IsStaged parts.old 0 }
+    requires can { CanChange (length parts.old.log.tables.rows) (Put ino off bytes)
+        (content_of parts.old) }
+    requires reach { IsInReach (Put ino off bytes) }
+    requires frames { length parts.old.cache.locked + frames_of (Put ino off bytes)
+        ≤ APPLIED_FRAMES }
+    requires records { length parts.old.waiting.items ≤ APPLIED_RECORDS }
+    ensures { StagesChange (Put ino off bytes.entry) parts.old parts.new }
+{
+    if !bytes.is_empty() {
+        parts.put(ino, off, bytes);
     }
+}
 
-    /// Has bytes wait that are put into a file in use; no bytes change nothing.
-    fn put_some(&mut self, ino: u32, off: u64, bytes: &[u8])
-        requires staged { IsStaged self.old 0 }
-        requires can { CanChange (length self.old.log.tables.rows) (Put ino off bytes)
-            (content_of self.old) }
-        requires reach { IsInReach (Put ino off bytes) }
-        requires frames { length self.old.cache.locked + frames_of (Put ino off bytes)
-            ≤ APPLIED_FRAMES }
-        requires records { length self.old.waiting.items ≤ APPLIED_RECORDS }
-        ensures { StagesChange (Put ino off bytes.entry) self.old self.new }
-    {
-        if !bytes.is_empty() {
-            self.put(ino, off, bytes);
-        }
+/// Has a change wait.
+fn stage_change(parts: &mut Parts, change: &Change<'_>)
+    requires staged { IsStaged parts.old 0 }
+    requires can { CanChange (length parts.old.log.tables.rows) change.now
+        (content_of parts.old) }
+    requires reach { IsInReach change.now }
+    requires frames { length parts.old.cache.locked + frames_of change.now ≤ APPLIED_FRAMES }
+    requires records { length parts.old.waiting.items ≤ APPLIED_RECORDS }
+    ensures { StagesChange change.now parts.old parts.new }
+{
+    match *change {
+        Change::Make { ino, attrs } => parts.make(ino, &attrs),
+        Change::Remove { ino } => parts.remove(ino),
+        Change::SetAttrs { ino, attrs } => parts.set_attrs(ino, &attrs),
+        Change::Put { ino, off, bytes } => put_some(parts, ino, off, bytes),
+        Change::SetLength { ino, len } => parts.set_length(ino, len),
     }
+}
 
-    /// Has a change wait.
-    fn change(&mut self, change: &Change<'_>)
-        requires staged { IsStaged self.old 0 }
-        requires can { CanChange (length self.old.log.tables.rows) change.now
-            (content_of self.old) }
-        requires reach { IsInReach change.now }
-        requires frames { length self.old.cache.locked + frames_of change.now ≤ APPLIED_FRAMES }
-        requires records { length self.old.waiting.items ≤ APPLIED_RECORDS }
-        ensures { StagesChange change.now self.old self.new }
-    {
-        match *change {
-            Change::Make { ino, attrs } => self.make(ino, &attrs),
-            Change::Remove { ino } => self.remove(ino),
-            Change::SetAttrs { ino, attrs } => self.set_attrs(ino, &attrs),
-            Change::Put { ino, off, bytes } => self.put_some(ino, off, bytes),
-            Change::SetLength { ino, len } => self.set_length(ino, len),
-        }
+/// Has changes wait, in order.
+fn stage_changes(parts: &mut Parts, changes: &[Change<'_>])
+    requires staged { IsStaged parts.old 0 }
+    requires can { CanChangeAll (length parts.old.log.tables.rows) changes.now
+        (content_of parts.old) }
+    requires reach { All IsInReach changes.now }
+    requires frames { length parts.old.cache.locked + frames_of_all changes.now
+        ≤ APPLIED_FRAMES }
+    requires records { length parts.old.waiting.items + records_of_all changes.now
+        ≤ APPLIED_RECORDS }
+    ensures { StagesAll changes.now parts.old parts.new }
+{
+    for change in changes {
+        stage_change(parts, change);
     }
+}
 
-    /// Has changes wait, in order.
-    fn change_all(&mut self, changes: &[Change<'_>])
-        requires staged { IsStaged self.old 0 }
-        requires can { CanChangeAll (length self.old.log.tables.rows) changes.now
-            (content_of self.old) }
-        requires reach { All IsInReach changes.now }
-        requires frames { length self.old.cache.locked + frames_of_all changes.now
-            ≤ APPLIED_FRAMES }
-        requires records { length self.old.waiting.items + records_of_all changes.now
-            ≤ APPLIED_RECORDS }
-        ensures { StagesAll changes.now self.old self.new }
-    {
-        for change in changes {
-            self.change(change);
-        }
-    }
-
-    /// Makes changes, in order, and writes them: all of them, or none where there is no room.
-    pub fn apply(&mut self, changes: &[Change<'_>]) -> Result<(), NoRoom>
-        requires store { IsStore self.old }
-        requires settled { IsSettled self.old }
-        requires can { CanApply (length self.old.log.tables.rows) changes.now
-            (content_of self.old) }
-        ensures made { OnOk result (MakesChanges changes.now self.old self.new) }
-        ensures refused { OnErr result (self.new ≡ self.old) }
-        ensures lacking { OnErr result (LacksRoom changes.now self.old) }
-        // Which is never so with more than two clean segments.
-        ensures short { OnErr result (self.old.log.clean ≤ 2) }
-    {
-        let reserve = self.reserve_of(changes);
-        self.make_room(needs(changes), reserve)?;
-        self.change_all(changes);
-        self.flush();
-        Ok(())
-    }
+/// Makes changes, in order, and writes them: all of them, or none where there is no room.
+pub fn apply(parts: &mut Parts, changes: &[Change<'_>]) -> Result<(), NoRoom>
+    requires store { IsStore parts.old }
+    requires settled { IsSettled parts.old }
+    requires can { CanApply (length parts.old.log.tables.rows) changes.now
+        (content_of parts.old) }
+    ensures made { OnOk result (MakesChanges changes.now parts.old parts.new) }
+    ensures refused { OnErr result (parts.new ≡ parts.old) }
+    ensures lacking { OnErr result (LacksRoom changes.now parts.old) }
+    // Which is never so with more than two clean segments.
+    ensures short { OnErr result (parts.old.log.clean ≤ 2) }
+{
+    let reserve = reserve_of(parts, changes);
+    make_room(parts, needs(changes), reserve)?;
+    stage_changes(parts, changes);
+    flush(parts);
+    Ok(())
 }

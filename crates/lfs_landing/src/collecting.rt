@@ -6,15 +6,15 @@ ghost use Rattle.lfs_cache.specs.Contents.{keys_of};
 ghost use Rattle.lfs_segments.specs.Entry.{IsEntry};
 ghost use Rattle.lfs_segments.specs.declared.summary.TheConstants.{ENTRY_LIMIT};
 ghost use Rattle.lfs_landing.specs.Collecting.{AreLocked, blocks_of_entries, entries_of, entry_of, in_order, inode_blocks, is_data, is_of};
-ghost use Rattle.lfs_landing.specs.Opening.{inodes_entry};
-ghost use Rattle.lfs_landing.specs.Store.{AreFiles, IsSettled};
-ghost use Rattle.lfs_landing.specs.declared.parts.TheConstants.{WAITING_LIMIT};
+ghost use Rattle.lfs_staging.specs.Opening.{inodes_entry};
+ghost use Rattle.lfs_staging.specs.Store.{AreFiles, IsSettled};
+ghost use Rattle.lfs_staging.specs.declared.parts.TheConstants.{WAITING_LIMIT};
 
-use crate::parts::Parts;
 use lfs_cache::Key;
 use lfs_log::packing::SLOT_COUNT;
 use lfs_segments::entry::{LogicalBlock, SummaryEntry};
 use lfs_segments::summary::ENTRY_LIMIT;
+use lfs_staging::parts::Parts;
 use lfs_ways::blocks::FIRST_DATA_CODE;
 use std::marker::Model;
 
@@ -129,34 +129,32 @@ fn entry_of(key: &Key) -> SummaryEntry
     }
 }
 
-impl Parts {
-    /// The entries of all that waits to be written, in the order in which it is written: data blocks,
-    /// then the single indirect blocks, then an inode block for each four records.
-    pub fn to_land(&self) -> EntryList
-        requires files { AreFiles self.now }
-        requires few { length self.now.waiting.items ≤ WAITING_LIMIT }
-        ensures entries { result ≡ entries_of self.now }
-        ensures valid { All IsEntry result }
-        ensures fits { length result ≤ ENTRY_LIMIT }
-        // The blocks are those that wait, each once.
-        ensures blocks { AreLocked (in_order (keys_of self.now.cache.locked)) self.now.cache }
-    {
-        let keys = self.cache.locked();
-        let mut list = EntryList::empty();
-        list.push_keys(keys, true);
-        list.push_keys(keys, false);
-        list.push_inodes(inode_blocks(self.waiting.len()));
-        list
-    }
+/// The entries of all that waits to be written, in the order in which it is written: data blocks,
+/// then the single indirect blocks, then an inode block for each four records.
+pub fn to_land(parts: &Parts) -> EntryList
+    requires files { AreFiles parts.now }
+    requires few { length parts.now.waiting.items ≤ WAITING_LIMIT }
+    ensures entries { result ≡ entries_of parts.now }
+    ensures valid { All IsEntry result }
+    ensures fits { length result ≤ ENTRY_LIMIT }
+    // The blocks are those that wait, each once.
+    ensures blocks { AreLocked (in_order (keys_of parts.now.cache.locked)) parts.now.cache }
+{
+    let keys = parts.cache.locked();
+    let mut list = EntryList::empty();
+    list.push_keys(keys, true);
+    list.push_keys(keys, false);
+    list.push_inodes(inode_blocks(parts.waiting.len()));
+    list
+}
 
-    /// How many blocks of the log what waits takes, its summary among them: none where nothing waits.
-    pub fn blocks_to_write(&self) -> u32
-        requires few { length self.now.waiting.items ≤ WAITING_LIMIT }
-        ensures blocks { result ≡ blocks_of_entries (entries_of self.now) }
-        ensures at_most { result ≤ ENTRY_LIMIT + 1 }
-        ensures none { (result ≡ 0) ↔ IsSettled self.now }
-    {
-        let blocks = self.cache.locked_count() + inode_blocks(self.waiting.len());
-        if blocks == 0 { 0 } else { blocks as u32 + 1 }
-    }
+/// How many blocks of the log what waits takes, its summary among them: none where nothing waits.
+pub fn blocks_to_write(parts: &Parts) -> u32
+    requires few { length parts.now.waiting.items ≤ WAITING_LIMIT }
+    ensures blocks { result ≡ blocks_of_entries (entries_of parts.now) }
+    ensures at_most { result ≤ ENTRY_LIMIT + 1 }
+    ensures none { (result ≡ 0) ↔ IsSettled parts.now }
+{
+    let blocks = parts.cache.locked_count() + inode_blocks(parts.waiting.len());
+    if blocks == 0 { 0 } else { blocks as u32 + 1 }
 }

@@ -1,21 +1,11 @@
-//! The parts of a log store, and what they say of its files: each file's record, the addresses of its
-//! blocks and their bytes, read through what waits to be written.
+//! What waits over the log of a store is written into it: room is made for it, its blocks and records
+//! land, and changes are made all together or none of them.
 #![tactic(auto)]
 
 pub mod applying;
-pub mod changing;
 pub mod collecting;
-pub mod cutting;
-pub mod files;
 pub mod flushing;
-mod format;
-pub mod keys;
 pub mod landing;
-pub mod making;
 pub mod marking;
-pub mod parts;
-pub mod reading;
 pub mod records;
 pub mod room;
-pub mod staging;
-mod waiting;

@@ -4,18 +4,19 @@ ghost use Rattle.std.specs.Prelude.{◌≡◌, ◌+◌, ◌<◌, ◌≤◌, ◌�
 ghost use Rattle.lfs_types.specs.declared.cleaner.TheConstants.{MARK_LIMIT};
 ghost use Rattle.lfs_cache.specs.declared.cache.TheConstants.{LOCKED_LIMIT};
 ghost use Rattle.lfs_ways.specs.Blocks.{IsFileBlock, code_of};
-ghost use Rattle.lfs_landing.specs.Files.{content_of};
-ghost use Rattle.lfs_landing.specs.Keys.{log_state};
+ghost use Rattle.lfs_staging.specs.Files.{content_of};
+ghost use Rattle.lfs_staging.specs.Keys.{log_state};
 ghost use Rattle.lfs_landing.specs.Marking.{AddsNamed, AreNamed, IsNamed, MarksAgain, StagesAgain, StagesNamed, blocks_to_mark, code_named, frames_to_mark};
-ghost use Rattle.lfs_landing.specs.Staging.{IsStaged, MayStage};
-ghost use Rattle.lfs_landing.specs.Store.{IsSettled, IsStore, IsWithin};
-ghost use Rattle.lfs_landing.specs.declared.parts.TheConstants.{WAITING_LIMIT};
+ghost use Rattle.lfs_staging.specs.Staging.{IsStaged, MayStage};
+ghost use Rattle.lfs_staging.specs.Store.{IsSettled, IsStore, IsWithin};
+ghost use Rattle.lfs_staging.specs.declared.parts.TheConstants.{WAITING_LIMIT};
 
-use crate::parts::Parts;
-use crate::room::NoRoom;
+use crate::flushing::flush;
+use crate::room::{NoRoom, make_room};
 use lfs_inodes::inode::Inode;
 use lfs_log::packing::SLOT_COUNT;
 use lfs_segments::entry::LogicalBlock;
+use lfs_staging::parts::Parts;
 use lfs_types::cleaner::{BlockInfo, MarkList};
 use lfs_ways::blocks::{BLOCK_CODES, DIRECT_BLOCKS, FIRST_DATA_CODE, FileBlock};
 
@@ -65,114 +66,112 @@ fn has(infos: &[BlockInfo], info: &BlockInfo) -> bool
     infos.contains(info)
 }
 
-impl Parts {
-    /// Writes again, at the log's end, each block that an info of a list of at most 8 names: its
-    /// address is not 0, and is the block's present one. Says how many these are; an info that stands
-    /// twice counts once.
-    pub fn mark(&mut self, marks: &[BlockInfo]) -> Result<u32, NoRoom>
-        requires store { IsStore self.old }
-        requires settled { IsSettled self.old }
-        requires few { length marks.now ≤ MARK_LIMIT }
-        ensures store { IsStore self.new }
-        ensures settled { IsSettled self.new }
-        ensures content { content_of self.new ≡ content_of self.old }
-        ensures marked { IfOk result (λ count. MarksAgain marks.now count self.old self.new) }
-        ensures few { IfOk result (λ count. count ≤ length marks.now) }
-        ensures refused { OnErr result (self.new ≡ self.old) }
-        ensures reserved { OnErr result (self.old.log.clean ≤ 0) }
-    {
-        let named = self.named(marks);
-        let infos = named.items();
-        if infos.is_empty() {
-            return Ok(0);
-        }
-        self.make_room(blocks_to_mark(infos), 0)?;
-        self.stage_named(infos);
-        self.flush();
-        Ok(infos.len() as u32)
+/// Writes again, at the log's end, each block that an info of a list of at most 8 names: its
+/// address is not 0, and is the block's present one. Says how many these are; an info that stands
+/// twice counts once.
+pub fn mark(parts: &mut Parts, marks: &[BlockInfo]) -> Result<u32, NoRoom>
+    requires store { IsStore parts.old }
+    requires settled { IsSettled parts.old }
+    requires few { length marks.now ≤ MARK_LIMIT }
+    ensures store { IsStore parts.new }
+    ensures settled { IsSettled parts.new }
+    ensures content { content_of parts.new ≡ content_of parts.old }
+    ensures marked { IfOk result (λ count. MarksAgain marks.now count parts.old parts.new) }
+    ensures few { IfOk result (λ count. count ≤ length marks.now) }
+    ensures refused { OnErr result (parts.new ≡ parts.old) }
+    ensures reserved { OnErr result (parts.old.log.clean ≤ 0) }
+{
+    let named = named(parts, marks);
+    let infos = named.items();
+    if infos.is_empty() {
+        return Ok(0);
     }
+    make_room(parts, blocks_to_mark(infos), 0)?;
+    stage_named(parts, infos);
+    flush(parts);
+    Ok(infos.len() as u32)
+}
 
-    /// The infos of a list that name a block, each once.
-    fn named(&self, marks: &[BlockInfo]) -> MarkList
-        requires store { IsStore self.now }
-        requires few { length marks.now ≤ MARK_LIMIT }
-        ensures named { AreNamed (log_state self.now) marks.now result }
-        ensures few { length result ≤ length marks.now }
-    {
-        let mut named = MarkList::empty();
-        for info in marks {
-            self.add_named(&mut named, info);
-        }
-        named
+/// The infos of a list that name a block, each once.
+fn named(parts: &Parts, marks: &[BlockInfo]) -> MarkList
+    requires store { IsStore parts.now }
+    requires few { length marks.now ≤ MARK_LIMIT }
+    ensures named { AreNamed (log_state parts.now) marks.now result }
+    ensures few { length result ≤ length marks.now }
+{
+    let mut named = MarkList::empty();
+    for info in marks {
+        add_named(parts, &mut named, info);
     }
+    named
+}
 
-    /// Adds an info to a list where it names a block and is not there.
-    fn add_named(&self, named: &mut MarkList, info: &BlockInfo)
-        requires store { IsStore self.now }
-        requires room { length named.old < MARK_LIMIT }
-        ensures { AddsNamed (log_state self.now) info.now named.old named.new }
-    {
-        if self.is_named(info) && !has(named.items(), info) {
-            named.push(*info);
-        }
+/// Adds an info to a list where it names a block and is not there.
+fn add_named(parts: &Parts, named: &mut MarkList, info: &BlockInfo)
+    requires store { IsStore parts.now }
+    requires room { length named.old < MARK_LIMIT }
+    ensures { AddsNamed (log_state parts.now) info.now named.old named.new }
+{
+    if is_named(parts, info) && !has(named.items(), info) {
+        named.push(*info);
     }
+}
 
-    /// Whether an info names a block.
-    fn is_named(&self, info: &BlockInfo) -> bool
-        requires { IsStore self.now }
-        ensures { IsTrue result ↔ IsNamed (log_state self.now) info.now }
-    {
-        info.addr != 0 && self.present_address(info) == info.addr
+/// Whether an info names a block.
+fn is_named(parts: &Parts, info: &BlockInfo) -> bool
+    requires { IsStore parts.now }
+    ensures { IsTrue result ↔ IsNamed (log_state parts.now) info.now }
+{
+    info.addr != 0 && parts.present_address(info) == info.addr
+}
+
+/// Has the blocks that some infos name wait with what they have.
+fn stage_named(parts: &mut Parts, named: &[BlockInfo])
+    requires staged { IsStaged parts.old 0 }
+    requires settled { IsSettled parts.old }
+    requires named { All (IsNamed (log_state parts.old)) named.now }
+    requires few { length named.now ≤ MARK_LIMIT }
+    ensures { StagesNamed named.now parts.old parts.new }
+{
+    for info in named {
+        stage_info(parts, info);
     }
+}
 
-    /// Has the blocks that some infos name wait with what they have.
-    fn stage_named(&mut self, named: &[BlockInfo])
-        requires staged { IsStaged self.old 0 }
-        requires settled { IsSettled self.old }
-        requires named { All (IsNamed (log_state self.old)) named.now }
-        requires few { length named.now ≤ MARK_LIMIT }
-        ensures { StagesNamed named.now self.old self.new }
-    {
-        for info in named {
-            self.stage_info(info);
-        }
+/// Has the block that an info names wait with what it has.
+fn stage_info(parts: &mut Parts, info: &BlockInfo)
+    requires staged { IsStaged parts.old 0 }
+    requires named { IsNamed (log_state parts.old) info.now }
+    requires frames { length parts.old.cache.locked + 2 ≤ LOCKED_LIMIT }
+    requires records { length parts.old.waiting.items < WAITING_LIMIT }
+    ensures staged { IsStaged parts.new 0 }
+    ensures again { StagesAgain info.now.ino (code_named info.now.lbn) parts.old parts.new }
+{
+    let Some(inode) = parts.record(info.ino) else {
+        unreachable!()
+    };
+    match FileBlock::from_code(code_named(info.lbn)) {
+        Some(block) => stage_again(parts, &inode, block),
+        None => unreachable!(),
     }
+}
 
-    /// Has the block that an info names wait with what it has.
-    fn stage_info(&mut self, info: &BlockInfo)
-        requires staged { IsStaged self.old 0 }
-        requires named { IsNamed (log_state self.old) info.now }
-        requires frames { length self.old.cache.locked + 2 ≤ LOCKED_LIMIT }
-        requires records { length self.old.waiting.items < WAITING_LIMIT }
-        ensures staged { IsStaged self.new 0 }
-        ensures again { StagesAgain info.now.ino (code_named info.now.lbn) self.old self.new }
-    {
-        let Some(inode) = self.record(info.ino) else {
-            unreachable!()
-        };
-        match FileBlock::from_code(code_named(info.lbn)) {
-            Some(block) => self.stage_again(&inode, block),
-            None => unreachable!(),
-        }
-    }
-
-    /// Has a block of a file wait with what it has, and its parents too.
-    fn stage_again(&mut self, inode: &Inode, block: FileBlock)
-        requires staged { IsStaged self.old 0 }
-        requires may { MayStage self.old inode.now }
-        requires block { IsFileBlock block }
-        requires within { IsWithin block inode.now.size }
-        requires frames { length self.old.cache.locked + 2 ≤ LOCKED_LIMIT }
-        ensures staged { IsStaged self.new 0 }
-        ensures again { StagesAgain inode.now.number (code_of block) self.old self.new }
-    {
-        match block {
-            FileBlock::Record => self.stage_parents(inode, 0),
-            FileBlock::Single => self.stage_parents(inode, DIRECT_BLOCKS),
-            FileBlock::Data(index) => {
-                let bytes = *self.block_of(inode, block);
-                self.stage_data(inode, index, &bytes);
-            }
+/// Has a block of a file wait with what it has, and its parents too.
+fn stage_again(parts: &mut Parts, inode: &Inode, block: FileBlock)
+    requires staged { IsStaged parts.old 0 }
+    requires may { MayStage parts.old inode.now }
+    requires block { IsFileBlock block }
+    requires within { IsWithin block inode.now.size }
+    requires frames { length parts.old.cache.locked + 2 ≤ LOCKED_LIMIT }
+    ensures staged { IsStaged parts.new 0 }
+    ensures again { StagesAgain inode.now.number (code_of block) parts.old parts.new }
+{
+    match block {
+        FileBlock::Record => parts.stage_parents(inode, 0),
+        FileBlock::Single => parts.stage_parents(inode, DIRECT_BLOCKS),
+        FileBlock::Data(index) => {
+            let bytes = *parts.block_of(inode, block);
+            parts.stage_data(inode, index, &bytes);
         }
     }
 }

@@ -8,11 +8,11 @@ use Rattle.lfs_ways.proofs.SegmentLemmas.{cleaned_log, empty_has_none}
 use Rattle.lfs_log.specs.Parts.{IsParts, LogParts, record_place}
 use Rattle.lfs_log.specs.Parts as log
 use Rattle.lfs_inodes.specs.Reading.{Fields}
-use Rattle.lfs_landing.specs.declared.parts.Parts.{Parts}
-use Rattle.lfs_landing.specs.Files.{content_of, file_at}
-use Rattle.lfs_landing.specs.Keys.{log_state}
-use Rattle.lfs_landing.specs.Store.{AreFiles, IsFile, IsSettled, IsStore}
-use Rattle.lfs_landing.specs.View.{record_of}
+use Rattle.lfs_staging.specs.declared.parts.Parts.{Parts}
+use Rattle.lfs_staging.specs.Files.{content_of, file_at}
+use Rattle.lfs_staging.specs.Keys.{log_state}
+use Rattle.lfs_staging.specs.Store.{AreFiles, IsFile, IsSettled, IsStore}
+use Rattle.lfs_staging.specs.View.{record_of}
 use Rattle.lfs_logstore.specs.Cleaning.{HasLive, IsReclaimed}
 use Rattle.lfs_logstore.proofs.AccountLemmas.{has_key, segment_is}
 

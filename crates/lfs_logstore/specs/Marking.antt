@@ -2,7 +2,7 @@
 use Rattle.std.specs.Prelude.{◌≡◌, ℕ, ◌≤◌, List, Result, IfOk, OnErr}
 use Rattle.lfs_types.specs.declared.cleaner.BlockInfo.{BlockInfo}
 use Rattle.lfs_types.specs.declared.cleaner.CleanFault.{CleanFault}
-use Rattle.lfs_landing.specs.declared.parts.Parts.{Parts}
+use Rattle.lfs_staging.specs.declared.parts.Parts.{Parts}
 use Rattle.lfs_landing.specs.Marking.{MarksAgain}
 
 -- Blocks may be written again with this result, from one state of the store to another: all that are named with their

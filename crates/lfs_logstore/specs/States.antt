@@ -2,8 +2,8 @@
 use Rattle.std.specs.Prelude.{ℕ, ◌-◌, false, length}
 use Rattle.lfs_types.specs.StoreStates.{Shape, StoreState}
 use Rattle.lfs_types.specs.Tree.{opening_content}
-use Rattle.lfs_landing.specs.declared.parts.Parts.{Parts}
-use Rattle.lfs_landing.specs.Files.{content_of}
+use Rattle.lfs_staging.specs.declared.parts.Parts.{Parts}
+use Rattle.lfs_staging.specs.Files.{content_of}
 
 -- so many inode numbers and segments; no change takes memory
 abbrev pub shape_of : ℕ → ℕ → Shape

@@ -7,6 +7,7 @@ ghost use Rattle.lfs_logstore.specs.States.{state_of};
 
 use crate::store::LogStore;
 use lfs_ifile::SegState;
+use lfs_landing::marking::mark;
 use lfs_types::cleaned::CleanedStore;
 use lfs_types::cleaner::{BlockInfo, CleanFault, InfoList, MarkList};
 use std::alloc::AllocError;
@@ -73,9 +74,7 @@ impl CleanedStore for LogStore {
     }
 
     fn markv(&mut self, marks: &MarkList) -> Result<u32, CleanFault> {
-        self.parts
-            .mark(marks.items())
-            .map_err(|_| CleanFault::NoSpace)
+        mark(&mut self.parts, marks.items()).map_err(|_| CleanFault::NoSpace)
     }
 
     fn segclean(&mut self, segment: u32) -> Result<(), CleanFault> {

@@ -9,6 +9,7 @@ ghost use Rattle.lfs_landing.specs.Applying.{LacksRoom, MakesChanges};
 ghost use Rattle.lfs_logstore.specs.States.{state_of};
 
 use crate::store::LogStore;
+use lfs_landing::applying::apply;
 use lfs_types::attrs::Attrs;
 use lfs_types::store::{Change, FileStore, StoreRefusal};
 
@@ -49,7 +50,7 @@ impl FileStore for LogStore {
         // There is no room, as the log stands.
         ensures lacking { OnErr result (LacksRoom changes.now self.old) }
     {
-        self.parts.apply(changes).map_err(|_| StoreRefusal::NoSpace)
+        apply(&mut self.parts, changes).map_err(|_| StoreRefusal::NoSpace)
     }
 
     /// Nothing waits between calls.

@@ -1,10 +1,10 @@
 //! A store over a log, and how it is laid out.
 
 ghost use Rattle.std.specs.Prelude.{◌≡◌, ◌↔◌, IfOk, IsErrOf};
-ghost use Rattle.lfs_landing.specs.Opening.{IsTooFew, IsTooMany};
+ghost use Rattle.lfs_staging.specs.Opening.{IsTooFew, IsTooMany};
 ghost use Rattle.lfs_logstore.specs.States.{opening_state};
 
-use lfs_landing::parts::Parts;
+use lfs_staging::parts::Parts;
 use lfs_types::fault::FormatFault;
 use lfs_types::store::{FileStore, Params};
 use std::alloc::Global;
@@ -17,8 +17,8 @@ pub struct LogStore {
 }
 
 impl Model for LogStore {
-    ghost use Rattle.lfs_landing.specs.declared.parts.Parts.{Parts};
-    ghost use Rattle.lfs_landing.specs.Store.{IsSettled, IsStore};
+    ghost use Rattle.lfs_staging.specs.declared.parts.Parts.{Parts};
+    ghost use Rattle.lfs_staging.specs.Store.{IsSettled, IsStore};
 
     ghost Value = { Parts };
 

@@ -1,7 +1,7 @@
 -- Why a run is not handed out.
 use Rattle.std.specs.Prelude.{◌≡◌, ℕ, ◌<◌, ◌≤◌, ◌⊎◌}
 use Rattle.lfs_types.specs.declared.fault.FormatFault.TheVariants.{TooFew, TooMany}
-use Rattle.lfs_landing.specs.Opening.{IsTooFew, IsTooMany}
+use Rattle.lfs_staging.specs.Opening.{IsTooFew, IsTooMany}
 use Rattle.lfs_server.specs.declared.serving.ServeFault.{ServeFault}
 use Rattle.lfs_server.specs.declared.serving.ServeFault.TheVariants.{Sessions, Format, Memory}
 

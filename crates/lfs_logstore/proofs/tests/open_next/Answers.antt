@@ -5,9 +5,9 @@ use Rattle.lfs_ways.specs.Log.{Opens}
 use Rattle.lfs_ways.proofs.SegmentLemmas.{some_clean}
 use Rattle.lfs_log.specs.Parts.{IsParts, LogParts, opened_parts, state_of}
 use Rattle.lfs_log.specs.Parts as log
-use Rattle.lfs_landing.specs.declared.parts.Parts.{Parts}
-use Rattle.lfs_landing.specs.Keys.{log_state}
-use Rattle.lfs_landing.specs.Store.{IsSettled, IsStore}
+use Rattle.lfs_staging.specs.declared.parts.Parts.{Parts}
+use Rattle.lfs_staging.specs.Keys.{log_state}
+use Rattle.lfs_staging.specs.Store.{IsSettled, IsStore}
 use Rattle.lfs_landing.proofs.RoomLemmas.{opens_segment}
 use Rattle.lfs_logstore.proofs.ReclaimLemmas.{with_log}
 use Rattle.lfs_logstore.proofs.tests.open_next.Goals as goal

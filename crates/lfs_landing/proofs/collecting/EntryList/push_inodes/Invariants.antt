@@ -1,5 +1,5 @@
 use Rattle.std.proofs.Common.{◌≡◌, ◌++◌, replicate}
-use Rattle.lfs_landing.specs.Opening.{inodes_entry}
+use Rattle.lfs_staging.specs.Opening.{inodes_entry}
 use Rattle.lfs_landing.proofs.collecting.EntryList.push_inodes.Given as goal
 
 -- so many entries so far

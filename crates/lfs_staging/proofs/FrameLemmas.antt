@@ -1,0 +1,107 @@
+-- How many frames wait, and of whom.
+use Rattle.std.proofs.Common.{◌≡◌, ℕ, ◌+◌, ◌≤◌, List, [], ◌∷◌, ◌++◌, length, None, Some, IsSome, is_some, true, false, refl, sym, ap, ◌∙◌, subst, inl, inr, arith}
+use Rattle.std.proofs.lemmas.Bool.{cond-true, cond-false, false≢true, cases_eq}
+use Rattle.std.proofs.lemmas.List.{append-nil}
+use Rattle.std.proofs.lemmas.Option.{none-some}
+use Rattle.lfs_inodes.specs.declared.inode.Inode.{Inode}
+use Rattle.lfs_cache.specs.declared.key.Key.{Key}
+use Rattle.lfs_cache.specs.Changes.{IsContents}
+use Rattle.lfs_cache.specs.Contents.{AreApart, Contents, IsLocked, Lacks, block_in, keys_of, without_key}
+use Rattle.lfs_cache.specs.Keys.{same_key}
+use Rattle.lfs_cache.proofs.CallerLemmas.{block_other}
+use Rattle.lfs_cache.proofs.Entries.{same_cases, same_is, same_self}
+use Rattle.lfs_staging.specs.Addressing.{numbers_of}
+use Rattle.lfs_staging.specs.View.{waiting_in}
+use Rattle.lfs_staging.specs.Waiting.{AreOnce}
+use Rattle.lfs_staging.proofs.WaitingLemmas.{waiting-head, waiting-tail}
+
+-- ---- frames
+-- a list without a key is no longer, and shorter where it had the key
+without_most : (k : Key) (es : List (Key × List ℕ)) → length (without_key k es) ≤ length es
+without_most k [] = omega arith
+without_most k (e ∷ es) = elim (same_cases e.0 k) [
+  | inl same ↦ let is : length (without_key k (e ∷ es)) ≡ length (without_key k es) = ap length (cond-true _ _ _ same) in let rest = without_most k es in omega arith
+  | inr apart ↦ let is : length (without_key k (e ∷ es)) ≡ length (without_key k es) + 1 = ap length (cond-false _ _ _ apart) ∙ omega arith in let rest = without_most k es in omega arith
+]
+
+without_less : (k : Key) (es : List (Key × List ℕ)) → IsSome (block_in k es) → length (without_key k es) + 1 ≤ length es
+without_less k [] there = absurd (cc)
+without_less k (e ∷ es) there = elim (same_cases e.0 k) [
+  | inl same ↦ let is : length (without_key k (e ∷ es)) ≡ length (without_key k es) = ap length (cond-true _ _ _ same) in let rest = without_most k es in omega arith
+  | inr apart ↦
+      let is : length (without_key k (e ∷ es)) ≡ length (without_key k es) + 1 = ap length (cond-false _ _ _ apart) ∙ omega arith in
+      let rest = without_less k es (subst IsSome (cond-false _ _ _ apart) there) in
+      omega arith
+]
+
+-- a key of a list is none that the list lacks
+lacks_apart : (n k : Key) (es : List (Key × List ℕ)) → Lacks n (keys_of es) → IsSome (block_in k es) → same_key n k ≡ false
+lacks_apart n k [] lacks there = absurd (cc)
+lacks_apart n k (e ∷ es) lacks there = elim (same_cases e.0 k) [
+  | inl same ↦
+      let one : e.0 ≡ k = same_is e.0 k same in
+      elim (same_cases n k) [
+        | inl bad ↦ absurd (false≢true (sym lacks.0 ∙ ap (same_key e.0) (same_is n k bad ∙ sym one) ∙ same_self e.0))
+        | inr apart ↦ apart
+      ]
+  | inr apart ↦ lacks_apart n k es lacks.1 (subst IsSome (cond-false _ _ _ apart) there)
+]
+
+-- a list whose keys are apart and stand in another list is no longer
+part_most : (xs ys : List (Key × List ℕ)) → AreApart (keys_of xs) → ((k : Key) → IsSome (block_in k xs) → IsSome (block_in k ys)) → length xs ≤ length ys
+part_most [] ys apart there = omega arith
+part_most (e ∷ es) ys apart there =
+    let here : IsSome (block_in e.0 ys) = there e.0 (ap is_some (cond-true _ _ _ (same_self e.0))) in
+    let less = without_less e.0 ys here in
+    let rest = part_most es (without_key e.0 ys) apart.1 (λ k in_rest.
+    let other = lacks_apart e.0 k es apart.0 in_rest in
+    subst IsSome (sym (block_other e.0 k ys other)) (there k (subst IsSome (sym (cond-false _ _ _ other)) in_rest))) in
+    omega arith
+
+keys_apart : (c : Contents) → IsContents c → c.lru ≡ [] → AreApart (keys_of c.locked)
+keys_apart c formed none = subst (λ es. AreApart (keys_of es)) (append-nil c.locked) (subst (λ es. AreApart (keys_of (c.locked ++ es))) none formed.apart)
+
+-- where what waits waited, no more frames do
+pub locked_most : (c d : Contents) → IsContents d → d.lru ≡ [] → ((k : Key) → IsLocked k d → IsLocked k c) → length d.locked ≤ length c.locked
+locked_most c d formed none only = part_most d.locked c.locked (keys_apart d formed none) only
+
+-- and fewer where a key waits no more
+pub locked_less : (c d : Contents) (key : Key) → IsContents d → d.lru ≡ [] → ((k : Key) → IsLocked k d → IsLocked k c) → IsLocked key c → block_in key d.locked ≡ None
+    → length d.locked + 1 ≤ length c.locked
+locked_less c d key formed none only was gone =
+    let less = without_less key c.locked was in
+    let rest = part_most d.locked (without_key key c.locked) (keys_apart d formed none) (λ k locked. elim (same_cases key k) [
+      | inl same ↦ absurd (false≢true (sym (ap is_some gone) ∙ subst (λ x. is_some (block_in x d.locked) ≡ true) (sym (same_is key k same)) locked))
+      | inr other ↦ subst IsSome (sym (block_other key k c.locked other)) (only k locked)
+    ]) in
+    omega arith
+
+-- ---- records
+-- the record that waits of a number has the number
+pub waiting_number : (vs : List Inode) (number : ℕ) (v : Inode) → waiting_in vs number ≡ Some v → v.number ≡ number
+waiting_number [] number v is = absurd (none-some v is)
+waiting_number (w ∷ vs) number v is = elim (cases_eq w.number number) [
+  | inl same ↦ let one : w ≡ v = cc (sym (waiting-head w vs number same) ∙ is) in ap (λ (x : Inode). x.number) (sym one) ∙ same
+  | inr other ↦ waiting_number vs number v (sym (waiting-tail w vs number other) ∙ is)
+]
+
+-- which numbers have a record that waits rests on the numbers alone
+numbers_none : (xs ys : List Inode) (number : ℕ) → numbers_of ys ≡ numbers_of xs → waiting_in xs number ≡ None → waiting_in ys number ≡ None
+numbers_none xs [] number same none = refl
+numbers_none [] (w ∷ ys) number same none = absurd (cc)
+numbers_none (v ∷ xs) (w ∷ ys) number same none =
+    let first : w.number ≡ v.number = cc in
+    let rest : numbers_of ys ≡ numbers_of xs = cc in
+    elim (cases_eq v.number number) [
+      | inl is ↦ absurd (none-some v (sym none ∙ waiting-head v xs number is))
+      | inr other ↦ waiting-tail w ys number (λ e. other (sym first ∙ e)) ∙ numbers_none xs ys number rest (sym (waiting-tail v xs number other) ∙ none)
+    ]
+
+pub once_numbers : (xs ys : List Inode) → numbers_of ys ≡ numbers_of xs → AreOnce xs → AreOnce ys
+unfolding AreOnce
+once_numbers xs [] same once = tt
+once_numbers [] (w ∷ ys) same once = absurd (cc)
+once_numbers (v ∷ xs) (w ∷ ys) same once =
+    let first : w.number ≡ v.number = cc in
+    let rest : numbers_of ys ≡ numbers_of xs = cc in
+    (ap (waiting_in ys) first ∙ numbers_none xs ys v.number rest once.0, once_numbers xs ys rest once.1)

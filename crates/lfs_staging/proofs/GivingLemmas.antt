@@ -1,0 +1,312 @@
+-- What holds of the files and of what waits holds still when a block was given back.
+use Rattle.std.proofs.Common.{◌≡◌, ◌≢◌, ℕ, ◌+◌, ◌-◌, ◌/◌, ◌%◌, ◌<◌, ◌≤◌, ◌⊎◌, List, [], ◌∷◌, length, Some, IsSome, is_some, true, false, refl, sym, ap, ◌∙◌, subst, inl, inr, arith}
+use Rattle.std.specs.Prelude.{slice_index}
+use Rattle.std.proofs.lemmas.Bool.{cases_eq, cases_lt, false≢true}
+use Rattle.std.proofs.lemmas.Option.{same_Some}
+use Rattle.std.proofs.lemmas.List.{length-map}
+use Rattle.lfs_types.specs.Blocks.{zero_block}
+use Rattle.lfs_ifile.specs.declared.inode.InodeRow.{InodeRow}
+use Rattle.lfs_ifile.specs.Tables.{row_at}
+use Rattle.lfs_inodes.specs.declared.inode.Inode.{Inode}
+use Rattle.lfs_inodes.specs.Addresses.{addresses}
+use Rattle.lfs_inodes.specs.Attributes.{Attributes}
+use Rattle.lfs_inodes.specs.Facts.{block_count}
+use Rattle.lfs_inodes.specs.Reading.{AreFields, Fields, fields_of}
+use Rattle.lfs_inodes.proofs.FieldLemmas.{AreFields-fields_of}
+use Rattle.lfs_cache.specs.declared.key.Key.{Key}
+use Rattle.lfs_cache.specs.Contents.{Contents, IsLocked, block_in}
+use Rattle.lfs_cache.specs.Keys.{same_key}
+use Rattle.lfs_cache.proofs.Entries.{same_cases, same_is}
+use Rattle.lfs_log.specs.Parts.{IsParts}
+use Rattle.lfs_ways.specs.declared.blocks.FileBlock.{FileBlock}
+use Rattle.lfs_ways.specs.declared.blocks.FileBlock.TheVariants.{Record, Single, Data}
+use Rattle.lfs_ways.specs.Blocks.{IsFileBlock, code_of, way_to}
+use Rattle.lfs_ways.specs.Log.{IsLog}
+use Rattle.lfs_ways.specs.Pieces.{IsPadded}
+use Rattle.lfs_ways.specs.Reading.{address, data_block}
+use Rattle.lfs_ways.specs.Ways.{IsKnown, IsWay, code_at, data_way}
+use Rattle.lfs_ways.proofs.PieceLemmas.{zero_block-at, zero_block-length}
+use Rattle.lfs_ways.proofs.WayLemmas.{data_way-direct, data_way-single, no_way_through, way_of-data}
+use Rattle.lfs_staging.specs.declared.parts.TheConstants.{WAITING_LIMIT}
+use Rattle.lfs_staging.specs.declared.parts.Parts.{Parts}
+use Rattle.lfs_staging.specs.Cutting.{ClearsBlock, IsGivenBack, KeepsRest, MayClear}
+use Rattle.lfs_staging.specs.Keys.{log_state}
+use Rattle.lfs_staging.specs.Addressing.{ParentWaits, StaysWaiting, numbers_of}
+use Rattle.lfs_staging.specs.Staging.{IsStaged, ParentsWait}
+use Rattle.lfs_staging.specs.Store.{AreFiles, IsFile, IsPresent, IsWithin}
+use Rattle.lfs_staging.specs.View.{key_of, record_of, tree_of, version_of, waiting_in}
+use Rattle.lfs_staging.proofs.ClearedLemmas.{Steps, address_here, address_rest, address_same, apart_code, apart_number, data_same, moves, record_other, version_same, waits_key, zeros_here}
+use Rattle.lfs_staging.proofs.FrameLemmas.{locked_less, locked_most, once_numbers}
+use Rattle.lfs_staging.proofs.SettingLemmas.{at_way, waiting_record}
+use Rattle.lfs_staging.proofs.ViewLemmas.{code_at-way_to}
+
+-- a block within the size is none past it
+within_apart : (block : FileBlock) (size k : ℕ) → code_of block ≢ 0 → IsWithin block size → block_count size ≤ k → 131 + k ≢ code_of block
+within_apart Record size k other within past e = other refl
+within_apart Single size k other within past e = omega arith
+within_apart (Data index) size k other within past e = omega arith
+
+-- the data block with a code
+data_of_code : (block : FileBlock) (k : ℕ) → 131 + k ≡ code_of block → block ≡ Data k
+data_of_code Record k e = absurd (omega arith)
+data_of_code Single k e = absurd (omega arith)
+data_of_code (Data index) k e = let same : index ≡ k = omega arith in ap Data same
+
+-- blocks each of which is the same or zeros are padded alike
+pub padded_zeroed : (old new : ℕ → List ℕ) (size : ℕ) → ((n : ℕ) → (new n ≡ old n) ⊎ (new n ≡ zero_block)) → IsPadded old size → IsPadded new size
+padded_zeroed old new size each h = record {
+  whole = λ n. elim (each n) [
+    | inl same ↦ ap length same ∙ h.whole n
+    | inr none ↦ ap length none ∙ zero_block-length
+  ];
+  zeros = λ i past. elim (each (i / 512)) [
+    | inl same ↦ ap (λ b. slice_index b (i % 512)) same ∙ h.zeros i past
+    | inr none ↦ ap (λ b. slice_index b (i % 512)) none ∙ zero_block-at (i % 512)
+  ];
+}
+
+-- what holds the block's address waits
+pub parent_of : (p : Parts) (v : Inode) (block : FileBlock) → MayClear p v.number block → v.version ≡ version_of p v.number → (i : ℕ) (up : List ℕ) → way_to block ≡ i ∷ up → ParentWaits p v up
+parent_of p v Record may at i up e = absurd (cc)
+parent_of p v Single may at i up e = at_way (λ i up. ParentWaits p v up) (12 ∷ []) 12 [] refl tt i up e
+parent_of p v (Data index) may at i up e =
+    elim (cases_lt index 12) [
+      | inl direct ↦ at_way (λ i up. ParentWaits p v up) (data_way index) index [] (data_way-direct index direct) tt i up e
+      | inr past ↦
+          at_way (λ i up. ParentWaits p v up) (data_way index) (index - 12) (12 ∷ []) (data_way-single index past may.can)
+          (subst (λ c. IsLocked (key_of v.number v.version c) p.cache) (sym (code_at-way_to Single))
+          (subst (λ n. IsLocked (key_of v.number n 1) p.cache) (sym at) (may.parent (omega arith)))) i up e
+    ]
+
+-- no block has its address in it
+beneath_single : (p : Parts) (number : ℕ) → ((index : ℕ) → 12 ≤ index → index < 140 → IsGivenBack p number index) → (j : ℕ) → j < 128 → address (tree_of p number) (j ∷ 12 ∷ []) ≡ 0
+beneath_single p number alone j low =
+    let back : 12 + j - 12 ≡ j = omega arith in
+    ap (λ k. address (tree_of p number) (k ∷ 12 ∷ [])) (sym back) ∙ ap (address (tree_of p number)) (sym (data_way-single (12 + j) (omega arith) (omega arith)))
+    ∙ (alone (12 + j) (omega arith) (omega arith)).nowhere
+
+pub beneath_of : (p : Parts) (number : ℕ) (block : FileBlock) → MayClear p number block → (i : ℕ) (up : List ℕ) → way_to block ≡ i ∷ up
+    → (j : ℕ) → IsKnown (j ∷ i ∷ up) → address (tree_of p number) (j ∷ i ∷ up) ≡ 0
+beneath_of p number Record may i up e j known = absurd (may.other refl)
+beneath_of p number Single may i up e j known =
+    let there : IsKnown (j ∷ 12 ∷ []) = subst (λ w. IsKnown (j ∷ w)) (sym e) known in
+    ap (λ w. address (tree_of p number) (j ∷ w)) (sym e) ∙ beneath_single p number (may.alone refl) j there.leads.0
+beneath_of p number (Data index) may i up e j known =
+    absurd (no_way_through (131 + index) j (omega arith) (subst (λ w. IsWay (j ∷ w)) (sym (way_of-data index ∙ e)) known.leads))
+
+module _ (p s q : Parts) (v : Inode) (block : FileBlock) (i : ℕ) (up : List ℕ) (h : Steps p s q v block i up) (may : MayClear p v.number block)
+    (stays : StaysWaiting p q v) (parts : IsParts q.log) where
+  files : AreFiles p
+  files = may.staged.whole
+
+  number_after : stays.after.number ≡ v.number
+  number_after = ap (λ (x : Attributes). x.number) stays.same
+
+  record_before : record_of p v.number ≡ Some (fields_of v)
+  record_before = waiting_record p v h.is
+
+  record_here : record_of q v.number ≡ Some (fields_of stays.after)
+  record_here = ap (record_of q) (sym number_after) ∙ waiting_record q stays.after stays.here
+
+  within : IsWithin block v.size
+  within = may.within (fields_of v) record_before
+
+  present_after : (number version : ℕ) → IsPresent p number version → IsPresent q number version
+  present_after number version was = record {
+    in_use = ap (λ (rs : List InodeRow). (row_at rs number).used) h.rows ∙ was.in_use;
+    at_version = was.at_version ∙ sym (version_same p s q v block i up h number);
+  }
+
+  -- ---- frames
+  parent_key : key_of v.number (version_of p v.number) (code_at up) ≡ key_of v.number v.version (code_at up)
+  parent_key = ap (λ n. key_of v.number n (code_at up)) (sym h.is.at_version)
+
+  -- what waits waited
+  pub frames_only : (key : Key) → IsLocked key q.cache → IsLocked key p.cache
+  frames_only key locked =
+      elim (same_cases (key_of v.number v.version (code_of block)) key) [
+        | inl is ↦
+            let e = same_is (key_of v.number v.version (code_of block)) key is in
+            absurd (false≢true (sym (ap (λ k. is_some (block_in k q.cache.locked)) (sym e) ∙ ap is_some h.gone) ∙ locked))
+        | inr apart ↦ elim (same_cases (key_of v.number v.version (code_at up)) key) [
+          | inl is ↦ parent up refl (same_is (key_of v.number v.version (code_at up)) key is) apart
+          | inr far ↦ sym (ap is_some (waits_key p s q v block i up h key apart far)) ∙ locked
+        ]
+      ]
+    where
+      parent : (w : List ℕ) → w ≡ up → key_of v.number v.version (code_at up) ≡ key → same_key (key_of v.number v.version (code_of block)) key ≡ false → IsLocked key p.cache
+      parent [] e is apart = sym (ap is_some (h.kept key apart ∙ ap (λ (c : Contents). block_in key c.locked) (h.set.record_only (sym e)))) ∙ locked
+      parent (j ∷ above) e is apart =
+          subst (λ k. IsLocked k p.cache) (parent_key ∙ is) (h.waited (λ none. let bad : j ∷ above ≡ [] = e ∙ none in cc))
+
+  -- and all that waited does, but for the block
+  pub frames_kept : (key : Key) → same_key (key_of v.number v.version (code_of block)) key ≡ false → IsLocked key p.cache → IsLocked key q.cache
+  frames_kept key apart was =
+      elim (same_cases (key_of v.number v.version (code_at up)) key) [
+        | inl is ↦ still up refl (same_is (key_of v.number v.version (code_at up)) key is)
+        | inr far ↦ ap is_some (waits_key p s q v block i up h key apart far) ∙ was
+      ]
+    where
+      still : (w : List ℕ) → w ≡ up → key_of v.number v.version (code_at up) ≡ key → IsLocked key q.cache
+      still [] e is = ap is_some (h.kept key apart ∙ ap (λ (c : Contents). block_in key c.locked) (h.set.record_only (sym e))) ∙ was
+      still (j ∷ above) e is =
+          ap is_some (h.kept key apart) ∙ subst (λ k. is_some (block_in k s.cache.locked) ≡ true) (ap (λ w. key_of v.number v.version (code_at w)) e ∙ is)
+          (subst (ParentWaits s v) (sym e) h.set.still)
+
+  -- ---- files
+  file_after : (number : ℕ) (f g : Fields) → IsFile p number f → f.attributes ≡ g.attributes
+      → ((k : ℕ) → block_count f.attributes.size ≤ k → (number ≢ v.number) ⊎ (131 + k ≢ code_of block)) → AreFields g → IsFile q number g
+  file_after number f g was same apart formed = record {
+    formed = formed;
+    own_number = sym (ap (λ (x : Attributes). x.number) same) ∙ was.own_number;
+    own_version = sym (ap (λ (x : Attributes). x.version) same) ∙ was.own_version ∙ sym (version_same p s q v block i up h number);
+    none_past = λ k past below.
+        let from : block_count f.attributes.size ≤ k = subst (λ (x : Attributes). block_count x.size ≤ k) (sym same) past in
+        ap (address (tree_of q number)) (sym (way_of-data k)) ∙ address_same p s q v block i up h number (131 + k) (omega arith) (apart k from)
+        ∙ ap (address (tree_of p number)) (way_of-data k) ∙ was.none_past k from below;
+    padded = subst (λ (x : Attributes). IsPadded (data_block (tree_of q number)) x.size) same
+        (padded_zeroed (data_block (tree_of p number)) (data_block (tree_of q number)) f.attributes.size (λ n. elim (cases_eq number v.number) [
+          | inl e ↦ elim (cases_eq (131 + n) (code_of block)) [
+            | inl is ↦ inr (ap (λ m. data_block (tree_of q m) n) e ∙ zeros_here p s q v block i up h n (data_of_code block n is))
+            | inr ne ↦ inl (data_same p s q v block i up h number n (inr ne))
+          ]
+          | inr ne ↦ inl (data_same p s q v block i up h number n (inl ne))
+        ]) was.padded);
+  }
+
+  files_after : (number : ℕ) (f : Fields) → record_of q number ≡ Some f → IsFile q number f
+  files_after number f is =
+      elim (cases_eq number v.number) [
+        | inl e ↦
+            let same : fields_of stays.after ≡ f = same_Some _ f (sym record_here ∙ ap (record_of q) (sym e) ∙ is) in
+            subst (IsFile q number) same (file_after number (fields_of v) (fields_of stays.after)
+            (subst (λ n. IsFile p n (fields_of v)) (sym e) (files.files v.number (fields_of v) record_before)) (sym stays.same)
+            (λ k past. inr (within_apart block v.size k h.other within past)) (AreFields-fields_of stays.after))
+        | inr ne ↦
+            let was = files.files number f (sym (record_other p s q v block i up h number ne) ∙ is) in
+            file_after number f f was refl (λ k past. inl ne) was.formed
+      ]
+
+  whole_after : AreFiles q
+  whole_after = record {
+    parts = parts;
+    cache = stays.cache;
+    readable = record { none_clean = stays.none_clean };
+    reserved = λ number low other. ap (λ (rs : List InodeRow). (row_at rs number).used) h.rows ∙ files.reserved number low other;
+    recorded = λ number used. elim (cases_eq number v.number) [
+      | inl e ↦ ap is_some (ap (record_of q) e ∙ record_here)
+      | inr ne ↦ ap is_some (record_other p s q v block i up h number ne) ∙ files.recorded number (sym (ap (λ (rs : List InodeRow). (row_at rs number).used) h.rows) ∙ used)
+    ];
+    files = files_after;
+    records = stays.present;
+    frames = λ key locked. present_after key.ino key.version (files.frames key (frames_only key locked));
+    room = subst (λ n. WAITING_LIMIT ≤ n) (sym stays.room) files.room;
+    coded = λ key locked. files.coded key (frames_only key locked);
+  }
+
+  -- ---- what waits
+  record_waits : IsSome (waiting_in q.waiting.items v.number)
+  record_waits = ap (λ n. is_some (waiting_in q.waiting.items n)) (sym number_after) ∙ ap is_some stays.here.waits
+
+  parents_after : ParentsWait q
+  parents_after = record {
+    records = λ key locked. elim (cases_eq key.ino v.number) [
+      | inl e ↦ ap (λ n. is_some (waiting_in q.waiting.items n)) e ∙ record_waits
+      | inr ne ↦ ap is_some (stays.others key.ino ne) ∙ may.staged.parents.records key (frames_only key locked)
+    ];
+    singles = λ key locked high.
+        let was = frames_only key locked in
+        frames_kept (key_of key.ino key.version 1) (single_apart key was high) (may.staged.parents.singles key was high);
+  }
+    where
+      -- the single indirect block goes where no block that it leads to waits
+      single_apart : (key : Key) → IsLocked key p.cache → 143 ≤ key.lbn → same_key (key_of v.number v.version (code_of block)) (key_of key.ino key.version 1) ≡ false
+      single_apart key was high =
+          elim (cases_eq key.ino v.number) [
+            | inl e ↦ elim (cases_eq (code_of block) 1) [
+              | inl one ↦ absurd (alone key was high e (single_of block one))
+              | inr ne ↦ apart_code v.number key.ino v.version key.version (code_of block) 1 (λ same. ne (sym same))
+            ]
+            | inr ne ↦ apart_number v.number key.ino v.version key.version (code_of block) 1 ne
+          ]
+        where
+          single_of : (b : FileBlock) → code_of b ≡ 1 → b ≡ Single
+          single_of Record one = absurd (omega arith)
+          single_of Single one = refl
+          single_of (Data index) one = absurd (omega arith)
+
+          alone : (key : Key) → IsLocked key p.cache → 143 ≤ key.lbn → key.ino ≡ v.number → block ≡ Single → ⊥
+          alone key was high e is =
+              let version : key.version ≡ version_of p key.ino = (files.frames key was).at_version in
+              let below : key.lbn < 271 = elim (files.coded key was) [ inl one ↦ absurd (omega arith) | inr data_ ↦ omega arith ] in
+              let index = key.lbn - 131 in
+              let code : key.lbn ≡ 131 + index = omega arith in
+              let there : key ≡ key_of v.number (version_of p v.number) (131 + index) = λ j. key_of (e j) ((version ∙ ap (version_of p) e) j) (code j) in
+              (may.alone is index (omega arith) (omega arith)).free (subst (λ k. IsLocked k p.cache) there was)
+
+  few_after : length q.waiting.items ≤ WAITING_LIMIT
+  few_after =
+      let same : length (numbers_of q.waiting.items) ≡ length (numbers_of p.waiting.items) = ap length stays.numbers in
+      let new = length-map q.waiting.items (λ (x : Inode). x.number) in
+      let old = length-map p.waiting.items (λ (x : Inode). x.number) in
+      let few = may.staged.few in
+      omega arith
+
+  within_after : (number : ℕ) (b : FileBlock) (f : Fields) → record_of q number ≡ Some f → IsFileBlock b
+      → IsLocked (key_of number (version_of q number) (code_of b)) q.cache → IsWithin b f.attributes.size
+  within_after number b f is can locked =
+      let was = subst (λ n. IsLocked (key_of number n (code_of b)) p.cache) (version_same p s q v block i up h number) (frames_only (key_of number (version_of q number) (code_of b)) locked) in
+      elim (cases_eq number v.number) [
+        | inl e ↦
+            let same : fields_of stays.after ≡ f = same_Some _ f (sym record_here ∙ ap (record_of q) (sym e) ∙ is) in
+            subst (λ (x : Attributes). IsWithin b x.size) (sym stays.same ∙ ap (λ (g : Fields). g.attributes) same)
+            (may.staged.within number b (fields_of v) (ap (record_of p) e ∙ record_before) can was)
+        | inr ne ↦ may.staged.within number b f (sym (record_other p s q v block i up h number ne) ∙ is) can was
+      ]
+
+  pub staged_after : IsLog (log_state q) 0 → IsStaged q 0
+  staged_after log = record {
+    whole = whole_after;
+    log = log;
+    parents = parents_after;
+    once = once_numbers p.waiting.items q.waiting.items stays.numbers may.staged.once;
+    few = few_after;
+    within = within_after;
+  }
+
+  pub rest_after : q.log.tables.states ≡ p.log.tables.states → q.log.clean ≡ p.log.clean → KeepsRest v.number p q
+  rest_after states clean = record {
+    log = record {
+      memory = h.memory;
+      states = states;
+      clean = clean;
+      numbers = ap length h.rows;
+      moves = moves p s q v block i up h;
+    };
+    rows = h.rows;
+    others = record_other p s q v block i up h;
+    attributes = λ f is. record {
+      addresses = addresses stays.after;
+      there = record_here ∙ ap (λ (x : Attributes). Some (record { attributes = x; addresses = addresses stays.after }))
+          (stays.same ∙ ap (λ (g : Fields). g.attributes) (same_Some (fields_of v) f (sym record_before ∙ is)));
+    };
+    numbers = stays.numbers;
+    waits = record_waits;
+    only = frames_only;
+    fewer = locked_most p.cache q.cache stays.cache stays.none_clean frames_only;
+  }
+
+  pub cleared : IsLog (log_state q) 0 → q.log.tables.states ≡ p.log.tables.states → q.log.clean ≡ p.log.clean → ClearsBlock v.number block p q
+  cleared log states clean =
+      let key : key_of v.number (version_of p v.number) (code_of block) ≡ key_of v.number v.version (code_of block) = ap (λ n. key_of v.number n (code_of block)) (sym h.is.at_version) in
+      record {
+        staged = staged_after log;
+        rest = rest_after states clean;
+        nowhere = ap (address (tree_of q v.number)) h.way ∙ address_here p s q v block i up h;
+        free = λ locked. false≢true (sym (ap is_some h.gone) ∙ subst (λ k. IsLocked k q.cache) key locked);
+        addresses = λ way there ne. address_rest p s q v block i up h way there (λ e. ne (e ∙ sym h.way));
+        kept = λ other apart was. frames_kept other (subst (λ k. same_key k other ≡ false) key apart) was;
+        less = λ was. locked_less p.cache q.cache (key_of v.number v.version (code_of block)) stays.cache stays.none_clean frames_only (subst (λ k. IsLocked k p.cache) key was) h.gone;
+        zeros = zeros_here p s q v block i up h;
+        data_same = data_same p s q v block i up h;
+      }

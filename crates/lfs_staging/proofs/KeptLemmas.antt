@@ -1,0 +1,553 @@
+-- What stays of the files and of the log where something is staged.
+use Rattle.std.proofs.Common.{◌≡◌, ◌≢◌, ◌⊎◌, ℕ, ◌+◌, ◌*◌, ◌/◌, ◌%◌, ◌<◌, ◌≤◌, List, [], ◌∷◌, All, length, Some, IsSome, is_some, true, refl, sym, ap, ◌∙◌, subst, inl, inr, arith}
+use Rattle.std.specs.Prelude.{slice_index}
+use Rattle.std.specs.Vec.{vec_capacity}
+use Rattle.std.proofs.lemmas.Option.{same_Some}
+use Rattle.std.proofs.lemmas.Bool.{false≢true, cases_eq, cases_lt}
+use Rattle.std.proofs.lemmas.List.Elements.{All-cons, All-weaker}
+use Rattle.lfs_ifile.specs.Tables.{row_of}
+use Rattle.lfs_inodes.specs.declared.inode.Inode.{Inode}
+use Rattle.lfs_inodes.specs.Facts.{block_count}
+use Rattle.lfs_inodes.specs.Reading.{Fields, fields_of}
+use Rattle.lfs_cache.specs.declared.key.Key.{Key}
+use Rattle.lfs_cache.specs.Changes.{IsContents}
+use Rattle.lfs_cache.specs.Contents.{Contents, IsLocked, block_in}
+use Rattle.lfs_segments.specs.Memory.{block_at, next_address}
+use Rattle.lfs_log.specs.Names.{named_at}
+use Rattle.lfs_log.specs.Parts.{IsParts, LogParts, live_of, record_place, state_of}
+use Rattle.lfs_ways.specs.declared.blocks.TheConstants.{BLOCK_CODES, FIRST_DATA_CODE}
+use Rattle.lfs_ways.specs.declared.blocks.FileBlock.{FileBlock}
+use Rattle.lfs_ways.specs.declared.blocks.FileBlock.TheVariants.{Record, Single, Data}
+use Rattle.lfs_ways.specs.Blocks.{code_of, way_to}
+use Rattle.lfs_ways.specs.Log.{IsLog, SameKeys}
+use Rattle.lfs_ways.specs.Pieces.{IsPadded}
+use Rattle.lfs_ways.specs.Reading.{SameReadings, Stages, address, data_block, read}
+use Rattle.lfs_ways.specs.Ways.{IsKnown, code_at, data_way, way_of}
+use Rattle.lfs_ways.specs.Blocks.{IsFileBlock}
+use Rattle.lfs_ways.proofs.BlockLemmas.{code_of-below}
+use Rattle.lfs_ways.proofs.LogLemmas.{written_log}
+use Rattle.lfs_ways.proofs.PlaceLemmas.{data_block-past, data_block-read, data_block-same}
+use Rattle.lfs_ways.proofs.ReadingLemmas.{SameReadings-refl, SameReadings-trans, data_leaf, read-waits, staged_addresses, staged_bytes, staged_others, staged_same}
+use Rattle.lfs_ways.proofs.WayLemmas.{same_code, way_of-code_of, way_of-data, way_of-known}
+use Rattle.lfs_staging.specs.declared.parts.Parts.{Parts}
+use Rattle.lfs_staging.specs.Keys.{log_state}
+use Rattle.lfs_staging.specs.Staging.{IsStaged, IsZeroPast, MayStage, ParentsWait, SameFiles, StagesBlock, StagesData, StagesOwnRecord, StagesParents, StagesRecord}
+use Rattle.lfs_staging.specs.Store.{AreFiles, IsPresent, IsSettled, IsStore, IsWithin}
+use Rattle.lfs_staging.specs.View.{key_of, record_of, root_in, tree_of, version_of, waiting_in}
+use Rattle.lfs_staging.specs.Waiting.{AreOnce, without}
+use Rattle.lfs_staging.proofs.KeyLemmas.{place-block, place-record}
+use Rattle.lfs_staging.proofs.SettingLemmas.{some_there}
+use Rattle.lfs_staging.proofs.StagingLemmas.{record_of-same, version-same}
+use Rattle.lfs_staging.proofs.ViewLemmas.{code_at-way_to}
+use Rattle.lfs_staging.proofs.WaitingLemmas.{all_without, length-rest, once_staged, without-staged, waiting-head, waiting-staged}
+
+-- the code of a block that may wait
+abbrev pub IsWaitingCode : ℕ → Type 0
+IsWaitingCode code = (code ≡ 1) ⊎ ((FIRST_DATA_CODE ≤ code) × (code < BLOCK_CODES))
+
+-- each block that waits lies within the size of its file
+abbrev pub AllWithin : Parts → Type 0
+AllWithin p = (number : ℕ) (block : FileBlock) (f : Fields) → record_of p number ≡ Some f → IsFileBlock block
+    → IsLocked (key_of number (version_of p number) (code_of block)) p.cache → IsWithin block f.attributes.size
+
+-- the way of a data block
+data_known : (n : ℕ) → n < 140 → IsKnown (data_way n)
+data_known n low = subst IsKnown (way_of-data n) (way_of-known (131 + n) (omega arith))
+
+single_known : IsKnown (12 ∷ [])
+single_known = subst IsKnown (way_of-code_of Single) (way_of-known 1 (omega arith))
+
+-- the way of a block
+pub block_known : (block : FileBlock) → IsFileBlock block → IsKnown (way_to block)
+block_known block is = subst IsKnown (way_of-code_of block) (way_of-known (code_of block) (code_of-below block is))
+
+-- who is in use at which version, where the log stays
+pub present_kept : (old new : Parts) (n version : ℕ) → new.log ≡ old.log → IsPresent old n version → IsPresent new n version
+present_kept old new n version log h = record {
+  in_use = ap (λ (l : LogParts). (row_of l.tables n).used) log ∙ h.in_use;
+  at_version = h.at_version ∙ sym (version-same old new n log);
+}
+
+-- ---- the log, where it and the addresses stay
+-- each key has the place that it had
+pub keys_kept : (old new : Parts) → new.log ≡ old.log → ((n : ℕ) (way : List ℕ) → IsKnown way → address (tree_of new n) way ≡ address (tree_of old n) way)
+    → SameKeys (log_state old) (log_state new)
+keys_kept old new log addresses = record {
+  numbers = ap (λ (l : LogParts). length l.tables.rows) log;
+  segments = ap (λ (l : LogParts). l.memory.segments) log;
+  places = λ n code low below. elim (cases_eq code 0) [
+    | inl record_ ↦
+        ap ((log_state new).at n) record_ ∙ place-record new n ∙ ap (λ (l : LogParts). record_place l.tables n) log
+        ∙ sym (ap ((log_state old).at n) record_ ∙ place-record old n)
+    | inr block ↦
+        place-block new n code block ∙ ap (λ a. 4 * a) (addresses n (way_of code) (way_of-known code below)) ∙ sym (place-block old n code block)
+  ];
+  versions = λ n low. version-same old new n log;
+}
+
+pub log_kept : (old new : Parts) (spare : ℕ) → new.log ≡ old.log → ((n : ℕ) (way : List ℕ) → IsKnown way → address (tree_of new n) way ≡ address (tree_of old n) way)
+    → IsLog (log_state old) spare → IsLog (log_state new) spare
+log_kept old new spare log addresses h =
+    let to = h.segments.to in
+    let next : next_address new.log.memory ≡ next_address old.log.memory = ap (λ (l : LogParts). next_address l.memory) log in
+    let written = written_log (log_state old) (log_state new) spare 0 h (record {
+      keys = keys_kept old new log addresses;
+      used = record { states = λ s low. ap (λ (l : LogParts). state_of l.tables s) log; clean = ap (λ (l : LogParts). l.clean) log };
+      live = λ s low. ap (λ (l : LogParts). live_of l.tables s) log;
+      active = ap (λ (l : LogParts). l.memory.active) log;
+      next = omega arith;
+      room = omega arith;
+      owners = λ place written. ap (λ (l : LogParts). named_at l.memory place) log;
+    }) in
+    let none : spare + 512 * 0 ≡ spare = omega arith in
+    subst (IsLog (log_state new)) none written
+
+-- ---- the files
+pub padded_same : (old new : ℕ → List ℕ) (size : ℕ) → IsPadded old size → ((n : ℕ) → new n ≡ old n) → IsPadded new size
+padded_same old new size h same = record {
+  whole = λ n. ap (λ (b : List ℕ). length b) (same n) ∙ h.whole n;
+  zeros = λ i past. ap (λ b. slice_index b (i % 512)) (same (i / 512)) ∙ h.zeros i past;
+}
+
+pub padded_put : (old new : ℕ → List ℕ) (index size : ℕ) (bytes : List ℕ) → IsPadded old size → ((n : ℕ) → n ≢ index → new n ≡ old n) → new index ≡ bytes
+    → length bytes ≡ 512 → IsZeroPast size index bytes → IsPadded new size
+padded_put old new index size bytes h others here whole zeros = record {
+  whole = λ n. elim (cases_eq n index) [
+    | inl is ↦ ap (λ m. length (new m)) is ∙ ap (λ (b : List ℕ). length b) here ∙ whole
+    | inr other ↦ ap (λ (b : List ℕ). length b) (others n other) ∙ h.whole n
+  ];
+  zeros = λ i past. elim (cases_eq (i / 512) index) [
+    | inl is ↦ ap (λ m. slice_index (new m) (i % 512)) is ∙ ap (λ b. slice_index b (i % 512)) here ∙ zeros (i % 512) (omega arith) (omega arith)
+    | inr other ↦ ap (λ b. slice_index b (i % 512)) (others (i / 512) other) ∙ h.zeros i past
+  ];
+}
+
+pub files_kept : (old new : Parts) → AreFiles old → new.log ≡ old.log → ((n : ℕ) → record_of new n ≡ record_of old n)
+    → ((n : ℕ) (way : List ℕ) → IsKnown way → address (tree_of new n) way ≡ address (tree_of old n) way)
+    → ((n : ℕ) (f : Fields) → record_of old n ≡ Some f → IsPadded (data_block (tree_of old n)) f.attributes.size → IsPadded (data_block (tree_of new n)) f.attributes.size)
+    → IsContents new.cache → new.cache.lru ≡ []
+    → All (λ (v : Inode). IsPresent old v.number v.version) new.waiting.items → vec_capacity new.waiting ≡ vec_capacity old.waiting
+    → ((key : Key) → IsLocked key new.cache → IsPresent old key.ino key.version)
+    → ((key : Key) → IsLocked key new.cache → IsWaitingCode key.lbn) → AreFiles new
+files_kept old new h log records addresses padded formed lru waiting room frames coded = record {
+  parts = subst IsParts (sym log) h.parts;
+  cache = formed;
+  readable = record { none_clean = lru };
+  reserved = λ n low other. ap (λ (l : LogParts). (row_of l.tables n).used) log ∙ h.reserved n low other;
+  recorded = λ n used. ap is_some (records n) ∙ h.recorded n (sym (ap (λ (l : LogParts). (row_of l.tables n).used) log) ∙ used);
+  files = λ n f is.
+      let is_old = sym (records n) ∙ is in
+      let was = h.files n f is_old in
+      record {
+        formed = was.formed;
+        own_number = was.own_number;
+        own_version = was.own_version ∙ sym (version-same old new n log);
+        none_past = λ m past low. addresses n (data_way m) (data_known m low) ∙ was.none_past m past low;
+        padded = padded n f is_old was.padded;
+      };
+  records = All-weaker (λ (v : Inode). IsPresent old v.number v.version) (λ (v : Inode). IsPresent new v.number v.version)
+      (λ v present. present_kept old new v.number v.version log present) new.waiting.items waiting;
+  frames = λ key locked. present_kept old new key.ino key.version log (frames key locked);
+  room = subst (λ n. 64 ≤ n) (sym room) h.room;
+  coded = coded;
+}
+
+-- the same files are well formed still
+pub same_padded : (old new : Parts) → SameFiles old new → (n : ℕ) (f : Fields) → record_of old n ≡ Some f → IsPadded (data_block (tree_of old n)) f.attributes.size
+    → IsPadded (data_block (tree_of new n)) f.attributes.size
+same_padded old new same n f is h =
+    padded_same (data_block (tree_of old n)) (data_block (tree_of new n)) f.attributes.size h
+    (data_block-same (tree_of old n) (tree_of new n) (same.readings n))
+
+pub SameFiles-trans : (a b c : Parts) → SameFiles a b → SameFiles b c → SameFiles a c
+SameFiles-trans a b c p q = record {
+  log = q.log ∙ p.log;
+  records = λ n. q.records n ∙ p.records n;
+  readings = λ n. SameReadings-trans (tree_of a n) (tree_of b n) (tree_of c n) (p.readings n) (q.readings n);
+}
+
+-- ---- a record waits
+module _ (old new : Parts) (v : Inode) (h : StagesRecord v old new) where
+  pub record_waits : IsSome (waiting_in new.waiting.items v.number)
+  record_waits = ap (λ vs. is_some (waiting_in vs v.number)) h.waiting ∙ ap is_some (waiting-head v (without v.number old.waiting.items) v.number refl)
+
+  pub record_parents : ParentsWait old → ParentsWait new
+  record_parents parents = record {
+    records = λ key locked. elim (cases_eq key.ino v.number) [
+      | inl is ↦ subst (λ n. IsSome (waiting_in new.waiting.items n)) (sym is) record_waits
+      | inr other ↦
+          ap (λ vs. is_some (waiting_in vs key.ino)) h.waiting ∙ ap is_some (waiting-staged v old.waiting.items key.ino other)
+          ∙ parents.records key (subst (IsLocked key) h.cache locked)
+    ];
+    singles = λ key locked high. subst (IsLocked (key_of key.ino key.version 1)) (sym h.cache) (parents.singles key (subst (IsLocked key) h.cache locked) high);
+  }
+
+  pub record_room : without v.number new.waiting.items ≡ without v.number old.waiting.items
+  record_room = ap (without v.number) h.waiting ∙ without-staged v (without v.number old.waiting.items)
+
+  pub record_once : AreOnce old.waiting.items → AreOnce new.waiting.items
+  record_once once = subst AreOnce (sym h.waiting) (once_staged v old.waiting.items once)
+
+  -- each record that waits is of a number in use
+  pub record_present : AreFiles old → IsPresent old v.number v.version → All (λ (w : Inode). IsPresent old w.number w.version) new.waiting.items
+  record_present files present =
+      subst (λ ws. All (λ (w : Inode). IsPresent old w.number w.version) ws) (sym h.waiting)
+      (All-cons (λ (w : Inode). IsPresent old w.number w.version) v (without v.number old.waiting.items) present
+      (all_without (λ (w : Inode). IsPresent old w.number w.version) old.waiting.items v.number files.records))
+
+  -- the files have the addresses and the blocks that they had, where the record has the addresses
+  pub record_trees : ((n : ℕ) → root_in (record_of new n) ≡ root_in (record_of old n)) → (n : ℕ) → tree_of new n ≡ tree_of old n
+  record_trees roots n =
+      let waits : (way : List ℕ) → (tree_of new n).waits way ≡ (tree_of old n).waits way
+      = λ way. ap (λ (s : Contents). block_in (key_of n (version_of new n) (code_at way)) s.locked) h.cache
+      ∙ ap (λ version. block_in (key_of n version (code_at way)) old.cache.locked) (version-same old new n h.log) in
+      let blocks : (a : ℕ) → block_at new.log.memory a ≡ block_at old.log.memory a = λ a. ap (λ (l : LogParts). block_at l.memory a) h.log in
+      λ i. record { root = roots n i; waits = λ way. waits way i; block = λ a. blocks a i }
+
+-- ---- the record of a file waits with what it has
+module _ (old new : Parts) (v : Inode) (h : StagesRecord v old new) (has : record_of old v.number ≡ Some (fields_of v)) where
+  records_same : (n : ℕ) → record_of new n ≡ record_of old n
+  records_same n = elim (cases_eq n v.number) [
+    | inl is ↦ ap (record_of new) is ∙ h.here ∙ sym (ap (record_of old) is ∙ has)
+    | inr other ↦ h.others n other
+  ]
+
+  pub record_same : SameFiles old new
+  record_same = record {
+    log = h.log;
+    records = records_same;
+    readings = λ n. subst (λ t. SameReadings (tree_of old n) t) (sym (record_trees old new v h (λ m. ap root_in (records_same m)) n)) (SameReadings-refl (tree_of old n));
+  }
+
+  pub record_files : AreFiles old → (row_of old.log.tables v.number).used ≡ true → AreFiles new
+  record_files files used =
+      let file = files.files v.number (fields_of v) has in
+      let present : IsPresent old v.number v.version = record { in_use = used; at_version = file.own_version } in
+      let same = record_same in
+      files_kept old new files h.log records_same (λ n way known. (same.readings n).addresses way known) (same_padded old new same)
+      (subst IsContents (sym h.cache) files.cache) (ap (λ (s : Contents). s.lru) h.cache ∙ files.readable.none_clean)
+      (record_present old new v h files present) h.room
+      (λ key locked. files.frames key (subst (IsLocked key) h.cache locked))
+      (λ key locked. files.coded key (subst (IsLocked key) h.cache locked))
+
+-- ---- a block waits
+module _ (old new : Parts) (number : ℕ) (block : FileBlock) (bytes : List ℕ) (h : StagesBlock number block bytes old new) where
+  pub block_records : (n : ℕ) → record_of new n ≡ record_of old n
+  block_records n = record_of-same old new n h.log (ap (λ vs. waiting_in vs n) h.waiting)
+
+  -- where the files are well formed still, so is the rest
+  pub block_files : AreFiles old → IsPresent old number (version_of old number) → IsWaitingCode (code_of block)
+      → ((n : ℕ) (way : List ℕ) → IsKnown way → address (tree_of new n) way ≡ address (tree_of old n) way)
+      → ((n : ℕ) (f : Fields) → record_of old n ≡ Some f → IsPadded (data_block (tree_of old n)) f.attributes.size → IsPadded (data_block (tree_of new n)) f.attributes.size)
+      → AreFiles new
+  block_files files present coded addresses padded =
+      files_kept old new files h.log block_records addresses padded h.frames.formed h.frames.none_clean
+      (subst (λ ws. All (λ (w : Inode). IsPresent old w.number w.version) ws) (sym h.waiting) files.records) h.room
+      (λ key locked. elim (h.frames.only key locked) [
+        | inl is ↦ subst (λ (k : Key). IsPresent old k.ino k.version) (sym is) present
+        | inr was ↦ files.frames key was
+      ])
+      (λ key locked. elim (h.frames.only key locked) [
+        | inl is ↦ subst (λ (k : Key). IsWaitingCode k.lbn) (sym is) coded
+        | inr was ↦ files.coded key was
+      ])
+
+  -- and the parents of all that waits do
+  pub block_parents : ParentsWait old → IsSome (waiting_in old.waiting.items number)
+      → (143 ≤ code_of block → IsLocked (key_of number (version_of old number) 1) old.cache) → ParentsWait new
+  block_parents parents record_there single = record {
+    records = λ key locked. ap (λ vs. is_some (waiting_in vs key.ino)) h.waiting ∙ (elim (h.frames.only key locked) [
+      | inl is ↦ subst (λ (k : Key). IsSome (waiting_in old.waiting.items k.ino)) (sym is) record_there
+      | inr was ↦ parents.records key was
+    ]);
+    singles = λ key locked high. h.frames.kept (key_of key.ino key.version 1) (elim (h.frames.only key locked) [
+      | inl is ↦
+          subst (λ (k : Key). 143 ≤ k.lbn → IsLocked (key_of k.ino k.version 1) old.cache) (sym is) single high
+      | inr was ↦ parents.singles key was high
+    ]);
+  }
+
+-- ---- the single indirect block waits with what it has
+module _ (old new : Parts) (number : ℕ) (h : StagesBlock number Single (read (tree_of old number) (12 ∷ [])) old new) where
+  pub single_same : SameFiles old new
+  single_same = record {
+    log = h.log;
+    records = block_records old new number Single (read (tree_of old number) (12 ∷ [])) h;
+    readings = λ n. elim (cases_eq n number) [
+      | inl is ↦ subst (λ m. SameReadings (tree_of old m) (tree_of new m)) (sym is)
+          (staged_same (tree_of old number) (tree_of new number) (12 ∷ []) single_known h.staged)
+      | inr other ↦ subst (λ t. SameReadings (tree_of old n) t) (sym (h.others n other)) (SameReadings-refl (tree_of old n))
+    ];
+  }
+
+-- where it waits already, nothing changes
+pub single_staged : (p : Parts) (number : ℕ) → IsContents p.cache → p.cache.lru ≡ [] → IsLocked (key_of number (version_of p number) 1) p.cache
+    → StagesBlock number Single (read (tree_of p number) (12 ∷ [])) p p
+single_staged p number formed none locked =
+    let there = some_there (block_in (key_of number (version_of p number) 1) p.cache.locked) locked in
+    let waits : (tree_of p number).waits (12 ∷ []) ≡ Some there.0
+    = ap (λ c. block_in (key_of number (version_of p number) c) p.cache.locked) (code_at-way_to Single) ∙ there.1 in
+    record {
+      log = refl;
+      waiting = refl;
+      room = refl;
+      staged = record {
+        root = refl;
+        waiting = waits ∙ ap Some (sym (read-waits (tree_of p number) (12 ∷ []) there.0 waits));
+        waits = λ other known ne. refl;
+        blocks = λ b. refl;
+      };
+      others = λ n other. refl;
+      frames = record {
+        formed = formed;
+        none_clean = none;
+        here = locked;
+        kept = λ other waiting. waiting;
+        only = λ other waiting. inr waiting;
+        one_more = omega arith;
+        none_more = λ _. refl;
+      };
+    }
+
+-- ---- a data block waits
+module _ (old new : Parts) (number index : ℕ) (bytes : List ℕ) (low : index < 140) (h : StagesBlock number (Data index) bytes old new) where
+  staged_way : Stages (tree_of old number) (tree_of new number) (way_of (131 + index)) bytes
+  staged_way = subst (λ w. Stages (tree_of old number) (tree_of new number) w bytes) (sym (way_of-data index)) h.staged
+
+  pub data_here : data_block (tree_of new number) index ≡ bytes
+  data_here =
+      data_block-read (tree_of new number) index low
+      ∙ staged_bytes (tree_of old number) (tree_of new number) (way_of (131 + index)) bytes (way_of-known (131 + index) (omega arith)) (data_leaf (131 + index) (omega arith)) staged_way
+
+  data_other : (m : ℕ) → m ≢ index → data_block (tree_of new number) m ≡ data_block (tree_of old number) m
+  data_other m other = elim (cases_lt m 140) [
+    | inl inside ↦
+        data_block-read (tree_of new number) m inside
+        ∙ staged_others (tree_of old number) (tree_of new number) (way_of (131 + index)) bytes (way_of-known (131 + index) (omega arith)) (data_leaf (131 + index) (omega arith)) staged_way
+        (way_of (131 + m)) (way_of-known (131 + m) (omega arith)) (λ e. other (let same = same_code (131 + m) (131 + index) e in omega arith))
+        ∙ sym (data_block-read (tree_of old number) m inside)
+    | inr past ↦ data_block-past (tree_of new number) m past ∙ sym (data_block-past (tree_of old number) m past)
+  ]
+
+  pub data_others : (n m : ℕ) → (n ≢ number) ⊎ (m ≢ index) → data_block (tree_of new n) m ≡ data_block (tree_of old n) m
+  data_others n m apart = elim (cases_eq n number) [
+    | inl is ↦ elim apart [
+      | inl other ↦ absurd (other is)
+      | inr other ↦ subst (λ k. data_block (tree_of new k) m ≡ data_block (tree_of old k) m) (sym is) (data_other m other)
+    ]
+    | inr other ↦ ap (λ t. data_block t m) (h.others n other)
+  ]
+
+  pub data_addresses : (n : ℕ) (way : List ℕ) → IsKnown way → address (tree_of new n) way ≡ address (tree_of old n) way
+  data_addresses n way known = elim (cases_eq n number) [
+    | inl is ↦ subst (λ k. address (tree_of new k) way ≡ address (tree_of old k) way) (sym is)
+        (staged_addresses (tree_of old number) (tree_of new number) (way_of (131 + index)) bytes (way_of-known (131 + index) (omega arith)) (data_leaf (131 + index) (omega arith)) staged_way way known)
+    | inr other ↦ ap (λ t. address t way) (h.others n other)
+  ]
+
+  pub data_padded : length bytes ≡ 512 → (f : Fields) → record_of old number ≡ Some f → IsZeroPast f.attributes.size index bytes
+      → (n : ℕ) (g : Fields) → record_of old n ≡ Some g → IsPadded (data_block (tree_of old n)) g.attributes.size → IsPadded (data_block (tree_of new n)) g.attributes.size
+  data_padded whole f is zeros n g at padded = elim (cases_eq n number) [
+    | inl same ↦
+        let file : f ≡ g = same_Some f g (sym is ∙ ap (record_of old) (sym same) ∙ at) in
+        padded_put (data_block (tree_of old n)) (data_block (tree_of new n)) index g.attributes.size bytes padded
+        (λ m other. data_others n m (inr other)) (ap (λ k. data_block (tree_of new k) index) same ∙ data_here) whole
+        (subst (λ (x : Fields). IsZeroPast x.attributes.size index bytes) file zeros)
+    | inr other ↦
+        padded_same (data_block (tree_of old n)) (data_block (tree_of new n)) g.attributes.size padded (λ m. data_others n m (inl other))
+  ]
+
+-- ---- a data block's parents wait
+-- the record's address and version, as the number has them
+pub may_present : (p : Parts) (v : Inode) → MayStage p v → IsPresent p v.number v.version
+may_present p v may = record { in_use = may.in_use; at_version = (may.files.files v.number (fields_of v) may.here).own_version }
+
+-- the record of a file waits, with what it has
+pub own_staged : (old new : Parts) (v : Inode) → MayStage old v → StagesRecord v old new → StagesOwnRecord v.number old new
+own_staged old new v may h = record {
+  same = record_same old new v h may.here;
+  cache = h.cache;
+  files = record_files old new v h may.here may.files may.in_use;
+  parents = record_parents old new v h may.parents;
+  waits = record_waits old new v h;
+  room = record_room old new v h;
+  once = record_once old new v h;
+}
+
+-- where it waits already, nothing changes
+pub own_waits : (p : Parts) (v : Inode) → MayStage p v → IsSome (waiting_in p.waiting.items v.number) → StagesOwnRecord v.number p p
+own_waits p v may waits = record {
+  same = record { log = refl; records = λ n. refl; readings = λ n. SameReadings-refl (tree_of p n) };
+  cache = refl;
+  files = may.files;
+  parents = may.parents;
+  waits = waits;
+  room = refl;
+  once = λ once. once;
+}
+
+pub parents_direct : (old new : Parts) (number index : ℕ) → StagesOwnRecord number old new → index < 12 → StagesParents number index old new
+parents_direct old new number index h low = record {
+  same = h.same;
+  files = h.files;
+  parents = h.parents;
+  waits = record { record_waits = h.waits; single_waits = λ high. absurd (omega arith) };
+  room = h.room;
+  once = h.once;
+  frames = let same : length new.cache.locked ≡ length old.cache.locked = ap (λ (s : Contents). length s.locked) h.cache in omega arith;
+  direct = λ _. h.cache;
+  again = λ _. ap (λ (s : Contents). length s.locked) h.cache;
+  stays = λ key locked. subst (IsLocked key) (sym h.cache) locked;
+  only = λ key locked. inr (subst (IsLocked key) h.cache locked);
+}
+
+pub parents_single : (old between new : Parts) (v : Inode) (index : ℕ) → MayStage old v → StagesOwnRecord v.number old between
+    → StagesBlock v.number Single (read (tree_of between v.number) (12 ∷ [])) between new → 12 ≤ index → StagesParents v.number index old new
+parents_single old between new v index may h b high =
+    let bytes = read (tree_of between v.number) (12 ∷ []) in
+    let second = single_same between new v.number b in
+    let present = present_kept old between v.number v.version h.same.log (may_present old v may) in
+    let at : IsPresent between v.number (version_of between v.number) = record { in_use = present.in_use; at_version = refl } in
+    let version = version-same old between v.number h.same.log in
+    record {
+      same = SameFiles-trans old between new h.same second;
+      files = block_files between new v.number Single bytes b h.files at (inl refl)
+          (λ n way known. (second.readings n).addresses way known) (same_padded between new second);
+      parents = block_parents between new v.number Single bytes b h.parents h.waits (λ high. absurd (omega arith));
+      waits = record {
+        record_waits = ap (λ vs. is_some (waiting_in vs v.number)) b.waiting ∙ h.waits;
+        single_waits = λ high. subst (λ n. IsLocked (key_of v.number n 1) new.cache) (sym (version-same between new v.number b.log)) b.frames.here;
+      };
+      room = ap (without v.number) b.waiting ∙ h.room;
+      once = λ once. subst AreOnce (sym b.waiting) (h.once once);
+      frames =
+          let same : length between.cache.locked ≡ length old.cache.locked = ap (λ (s : Contents). length s.locked) h.cache in
+          let more = b.frames.one_more in
+          omega arith;
+      direct = λ low. absurd (omega arith);
+      again = λ locked.
+          b.frames.none_more (subst (λ version. IsLocked (key_of v.number version 1) between.cache) (sym version)
+          (subst (IsLocked (key_of v.number (version_of old v.number) 1)) (sym h.cache) locked))
+          ∙ ap (λ (s : Contents). length s.locked) h.cache;
+      stays = λ key locked. b.frames.kept key (subst (IsLocked key) (sym h.cache) locked);
+      only = λ key locked. elim (b.frames.only key locked) [
+        | inl is ↦ inl (is ∙ ap (λ version. key_of v.number version 1) version, high)
+        | inr was ↦ inr (subst (IsLocked key) h.cache was)
+      ];
+    }
+
+-- ---- and the data block
+pub staged_data : (old between new : Parts) (number index : ℕ) (bytes : List ℕ) → index < 140 → StagesParents number index old between
+    → StagesBlock number (Data index) bytes between new → StagesData number index bytes old new
+staged_data old between new number index bytes low h b = record {
+  log = b.log ∙ h.same.log;
+  records = λ n. block_records between new number (Data index) bytes b n ∙ h.same.records n;
+  here = data_here between new number index bytes low b;
+  others = λ n m apart.
+      data_others between new number index bytes low b n m apart ∙ data_block-same (tree_of old n) (tree_of between n) (h.same.readings n) m;
+  addresses = λ n way known.
+      data_addresses between new number index bytes low b n way known ∙ (h.same.readings n).addresses way known;
+  frames = let more = b.frames.one_more in let first = h.frames in omega arith;
+  takes = record {
+    waits = record {
+      record_waits = ap (λ vs. is_some (waiting_in vs number)) b.waiting ∙ h.waits.record_waits;
+      single_waits = λ high. b.frames.kept (key_of number (version_of new number) 1)
+          (subst (λ version. IsLocked (key_of number version 1) between.cache) (sym (version-same between new number b.log)) (h.waits.single_waits high));
+    };
+    stays = λ key locked. b.frames.kept key (h.stays key locked);
+    most = let more = b.frames.one_more in let first = h.frames in omega arith;
+    direct = λ direct.
+        let more = b.frames.one_more in
+        let same : length between.cache.locked ≡ length old.cache.locked = ap (λ (s : Contents). length s.locked) (h.direct direct) in
+        omega arith;
+    again = λ locked. let more = b.frames.one_more in let same = h.again locked in omega arith;
+    records = ap (without number) b.waiting ∙ h.room;
+    block_waits = subst (λ version. IsLocked (key_of number version (131 + index)) new.cache) (sym (version-same between new number b.log)) b.frames.here;
+  };
+}
+
+-- another block of the file may wait
+pub data_again : (old between new : Parts) (v : Inode) (index : ℕ) (bytes : List ℕ) → index < 140 → MayStage old v → StagesParents v.number index old between
+    → StagesBlock v.number (Data index) bytes between new → length bytes ≡ 512 → IsZeroPast v.size index bytes → MayStage new v
+data_again old between new v index bytes low may h b whole zeros =
+    let present = present_kept old between v.number v.version h.same.log (may_present old v may) in
+    let at : IsPresent between v.number (version_of between v.number) = record { in_use = present.in_use; at_version = refl } in
+    let log = b.log ∙ h.same.log in
+    let moved = staged_data old between new v.number index bytes low h b in
+    record {
+      files = block_files between new v.number (Data index) bytes b h.files at (inr (omega arith, omega arith))
+          (data_addresses between new v.number index bytes low b)
+          (data_padded between new v.number index bytes low b whole (fields_of v) (h.same.records v.number ∙ may.here) zeros);
+      parents = block_parents between new v.number (Data index) bytes b h.parents h.waits.record_waits (λ high. h.waits.single_waits (omega arith));
+      inside = record {
+        each = λ block is.
+            subst (λ n. address (tree_of new v.number) (way_to block) < n) (sym (ap (λ (l : LogParts). l.memory.segments * 64) log))
+            (subst (λ a. a < old.log.memory.segments * 64) (sym (moved.addresses v.number (way_to block) (block_known block is))) (may.inside.each block is));
+      };
+      in_range = subst (λ n. v.number < n) (sym (ap (λ (l : LogParts). length l.tables.rows) log)) may.in_range;
+      in_use = ap (λ (l : LogParts). (row_of l.tables v.number).used) log ∙ may.in_use;
+      here = moved.records v.number ∙ may.here;
+      records = subst (λ (vs : List Inode). length vs < 64) (sym (ap (without v.number) b.waiting ∙ h.room)) may.records;
+    }
+
+-- the block that waits, or the indirect block that leads to it, lies within the size
+pub within_code : (block : FileBlock) (size index code : ℕ) → index < block_count size → code_of block ≡ code → (code ≡ 131 + index) ⊎ ((code ≡ 1) × (12 ≤ index)) → IsWithin block size
+within_code Record size index code within is cases = tt
+within_code Single size index code within is cases = elim cases [ inl data_ ↦ absurd (omega arith) | inr single ↦ let high = single.1 in omega arith ]
+within_code (Data m) size index code within is cases = elim cases [ inl data_ ↦ omega arith | inr single ↦ let one = single.0 in absurd (omega arith) ]
+
+pub data_within : (old between new : Parts) (v : Inode) (index : ℕ) (bytes : List ℕ) → record_of old v.number ≡ Some (fields_of v) → index < block_count v.size
+    → StagesParents v.number index old between → StagesBlock v.number (Data index) bytes between new → AllWithin old → AllWithin new
+data_within old between new v index bytes has within h b was n block f is can locked =
+    let is_old : record_of old n ≡ Some f = sym (block_records between new v.number (Data index) bytes b n ∙ h.same.records n) ∙ is in
+    let version : version_of new n ≡ version_of old n = version-same between new n b.log ∙ version-same old between n h.same.log in
+    let key = key_of n (version_of new n) (code_of block) in
+    let here : (number code : ℕ) (version : ℕ) → key ≡ key_of number version code → number ≡ v.number → (code ≡ 131 + index) ⊎ ((code ≡ 1) × (12 ≤ index)) → IsWithin block f.attributes.size
+    = λ number code version e own cases.
+    let same : n ≡ v.number = ap (λ (k : Key). k.ino) e ∙ own in
+    let file : fields_of v ≡ f = same_Some (fields_of v) f (sym has ∙ ap (record_of old) (sym same) ∙ is_old) in
+    subst (λ (x : Fields). IsWithin block x.attributes.size) file (within_code block v.size index code within (ap (λ (k : Key). k.lbn) e) cases) in
+    elim (b.frames.only key locked) [
+      | inl data_ ↦ here v.number (131 + index) (version_of between v.number) data_ refl (inl refl)
+      | inr before ↦ elim (h.only key before) [
+        | inl single ↦ here v.number 1 (version_of old v.number) single.0 refl (inr (refl, single.1))
+        | inr earlier ↦ was n block f is_old can (subst (λ version. IsLocked (key_of n version (code_of block)) old.cache) version earlier)
+      ]
+    ]
+
+-- at most one record more waits than those of other numbers
+pub few_records : (new : Parts) (number : ℕ) (others : List Inode) → without number new.waiting.items ≡ others → length others < 64 → length new.waiting.items ≤ 64
+few_records new number others is few =
+    let more = length-rest new.waiting.items number in
+    let same : length (without number new.waiting.items) ≡ length others = ap (λ (vs : List Inode). length vs) is in
+    omega arith
+
+pub data_kept : (old between new : Parts) (v : Inode) (index : ℕ) (bytes : List ℕ) → index < 140 → index < block_count v.size → MayStage old v
+    → StagesParents v.number index old between → StagesBlock v.number (Data index) bytes between new → MayStage new v
+    → (spare : ℕ) → IsStaged old spare → IsStaged new spare
+data_kept old between new v index bytes low within may h b again spare staged =
+    let moved = staged_data old between new v.number index bytes low h b in
+    record {
+      whole = again.files;
+      log = log_kept old new spare moved.log moved.addresses staged.log;
+      parents = again.parents;
+      once = subst AreOnce (sym b.waiting) (h.once staged.once);
+      few = few_records new v.number (without v.number old.waiting.items) moved.takes.records may.records;
+      within = data_within old between new v index bytes may.here within h b staged.within;
+    }
+
+-- ---- between calls
+-- where nothing waits, a store is staged
+pub settled_staged : (p : Parts) → IsStore p → IsSettled p → IsStaged p 0
+unfolding AreOnce
+settled_staged p store settled =
+    let none : (key : Key) → IsLocked key p.cache → ⊥
+    = λ key locked. false≢true (sym (ap (λ es. is_some (block_in key es)) settled.no_frame) ∙ locked) in
+    record {
+      whole = store.whole;
+      log = store.log;
+      parents = record { records = λ key locked. absurd (none key locked); singles = λ key locked high. absurd (none key locked) };
+      once = subst AreOnce (sym settled.no_record) tt;
+      few = let none_waits : length p.waiting.items ≡ 0 = ap (λ (vs : List Inode). length vs) settled.no_record in omega arith;
+      within = λ number block f is can locked. absurd (none _ locked);
+    }

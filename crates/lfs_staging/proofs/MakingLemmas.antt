@@ -1,0 +1,210 @@
+-- What stays where one number is given out or taken back.
+use Rattle.std.proofs.Common.{false, ◌≡◌, ◌≢◌, ℕ, ◌+◌, ◌*◌, ◌<◌, ◌≤◌, List, All, length, None, Some, IsSome, is_some, option_and_then, option_map, true, refl, sym, ap, ◌∙◌, subst, inl, inr, arith}
+use Rattle.std.specs.Prelude.{if◌then◌else◌, ◌==◌}
+use Rattle.std.proofs.lemmas.Bool.{cases_eq}
+use Rattle.lfs_ifile.specs.declared.inode.InodePlace.{InodePlace}
+use Rattle.lfs_ifile.specs.declared.inode.InodeRow.{InodeRow}
+use Rattle.lfs_ifile.specs.Inode.{place_in}
+use Rattle.lfs_ifile.specs.Tables.{place_of, row_of}
+use Rattle.lfs_inodes.specs.declared.inode.Inode.{Inode}
+use Rattle.lfs_inodes.specs.Reading.{Fields}
+use Rattle.lfs_cache.specs.declared.key.Key.{Key}
+use Rattle.lfs_cache.specs.Changes.{IsContents}
+use Rattle.lfs_cache.specs.Contents.{Contents, IsLocked, block_in}
+use Rattle.lfs_segments.specs.Memory.{SegmentMemory, block_at}
+use Rattle.lfs_log.specs.Parts as log
+use Rattle.lfs_log.specs.Parts.{IsParts, LogParts, record_place}
+use Rattle.lfs_types.specs.declared.limits.TheConstants.{FIRST_INODE, ROOT_INODE}
+use Rattle.lfs_ways.specs.declared.blocks.TheConstants.{BLOCK_CODES}
+use Rattle.lfs_ways.specs.Blocks.{code_of}
+use Rattle.lfs_ways.specs.Log.{IsLog}
+use Rattle.lfs_ways.specs.Pieces.{IsPadded}
+use Rattle.lfs_ways.specs.Reading.{address, data_block}
+use Rattle.lfs_ways.specs.Ways.{code_at, data_way, way_of}
+use Rattle.lfs_ways.proofs.LogLemmas.{written_log}
+use Rattle.lfs_staging.specs.declared.parts.TheConstants.{WAITING_LIMIT}
+use Rattle.lfs_staging.specs.declared.parts.Parts.{Parts}
+use Rattle.lfs_staging.specs.Changing.{StaysInLog}
+use Rattle.lfs_staging.specs.Files.{file_at, file_with}
+use Rattle.lfs_staging.specs.Keys.{log_state}
+use Rattle.lfs_staging.specs.Making.{HasNoBlock, KeepsOthers}
+use Rattle.lfs_staging.specs.Staging.{IsStaged, ParentsWait}
+use Rattle.lfs_staging.specs.Store.{AreFiles, IsFile, IsPresent}
+use Rattle.lfs_staging.specs.View.{fields_at, key_of, record_of, root_in, tree_of, version_of, waiting_in, waiting_or}
+use Rattle.lfs_staging.specs.Waiting.{AreOnce}
+use Rattle.lfs_staging.proofs.FileLemmas.{file_at-record}
+use Rattle.lfs_staging.proofs.KeyLemmas.{place-block, place-record, unplaced}
+use Rattle.lfs_staging.proofs.ViewLemmas.{not_locked, nowhere}
+
+-- ---- the log, where only the way in which places are said changes
+pub log_at : (p : LogParts) (spare : ℕ) (was now : ℕ → ℕ → ℕ) → ((n c : ℕ) → n < length p.tables.rows → c < BLOCK_CODES → now n c ≡ was n c)
+    → IsLog (log.log_state p was) spare → IsLog (log.log_state p now) spare
+log_at p spare was now same h =
+    let to = h.segments.to in
+    let written = written_log (log.log_state p was) (log.log_state p now) spare 0 h (record {
+      keys = record { numbers = refl; segments = refl; places = same; versions = λ n low. refl };
+      used = record { states = λ s low. refl; clean = refl };
+      live = λ s low. refl;
+      active = refl;
+      next = omega arith;
+      room = omega arith;
+      owners = λ place there. refl;
+    }) in
+    let none : spare + 512 * 0 ≡ spare = omega arith in
+    subst (IsLog (log.log_state p now)) none written
+
+-- the place in a row of the inode map
+abbrev place_in_row : InodeRow → ℕ
+place_in_row row = if row.address == 0 then 0 else 4 * row.address + row.slot
+
+-- ---- a number without blocks
+module _ (p : Parts) (number : ℕ) (h : HasNoBlock p number) where
+  pub none_waits : (way : List ℕ) → (tree_of p number).waits way ≡ None
+  none_waits way =
+      not_locked (key_of number (version_of p number) (code_at way)) p.cache
+      (λ locked. h.no_frame (key_of number (version_of p number) (code_at way)) locked refl)
+
+  pub none_addressed : (way : List ℕ) → address (tree_of p number) way ≡ 0
+  none_addressed = nowhere (tree_of p number) h.no_address none_waits
+
+  pub block_nowhere : (code : ℕ) → code ≢ 0 → (log_state p).at number code ≡ 0
+  block_nowhere code some = place-block p number code some ∙ ap (λ a. 4 * a) (none_addressed (way_of code))
+
+  pub all_nowhere : (row_of p.log.tables number).address ≡ 0 → (code : ℕ) → (log_state p).at number code ≡ 0
+  all_nowhere none code = elim (cases_eq code 0) [
+    | inl record_ ↦ ap ((log_state p).at number) record_ ∙ place-record p number ∙ unplaced p.log.tables number none
+    | inr block ↦ block_nowhere code block
+  ]
+
+-- ---- the other numbers
+module _ (number : ℕ) (old new : Parts) (h : KeepsOthers number old new) where
+  pub other_version : (n : ℕ) → n ≢ number → version_of new n ≡ version_of old n
+  other_version n other = ap (λ (r : InodeRow). r.version) (h.rows n other)
+
+  pub other_used : (n : ℕ) → n ≢ number → (row_of new.log.tables n).used ≡ (row_of old.log.tables n).used
+  other_used n other = ap (λ (r : InodeRow). r.used) (h.rows n other)
+
+  pub other_record : (n : ℕ) → n ≢ number → record_of new n ≡ record_of old n
+  unfolding record_of
+  other_record n other =
+      ap (option_and_then (λ (place : InodePlace). waiting_or (waiting_in new.waiting.items n) (fields_at new.log.memory place))) (ap place_in (h.rows n other))
+      ∙ ap (λ w. option_and_then (λ (place : InodePlace). waiting_or w (fields_at new.log.memory place)) (place_of old.log.tables n)) (h.waiting n other)
+      ∙ ap (λ (m : SegmentMemory). option_and_then (λ (place : InodePlace). waiting_or (waiting_in old.waiting.items n) (fields_at m place)) (place_of old.log.tables n)) h.memory
+
+  pub other_tree : (n : ℕ) → n ≢ number → tree_of new n ≡ tree_of old n
+  other_tree n other =
+      let waits : (way : List ℕ) → (tree_of new n).waits way ≡ (tree_of old n).waits way
+      = λ way. ap (λ (s : Contents). block_in (key_of n (version_of new n) (code_at way)) s.locked) h.cache
+      ∙ ap (λ version. block_in (key_of n version (code_at way)) old.cache.locked) (other_version n other) in
+      let blocks : (a : ℕ) → block_at new.log.memory a ≡ block_at old.log.memory a = λ a. ap (λ (m : SegmentMemory). block_at m a) h.memory in
+      λ i. record { root = root_in (other_record n other i); waits = λ way. waits way i; block = λ a. blocks a i }
+
+  pub other_file : (n : ℕ) → n ≢ number → file_at new n ≡ file_at old n
+  other_file n other =
+      file_at-record new n ∙ ap (λ t. option_map (file_with t) (record_of new n)) (other_tree n other)
+      ∙ ap (option_map (file_with (tree_of old n))) (other_record n other) ∙ sym (file_at-record old n)
+
+  pub other_present : (n version : ℕ) → n ≢ number → IsPresent old n version → IsPresent new n version
+  other_present n version other was = record {
+    in_use = other_used n other ∙ was.in_use;
+    at_version = was.at_version ∙ sym (other_version n other);
+  }
+
+  pub other_is_file : (n : ℕ) (f : Fields) → n ≢ number → IsFile old n f → IsFile new n f
+  other_is_file n f other was = record {
+    formed = was.formed;
+    own_number = was.own_number;
+    own_version = was.own_version ∙ sym (other_version n other);
+    none_past = λ m past low. ap (λ t. address t (data_way m)) (other_tree n other) ∙ was.none_past m past low;
+    padded = subst (λ t. IsPadded (data_block t) f.attributes.size) (sym (other_tree n other)) was.padded;
+  }
+
+  -- no frame is of the number
+  module _ (none : (key : Key) → IsLocked key old.cache → key.ino ≢ number) where
+    still_locked : (key : Key) → IsLocked key new.cache → IsLocked key old.cache
+    still_locked key locked = subst (IsLocked key) h.cache locked
+
+    pub other_parents : ParentsWait old → ParentsWait new
+    other_parents parents = record {
+      records = λ key locked.
+          let was = still_locked key locked in
+          ap is_some (h.waiting key.ino (none key was)) ∙ parents.records key was;
+      singles = λ key locked high. subst (IsLocked (key_of key.ino key.version 1)) (sym h.cache) (parents.singles key (still_locked key locked) high);
+    }
+
+    pub files_still : AreFiles old → IsParts new.log
+        → (number < FIRST_INODE → number ≢ ROOT_INODE → (row_of new.log.tables number).used ≡ false)
+        → ((row_of new.log.tables number).used ≡ true → IsSome (record_of new number))
+        → ((f : Fields) → record_of new number ≡ Some f → IsFile new number f)
+        → All (λ (v : Inode). IsPresent new v.number v.version) new.waiting.items → AreFiles new
+    files_still files parts kept_free recorded here present = record {
+      parts = parts;
+      cache = subst IsContents (sym h.cache) files.cache;
+      readable = record { none_clean = ap (λ (s : Contents). s.lru) h.cache ∙ files.readable.none_clean };
+      reserved = λ n low root. elim (cases_eq n number) [
+        | inl is ↦ ap (λ m. (row_of new.log.tables m).used) is ∙ kept_free (subst (λ m. m < FIRST_INODE) is low) (λ e. root (is ∙ e))
+        | inr other ↦ other_used n other ∙ files.reserved n low root
+      ];
+      recorded = λ n used. elim (cases_eq n number) [
+        | inl is ↦ subst (λ m. IsSome (record_of new m)) (sym is) (recorded (ap (λ m. (row_of new.log.tables m).used) (sym is) ∙ used))
+        | inr other ↦ ap is_some (other_record n other) ∙ files.recorded n (sym (other_used n other) ∙ used)
+      ];
+      files = λ n f at. elim (cases_eq n number) [
+        | inl is ↦ subst (λ m. IsFile new m f) (sym is) (here f (ap (record_of new) (sym is) ∙ at))
+        | inr other ↦ other_is_file n f other (files.files n f (sym (other_record n other) ∙ at))
+      ];
+      records = present;
+      frames = λ key locked. let was = still_locked key locked in other_present key.ino key.version (none key was) (files.frames key was);
+      room = subst (λ n. 64 ≤ n) (sym h.room) files.room;
+      coded = λ key locked. files.coded key (still_locked key locked);
+    }
+
+    pub staged_still : IsStaged old 0 → AreFiles new → IsLog (log_state new) 0 → AreOnce new.waiting.items → length new.waiting.items ≤ WAITING_LIMIT → IsStaged new 0
+    staged_still staged files log_ once few = record {
+      whole = files;
+      log = log_;
+      parents = other_parents staged.parents;
+      once = once;
+      few = few;
+      within = λ n block f at is locked.
+          let was = still_locked (key_of n (version_of new n) (code_of block)) locked in
+          let other = none (key_of n (version_of new n) (code_of block)) was in
+          staged.within n block f (sym (other_record n other) ∙ at) is
+          (subst (λ version. IsLocked (key_of n version (code_of block)) old.cache) (other_version n other) was);
+    }
+
+  -- ---- the keys
+  other_place : (n : ℕ) → n ≢ number → record_place new.log.tables n ≡ record_place old.log.tables n
+  unfolding record_place
+  other_place n other = ap place_in_row (h.rows n other)
+
+  pub other_at : (n c : ℕ) → n ≢ number → (log_state new).at n c ≡ (log_state old).at n c
+  other_at n c other = elim (cases_eq c 0) [
+    | inl is ↦
+        ap ((log_state new).at n) is ∙ place-record new n ∙ other_place n other ∙ sym (place-record old n) ∙ sym (ap ((log_state old).at n) is)
+    | inr block ↦
+        place-block new n c block ∙ ap (λ t. 4 * address t (way_of c)) (other_tree n other) ∙ sym (place-block old n c block)
+  ]
+
+  -- those of the number have no place: so the log has others' where they were
+  module _ (nothing : (c : ℕ) → (log_state new).at number c ≡ 0) where
+    pub stays_in_log : StaysInLog old new
+    stays_in_log = record {
+      memory = h.memory;
+      states = h.states;
+      clean = h.clean;
+      numbers = h.numbers;
+      moves = record {
+        numbers = h.numbers;
+        places = λ n c there within. sym (other_at n c (λ is. there.somewhere (ap (λ m. (log_state new).at m c) is ∙ nothing c)));
+        versions = λ n c there within. sym (other_version n (λ is. there.somewhere (ap (λ m. (log_state new).at m c) is ∙ nothing c)));
+      };
+    }
+
+    pub log_still : (at : ℕ → ℕ → ℕ) → ((c : ℕ) → at number c ≡ 0) → ((n c : ℕ) → n ≢ number → at n c ≡ (log_state old).at n c)
+        → IsLog (log.log_state new.log at) 0 → IsLog (log_state new) 0
+    log_still at none others =
+        log_at new.log 0 at (log_state new).at (λ n c low below. elim (cases_eq n number) [
+          | inl is ↦ ap (λ m. (log_state new).at m c) is ∙ nothing c ∙ sym (ap (λ m. at m c) is ∙ none c)
+          | inr other ↦ other_at n c other ∙ sym (others n c other)
+        ])

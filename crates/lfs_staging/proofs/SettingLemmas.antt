@@ -1,0 +1,158 @@
+-- What setting an address makes of a file that waits.
+use Rattle.std.proofs.Common.{◌≡◌, ◌≢◌, ℕ, List, length, [], ◌∷◌, Option, None, Some, IsSome, false, option_and_then, is_some, refl, sym, ap, ◌∙◌, subst}
+use Rattle.std.specs.Prelude.{slice_set, All}
+use Rattle.std.proofs.lemmas.Bool.{cond-true}
+use Rattle.std.proofs.lemmas.List.Elements.{All-weaker}
+use Rattle.std.specs.Vec.{vec_capacity}
+use Rattle.lfs_cache.specs.Changes.{IsContents}
+use Rattle.lfs_ifile.specs.declared.inode.InodePlace.{InodePlace}
+use Rattle.lfs_ifile.specs.Tables.{place_of, row_of}
+use Rattle.lfs_inodes.specs.declared.inode.Inode.{Inode}
+use Rattle.lfs_inodes.specs.Addresses.{addresses, cells}
+use Rattle.lfs_inodes.specs.Attributes.{Attributes, attributes}
+use Rattle.lfs_inodes.specs.Reading.{fields_of}
+use Rattle.lfs_cache.specs.Contents.{Contents, block_in}
+use Rattle.lfs_cache.specs.Keys.{same_key}
+use Rattle.lfs_log.specs.Parts.{LogParts}
+use Rattle.lfs_ways.specs.Reading.{table}
+use Rattle.lfs_ways.specs.declared.blocks.FileBlock.TheVariants.{Single}
+use Rattle.lfs_ways.proofs.ReadingLemmas.{table-root, table-read, read-waits}
+use Rattle.lfs_staging.specs.declared.parts.Parts.{Parts}
+use Rattle.lfs_staging.specs.Addressing.{numbers_of, IsWaiting, Replaces, Sets, SetsEntry, StaysWaiting, replaced}
+use Rattle.lfs_staging.specs.Store.{IsPresent}
+use Rattle.lfs_staging.specs.View.{fields_at, key_of, record_of, root_in, tree_of, version_of, waiting_in, waiting_or}
+use Rattle.lfs_staging.proofs.ViewLemmas.{code_at-way_to, record_of-waiting}
+use Rattle.lfs_staging.proofs.ReplacingLemmas.{each_replaced}
+
+-- the record of a number is the same where the log is, and what waits for the number
+pub record_same : (p q : Parts) (number : ℕ) → q.log ≡ p.log → waiting_in q.waiting.items number ≡ waiting_in p.waiting.items number
+    → record_of q number ≡ record_of p number
+unfolding record_of
+record_same p q number log waits =
+    ap (λ w. option_and_then (λ (place : InodePlace). waiting_or w (fields_at q.log.memory place)) (place_of q.log.tables number)) waits
+    ∙ ap (λ (l : LogParts). option_and_then (λ (place : InodePlace). waiting_or (waiting_in p.waiting.items number) (fields_at l.memory place)) (place_of l.tables number)) log
+
+-- the record that waits is the number's
+pub waiting_record : (p : Parts) (v : Inode) → IsWaiting p v → record_of p v.number ≡ Some (fields_of v)
+waiting_record p v h = record_of-waiting p v.number _ v (cond-true _ _ _ h.in_use) h.waits
+
+-- what waits for the single indirect block
+pub single_waits : (p : Parts) (v : Inode) (o : Option (List ℕ)) → IsWaiting p v → block_in (key_of v.number v.version 1) p.cache.locked ≡ o
+    → (tree_of p v.number).waits (12 ∷ []) ≡ o
+single_waits p v o h waits =
+    ap (λ c. block_in (key_of v.number (version_of p v.number) c) p.cache.locked) (code_at-way_to Single)
+    ∙ ap (λ n. block_in (key_of v.number n 1) p.cache.locked) (sym h.at_version) ∙ waits
+
+pub single_table : (p : Parts) (v : Inode) (b : List ℕ) → IsWaiting p v → block_in (key_of v.number v.version 1) p.cache.locked ≡ Some b
+    → table (tree_of p v.number) (12 ∷ []) ≡ cells b
+single_table p v b h waits =
+    table-read (tree_of p v.number) 12 [] ∙ ap cells (read-waits (tree_of p v.number) (12 ∷ []) b (single_waits p v (Some b) h waits))
+
+pub record_table : (p : Parts) (v : Inode) → IsWaiting p v → table (tree_of p v.number) [] ≡ addresses v
+record_table p v h = table-root (tree_of p v.number) ∙ ap root_in (waiting_record p v h)
+
+-- a number in use at its version stays so
+pub present_kept : (p q : Parts) (number version : ℕ) → q.log ≡ p.log → IsPresent p number version → IsPresent q number version
+present_kept p q number version log h = record {
+  in_use = ap (λ (l : LogParts). (row_of l.tables number).used) log ∙ h.in_use;
+  at_version = h.at_version ∙ ap (λ (l : LogParts). (row_of l.tables number).version) (sym log);
+}
+
+-- what holds of a way's first place and the rest, by an equation
+pub at_way : (P : ℕ → List ℕ → Type 0) (way : List ℕ) (j : ℕ) (above : List ℕ) → way ≡ j ∷ above → P j above → (i : ℕ) (up : List ℕ) → way ≡ i ∷ up → P i up
+at_way P way j above is h i up e =
+    let first : j ≡ i = cc in let rest : above ≡ up = cc in subst (P i) rest (subst (λ k. P k above) first h)
+
+not_nil : (j : ℕ) (above : List ℕ) → j ∷ above ≡ [] → ⊥
+not_nil j above e = cc
+
+-- what is there
+pub some_there : (o : Option (List ℕ)) → IsSome o → (x : List ℕ) × (o ≡ Some x)
+some_there None h = absurd (cc)
+some_there (Some x) h = (x, refl)
+
+-- a record that has the same attributes waits in place of another one
+module _ (p q : Parts) (v w : Inode) (is : IsWaiting p v) (log : q.log ≡ p.log) (same : attributes w ≡ attributes v) (swap : Replaces p.waiting.items q.waiting.items w) where
+  number_same : w.number ≡ v.number
+  number_same = ap (λ (a : Attributes). a.number) same
+
+  pub replaced_here : IsWaiting q w
+  replaced_here = record {
+    waits = swap.here;
+    in_use = ap (λ (l : LogParts). (row_of l.tables w.number).used) log ∙ ap (λ n. (row_of p.log.tables n).used) number_same ∙ is.in_use;
+    at_version = ap (λ (a : Attributes). a.version) same ∙ is.at_version ∙ ap (version_of p) (sym number_same)
+        ∙ ap (λ (l : LogParts). (row_of l.tables w.number).version) (sym log);
+  }
+
+  pub replaced_others : (number : ℕ) → number ≢ v.number → waiting_in q.waiting.items number ≡ waiting_in p.waiting.items number
+  replaced_others number other = swap.others number (λ e. other (e ∙ number_same))
+
+  pub sets_record : (i a : ℕ) → q.cache ≡ p.cache → addresses w ≡ slice_set (addresses v) i a → Sets p q v i [] a
+  sets_record i a cache changed = record {
+    log = log;
+    parent = ap (λ n. table (tree_of q n) []) (sym number_same) ∙ record_table q w replaced_here ∙ changed
+        ∙ ap (λ ys. slice_set ys i a) (sym (record_table p v is));
+    root = λ some. absurd (some refl);
+    records = λ number other. record_same p q number log (replaced_others number other);
+    waits = λ key other. ap (λ (s : Contents). block_in key s.locked) cache;
+    record_only = λ _. cache;
+    many = ap (λ (s : Contents). length s.locked) cache;
+    still = tt;
+  }
+
+  pub stays_record : q.cache ≡ p.cache → IsContents p.cache → p.cache.lru ≡ [] → All (λ (x : Inode). IsPresent p x.number x.version) p.waiting.items
+      → q.waiting.items ≡ replaced p.waiting.items w → vec_capacity q.waiting ≡ vec_capacity p.waiting → StaysWaiting p q v
+  stays_record cache contents none present items room = record {
+    cache = subst IsContents (sym cache) contents;
+    none_clean = ap (λ (s : Contents). s.lru) cache ∙ none;
+    present = all_present p q p.waiting.items q.waiting.items log items present replaced_here;
+    room = room;
+    after = w;
+    here = replaced_here;
+    same = same;
+    others = replaced_others;
+    numbers = swap.numbers;
+  }
+    where
+      all_present : (p q : Parts) (xs ys : List Inode) → q.log ≡ p.log → ys ≡ replaced xs w → All (λ (x : Inode). IsPresent p x.number x.version) xs → IsWaiting q w
+          → All (λ (x : Inode). IsPresent q x.number x.version) ys
+      all_present p q xs ys log items present here =
+          subst (All (λ (x : Inode). IsPresent q x.number x.version)) (sym items)
+          (each_replaced (λ (x : Inode). IsPresent q x.number x.version) xs w (record { in_use = here.in_use; at_version = here.at_version })
+          (All-weaker (λ (x : Inode). IsPresent p x.number x.version) (λ (x : Inode). IsPresent q x.number x.version) (λ x h. present_kept p q x.number x.version log h) xs present))
+
+-- an address is set in the single indirect block
+module _ (p q : Parts) (v : Inode) (i a : ℕ) (b : List ℕ) (is : IsWaiting p v) (log : q.log ≡ p.log) (waiting : q.waiting.items ≡ p.waiting.items)
+    (was : block_in (key_of v.number v.version 1) p.cache.locked ≡ Some b) (h : SetsEntry p.cache q.cache (key_of v.number v.version 1) i a b) where
+  pub entry_here : IsWaiting q v
+  entry_here = record {
+    waits = ap (λ items. waiting_in items v.number) waiting ∙ is.waits;
+    in_use = ap (λ (l : LogParts). (row_of l.tables v.number).used) log ∙ is.in_use;
+    at_version = is.at_version ∙ ap (λ (l : LogParts). (row_of l.tables v.number).version) (sym log);
+  }
+
+  pub sets_entry : Sets p q v i (12 ∷ []) a
+  sets_entry = record {
+    log = log;
+    parent = single_table q v h.after entry_here h.rewritten.here ∙ h.changed ∙ ap (λ ys. slice_set ys i a) (sym (single_table p v b is was));
+    root = λ some. record_same p q v.number log (ap (λ items. waiting_in items v.number) waiting);
+    records = λ number other. record_same p q number log (ap (λ items. waiting_in items number) waiting);
+    waits = λ key other. h.rewritten.others key (subst (λ c. same_key (key_of v.number v.version c) key ≡ false) (code_at-way_to Single) other);
+    record_only = λ e. absurd (not_nil 12 [] e);
+    many = h.rewritten.many;
+    still = ap (λ c. is_some (block_in (key_of v.number v.version c) q.cache.locked)) (code_at-way_to Single) ∙ ap is_some h.rewritten.here;
+  }
+
+  pub stays_entry : p.cache.lru ≡ [] → All (λ (x : Inode). IsPresent p x.number x.version) p.waiting.items → vec_capacity q.waiting ≡ vec_capacity p.waiting → StaysWaiting p q v
+  stays_entry none present room = record {
+    cache = h.rewritten.formed;
+    none_clean = h.rewritten.none_clean;
+    present = subst (All (λ (x : Inode). IsPresent q x.number x.version)) (sym waiting)
+        (All-weaker (λ (x : Inode). IsPresent p x.number x.version) (λ (x : Inode). IsPresent q x.number x.version) (λ x was. present_kept p q x.number x.version log was) p.waiting.items present);
+    room = room;
+    after = v;
+    here = entry_here;
+    same = refl;
+    others = λ number other. ap (λ items. waiting_in items number) waiting;
+    numbers = ap numbers_of waiting;
+  }

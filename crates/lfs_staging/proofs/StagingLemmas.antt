@@ -1,0 +1,146 @@
+-- What staging keeps.
+use Rattle.std.proofs.Common.{◌≡◌, ◌≢◌, ℕ, zero, suc, ◌+◌, ◌≤◌, List, [], ◌∷◌, length, Option, None, Some, is_some, option_and_then, true, false, refl, sym, ap, ◌∙◌, subst, inl, inr}
+use Rattle.lfs_ifile.specs.declared.inode.InodePlace.{InodePlace}
+use Rattle.lfs_ifile.specs.Tables.{place_of, row_of}
+use Rattle.lfs_inodes.specs.declared.inode.Inode.{Inode}
+use Rattle.lfs_cache.specs.declared.key.Key.{Key}
+use Rattle.lfs_cache.specs.Keys.{same_key}
+use Rattle.lfs_cache.specs.Changes.{GainsOnly, IsContents}
+use Rattle.lfs_cache.specs.Contents.{Contents, IsLocked, block_in, block_of, drop_last, taken_by, without_key, written, written_by}
+use Rattle.lfs_cache.proofs.Entries.{same_is, same_cases}
+use Rattle.lfs_segments.specs.Memory.{block_at}
+use Rattle.lfs_log.specs.Parts.{LogParts}
+use Rattle.lfs_ways.specs.declared.blocks.FileBlock.{FileBlock}
+use Rattle.lfs_ways.specs.Blocks.{code_of, way_to}
+use Rattle.lfs_ways.specs.Reading.{Stages}
+use Rattle.lfs_ways.specs.Ways.{code_at}
+use Rattle.lfs_ways.proofs.WayLemmas.{known_way_of, way_of-code_of}
+use Rattle.lfs_ways.specs.Ways.{way_of}
+use Rattle.lfs_staging.specs.declared.parts.Parts.{Parts}
+use Rattle.lfs_staging.specs.Staging.{GrowsBy, StagesBlock, StagesRecord}
+use Rattle.lfs_staging.specs.View.{fields_at, key_of, record_of, root_in, tree_of, version_of, waiting_in, waiting_or}
+use Rattle.std.proofs.lemmas.Bool.{cond-true}
+use Rattle.std.specs.Vec.{vec_capacity}
+use Rattle.lfs_staging.specs.Waiting.{without}
+use Rattle.lfs_staging.proofs.WaitingLemmas.{waiting-head, waiting-staged}
+use Rattle.lfs_staging.proofs.ViewLemmas.{code_at-way_to, record_of-waiting}
+
+-- ---- records
+-- a record is the same where the log and what waits of the number are
+pub record_of-same : (old new : Parts) (n : ℕ) → new.log ≡ old.log → waiting_in new.waiting.items n ≡ waiting_in old.waiting.items n → record_of new n ≡ record_of old n
+unfolding record_of
+record_of-same old new n log waits =
+    ap (λ (l : LogParts). option_and_then (λ (place : InodePlace). waiting_or (waiting_in new.waiting.items n) (fields_at l.memory place)) (place_of l.tables n)) log
+    ∙ ap (λ w. option_and_then (λ (place : InodePlace). waiting_or w (fields_at old.log.memory place)) (place_of old.log.tables n)) waits
+
+pub version-same : (old new : Parts) (n : ℕ) → new.log ≡ old.log → version_of new n ≡ version_of old n
+version-same old new n log = ap (λ (l : LogParts). (row_of l.tables n).version) log
+
+-- ---- frames
+pub key-apart : (a b : Key) → (a ≢ b) → same_key a b ≡ false
+key-apart a b other = elim (same_cases a b) [
+  | inl same ↦ absurd (other (same_is a b same))
+  | inr apart ↦ apart
+]
+
+taken_lru : (empty age : ℕ) (s : Contents) → s.lru ≡ [] → (taken_by empty age s).lru ≡ []
+taken_lru (suc empty) age s none = none
+taken_lru zero (suc age) s none = none
+taken_lru zero zero s none = ap drop_last none
+
+written_lru-by : (o : Option (List ℕ)) (k : Key) (b : List ℕ) (s : Contents) → s.lru ≡ [] → (written_by o k b s).lru ≡ []
+written_lru-by None k b s none = taken_lru s.empty s.age s none
+written_lru-by (Some x) k b s none = ap (without_key k) none
+
+pub written_lru : (k : Key) (b : List ℕ) (s : Contents) → s.lru ≡ [] → (written k b s).lru ≡ []
+written_lru k b s none = written_lru-by (block_of k s) k b s none
+
+-- a key other than the one that was written waits as it did
+pub grown : (key : Key) (old new : Parts) → (formed : IsContents new.cache) → new.cache.lru ≡ [] → IsLocked key new.cache → GainsOnly key old.cache new.cache
+    → length new.cache.locked ≤ length old.cache.locked + 1 → (IsLocked key old.cache → length new.cache.locked ≡ length old.cache.locked) → GrowsBy key old new
+grown key old new formed lru here gains more none = record {
+  formed = formed;
+  none_clean = lru;
+  here = here;
+  kept = λ other locked. elim (same_cases key other) [
+    | inl same ↦ subst (λ k. IsLocked k new.cache) (same_is key other same) here
+    | inr apart ↦ ap is_some (gains.dirty other apart) ∙ locked
+  ];
+  only = λ other locked. elim (same_cases key other) [
+    | inl same ↦ inl (sym (same_is key other same))
+    | inr apart ↦ inr (sym (ap is_some (gains.dirty other apart)) ∙ locked)
+  ];
+  one_more = more;
+  none_more = none;
+}
+
+-- ---- trees
+-- Where the log and the records stay, bytes that wait under one key change what waits for that block alone.
+module _ (old new : Parts) (number : ℕ) (block : FileBlock) (bytes : List ℕ) (log : new.log ≡ old.log) (records : (n : ℕ) → record_of new n ≡ record_of old n)
+    (here : block_in (key_of number (version_of old number) (code_of block)) new.cache.locked ≡ Some bytes)
+    (gains : (other : Key) → same_key (key_of number (version_of old number) (code_of block)) other ≡ false → block_in other new.cache.locked ≡ block_in other old.cache.locked) where
+  pub tree-others : (n : ℕ) → n ≢ number → tree_of new n ≡ tree_of old n
+  tree-others n other =
+      let waits : (way : List ℕ) → (tree_of new n).waits way ≡ (tree_of old n).waits way
+      = λ way.
+      ap (λ v. block_in (key_of n v (code_at way)) new.cache.locked) (version-same old new n log)
+      ∙ gains (key_of n (version_of old n) (code_at way)) (key-apart (key_of number (version_of old number) (code_of block)) (key_of n (version_of old n) (code_at way)) (λ e. other (sym (ap (λ (k : Key). k.ino) e)))) in
+      λ i. record { root = root_in (records n i); waits = λ way. waits way i; block = λ a. (tree_blocks a) i }
+    where
+      tree_blocks : (a : ℕ) → (tree_of new 0).block a ≡ (tree_of old 0).block a
+      tree_blocks a = ap (λ (l : LogParts). block_at l.memory a) log
+
+  pub tree-staged : Stages (tree_of old number) (tree_of new number) (way_to block) bytes
+  tree-staged = record {
+    root = ap root_in (records number);
+    waiting = ap (λ v. block_in (key_of number v (code_at (way_to block))) new.cache.locked) (version-same old new number log)
+        ∙ ap (λ c. block_in (key_of number (version_of old number) c) new.cache.locked) (code_at-way_to block) ∙ here;
+    waits = λ way known other.
+        ap (λ v. block_in (key_of number v (code_at way)) new.cache.locked) (version-same old new number log)
+        ∙ gains (key_of number (version_of old number) (code_at way)) (key-apart (key_of number (version_of old number) (code_of block)) (key_of number (version_of old number) (code_at way)) (λ e. other (sym (known_way_of way known) ∙ ap way_of (sym (ap (λ (k : Key). k.lbn) e)) ∙ way_of-code_of block)));
+    blocks = λ a. ap (λ (l : LogParts). block_at l.memory a) log;
+  }
+
+-- ---- a record
+used_place : (p : Parts) (n : ℕ) → (row_of p.log.tables n).used ≡ true
+    → place_of p.log.tables n ≡ Some (record { addr = (row_of p.log.tables n).address; slot = (row_of p.log.tables n).slot; version = (row_of p.log.tables n).version })
+used_place p n used = cond-true _ _ _ used
+
+pub staged_record : (old new : Parts) (v : Inode) → new.log ≡ old.log → new.cache ≡ old.cache → new.waiting.items ≡ v ∷ without v.number old.waiting.items
+    → vec_capacity new.waiting ≡ vec_capacity old.waiting → (row_of old.log.tables v.number).used ≡ true → StagesRecord v old new
+staged_record old new v log cache waiting room used = record {
+  log = log;
+  cache = cache;
+  waiting = waiting;
+  room = room;
+  here =
+      let now : (row_of new.log.tables v.number).used ≡ true = ap (λ (l : LogParts). (row_of l.tables v.number).used) log ∙ used in
+      record_of-waiting new v.number _ v (used_place new v.number now) (ap (λ vs. waiting_in vs v.number) waiting ∙ waiting-head v (without v.number old.waiting.items) v.number refl);
+  others = λ n other. record_of-same old new n log (ap (λ vs. waiting_in vs n) waiting ∙ waiting-staged v old.waiting.items n other);
+}
+
+-- ---- a block
+pub staged_block : (old new : Parts) (number version lbn : ℕ) (block : FileBlock) (bytes : List ℕ) → version ≡ version_of old number → lbn ≡ code_of block
+    → new.log ≡ old.log → new.waiting.items ≡ old.waiting.items → vec_capacity new.waiting ≡ vec_capacity old.waiting → old.cache.lru ≡ []
+    → new.cache ≡ written (key_of number version lbn) bytes old.cache → block_in (key_of number version lbn) new.cache.locked ≡ Some bytes
+    → GainsOnly (key_of number version lbn) old.cache new.cache → length new.cache.locked ≤ length old.cache.locked + 1
+    → (IsLocked (key_of number version lbn) old.cache → length new.cache.locked ≡ length old.cache.locked) → IsContents new.cache
+    → StagesBlock number block bytes old new
+staged_block old new number version lbn block bytes at code log waiting room lru contents here gains more none formed =
+    let key : key_of number version lbn ≡ key_of number (version_of old number) (code_of block) = λ i. key_of number (at i) (code i) in
+    let held : block_in (key_of number (version_of old number) (code_of block)) new.cache.locked ≡ Some bytes
+    = subst (λ k. block_in k new.cache.locked ≡ Some bytes) key here in
+    let gained : GainsOnly (key_of number (version_of old number) (code_of block)) old.cache new.cache
+    = subst (λ k. GainsOnly k old.cache new.cache) key gains in
+    let records : (n : ℕ) → record_of new n ≡ record_of old n = λ n. record_of-same old new n log (ap (λ vs. waiting_in vs n) waiting) in
+    record {
+      log = log;
+      waiting = waiting;
+      room = room;
+      staged = tree-staged old new number block bytes log records held gained.dirty;
+      others = tree-others old new number block bytes log records held gained.dirty;
+      frames = grown (key_of number (version_of old number) (code_of block)) old new formed
+          (ap (λ (s : Contents). s.lru) contents ∙ written_lru (key_of number version lbn) bytes old.cache lru)
+          (ap is_some held) gained more
+          (λ locked. none (subst (λ k. IsLocked k old.cache) (sym key) locked));
+    }

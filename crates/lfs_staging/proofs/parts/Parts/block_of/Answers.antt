@@ -1,0 +1,11 @@
+use Rattle.std.proofs.Common.{sym, ap, ◌∙◌}
+use Rattle.lfs_ways.specs.Blocks.{way_to}
+use Rattle.lfs_ways.specs.Reading.{bytes_via}
+use Rattle.lfs_ways.proofs.ReadingLemmas.{read-via}
+use Rattle.lfs_staging.specs.View.{tree_from}
+use Rattle.lfs_staging.proofs.parts.Parts.block_of.Goals as goal
+
+pub returns : goal.returns
+returns c =
+    let t = tree_from c.args.self.now c.args.inode.now in
+    c.bytes_via.ensures ∙ ap (bytes_via t (way_to c.args.block)) c.address_of.ensures ∙ sym (read-via t (way_to c.args.block))

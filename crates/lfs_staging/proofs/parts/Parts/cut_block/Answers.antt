@@ -1,0 +1,33 @@
+use Rattle.std.proofs.Common.{sym, ap, ◌∙◌, subst, arith, ◌<◌}
+use Rattle.lfs_inodes.specs.Reading.{fields_of}
+use Rattle.lfs_ways.specs.Reading.{read}
+use Rattle.lfs_ways.specs.Ways.{data_way}
+use Rattle.lfs_staging.specs.View.{LiesIn, blocks_of, tree_of}
+use Rattle.lfs_staging.proofs.CutLemmas.{cut_one}
+use Rattle.lfs_staging.proofs.FileLemmas.{tree_from-of}
+use Rattle.lfs_staging.proofs.ReadLemmas.{data_block-read}
+use Rattle.lfs_staging.proofs.parts.Parts.cut_block.Goals as goal
+
+pub block_of-requires-clause-inside : goal.block_of-requires-clause-inside
+block_of-requires-clause-inside c =
+    let p = c.args.self.now in
+    let v = c.args.inode.now in
+    let same = tree_from-of p v.number v c.requires.may.here (c.requires.may.files.files v.number (fields_of v) c.requires.may.here) in
+    subst (LiesIn (blocks_of p)) (sym same) c.requires.may.inside
+
+pub stage_block-requires-clause-version : goal.stage_block-requires-clause-version
+stage_block-requires-clause-version c =
+    (c.requires.may.files.files c.args.inode.now.number (fields_of c.args.inode.now) c.requires.may.here).own_version
+
+pub returns : goal.returns
+returns c =
+    let p = c.args.self.now in
+    let v = c.args.inode.now in
+    let file = c.requires.may.files.files v.number (fields_of v) c.requires.may.here in
+    let same = tree_from-of p v.number v c.requires.may.here file in
+    let most = file.formed.sized.0 in
+    let inside = c.requires.within in
+    let low : c.args.index < 140 = omega arith in
+    let block = c.block_of.ensures ∙ ap (λ t. read t (data_way c.args.index)) same ∙ sym (data_block-read (tree_of p v.number) c.args.index low) in
+    cut_one p c.stage_block.new.self v c.args.index c.args.len c.block_of.result.now c.cut_piece.new.block c.requires.may c.requires.staged c.requires.parents
+    c.stage_block.ensures inside block c.cut_piece.ensures c.requires.less

@@ -1,0 +1,47 @@
+use Rattle.std.proofs.Common.{◌≡◌, ◌⊎◌, ◌+◌, ◌<◌, ◌≤◌, length, ap, ◌∙◌, subst}
+use Rattle.lfs_cache.specs.Contents.{Contents}
+use Rattle.lfs_ways.specs.Reading.{address}
+use Rattle.lfs_inodes.specs.Reading.{fields_of}
+use Rattle.lfs_staging.proofs.FileLemmas.{given_record}
+use Rattle.lfs_staging.specs.Putting.{blocks_of_put}
+use Rattle.lfs_staging.specs.Waiting.{without}
+use Rattle.lfs_staging.proofs.GrowthLemmas.{may_from, one_record, put_frames, put_shown}
+use Rattle.lfs_staging.proofs.parts.Parts.put.Goals as goal
+
+pub grow-inode-requires-clause-may : goal.grow-inode-requires-clause-may
+grow-inode-requires-clause-may c =
+    let p = c.args.self.now in
+    may_from p c.in-Some.inode c.args.ino c.requires.may
+    (given_record p c.args.ino c.record.result c.in-Some.inode c.record.ensures c.in-Some.is)
+
+pub grow-inode-requires-clause-sized : goal.grow-inode-requires-clause-sized
+grow-inode-requires-clause-sized c =
+    c.requires.fits.sized (fields_of c.in-Some.inode)
+    (given_record c.args.self.now c.args.ino c.record.result c.in-Some.inode c.record.ensures c.in-Some.is)
+
+pub returns-clause-content : goal.returns-clause-content
+returns-clause-content c =
+    let p = c.args.self.now in
+    put_shown p c.grow-inode.new.self c.put_blocks.new.self c.in-Some.inode c.grow-inode.result c.args.ino c.args.off c.args.bytes.now c.requires.may c.requires.fits.some
+    (given_record p c.args.ino c.record.result c.in-Some.inode c.record.ensures c.in-Some.is) c.grow-inode.ensures c.put_blocks.ensures
+
+pub returns-clause-kept : goal.returns-clause-kept
+returns-clause-kept c = λ spare staged. c.put_blocks.ensures.kept spare (c.grow-inode.ensures.kept spare staged)
+
+pub returns-clause-addresses : goal.returns-clause-addresses
+returns-clause-addresses c = λ n way known. c.put_blocks.ensures.addresses n way known ∙ ap (λ t. address t way) (c.grow-inode.ensures.blocks n)
+
+pub returns-clause-frames : goal.returns-clause-frames
+returns-clause-frames c =
+    let same : length c.grow-inode.new.self.cache.locked ≡ length c.args.self.now.cache.locked = ap (λ (s : Contents). length s.locked) c.grow-inode.ensures.cache in
+    put_frames c.args.self.now c.put_blocks.new.self c.args.off (length c.args.bytes.now) (subst (λ n.
+    (length c.put_blocks.new.self.cache.locked ≤ n + blocks_of_put c.args.off (length c.args.bytes.now))
+    ⊎ ((6144 < c.args.off + length c.args.bytes.now) × (length c.put_blocks.new.self.cache.locked ≤ n + blocks_of_put c.args.off (length c.args.bytes.now) + 1))) same
+    c.put_blocks.ensures.frames)
+
+pub returns-clause-waiting : goal.returns-clause-waiting
+returns-clause-waiting c =
+    let v = c.in-Some.inode in
+    one_record c.args.self.now c.put_blocks.new.self v.number
+    (subst (λ n. without n c.put_blocks.new.self.waiting.items ≡ without n c.grow-inode.new.self.waiting.items) c.grow-inode.ensures.number c.put_blocks.ensures.waiting
+    ∙ c.grow-inode.ensures.room)

@@ -1,0 +1,22 @@
+use Rattle.lfs_staging.proofs.KeptLemmas.{data_again, data_kept, may_present, present_kept, staged_data}
+use Rattle.lfs_staging.proofs.parts.Parts.stage_data.Goals as goal
+
+pub stage_block-requires-clause-version : goal.stage_block-requires-clause-version
+stage_block-requires-clause-version c =
+    let v = c.args.inode.now in
+    (present_kept c.args.self.now c.stage_parents.new.self v.number v.version c.stage_parents.ensures.same.log (may_present c.args.self.now v c.requires.may)).at_version
+
+pub returns-clause-staged : goal.returns-clause-staged
+returns-clause-staged c =
+    staged_data c.args.self.now c.stage_parents.new.self c.stage_block.new.self c.args.inode.now.number c.args.index c.args.bytes.now c.requires.block
+    c.stage_parents.ensures c.stage_block.ensures
+
+pub returns-clause-again : goal.returns-clause-again
+returns-clause-again c =
+    data_again c.args.self.now c.stage_parents.new.self c.stage_block.new.self c.args.inode.now c.args.index c.args.bytes.now c.requires.block
+    c.requires.may c.stage_parents.ensures c.stage_block.ensures c.told-bytes c.requires.zeros
+
+pub returns-clause-kept : goal.returns-clause-kept
+returns-clause-kept c =
+    data_kept c.args.self.now c.stage_parents.new.self c.stage_block.new.self c.args.inode.now c.args.index c.args.bytes.now c.requires.block
+    c.requires.within c.requires.may c.stage_parents.ensures c.stage_block.ensures (returns-clause-again c)

@@ -1,0 +1,36 @@
+use Rattle.std.proofs.Common.{◌∷◌, [], sym, ap, ◌∙◌, subst}
+use Rattle.lfs_inodes.specs.Reading.{fields_of}
+use Rattle.lfs_ways.specs.declared.blocks.FileBlock.TheVariants.{Single}
+use Rattle.lfs_ways.specs.Reading.{read}
+use Rattle.lfs_staging.specs.Staging.{StagesBlock}
+use Rattle.lfs_cache.specs.Contents.{IsLocked}
+use Rattle.lfs_staging.specs.View.{LiesIn, blocks_of, key_of}
+use Rattle.lfs_staging.proofs.FileLemmas.{tree_from-of}
+use Rattle.lfs_staging.proofs.KeptLemmas.{single_staged}
+use Rattle.lfs_staging.proofs.parts.Parts.stage_single.Goals as goal
+
+pub block_of-requires-clause-inside : goal.block_of-requires-clause-inside
+block_of-requires-clause-inside c =
+    let p = c.args.self.now in
+    let v = c.args.inode.now in
+    let same = tree_from-of p v.number v c.requires.here (c.requires.files.files v.number (fields_of v) c.requires.here) in
+    subst (LiesIn (blocks_of p)) (sym same) c.requires.inside
+
+pub returns-then-waits_single : goal.returns-then-waits_single
+returns-then-waits_single c =
+    let p = c.args.self.now in
+    let v = c.args.inode.now in
+    let own = (c.requires.files.files v.number (fields_of v) c.requires.here).own_version in
+    single_staged p v.number c.requires.files.cache c.requires.files.readable.none_clean
+    (subst (λ version. IsLocked (key_of v.number version 1) p.cache) own (c.waits_single.ensures.0 c.if-waits_single.true))
+
+pub stage_block-requires-clause-version : goal.stage_block-requires-clause-version
+stage_block-requires-clause-version c =
+    (c.requires.files.files c.args.inode.now.number (fields_of c.args.inode.now) c.requires.here).own_version
+
+pub returns : goal.returns
+returns c =
+    let p = c.args.self.now in
+    let v = c.args.inode.now in
+    let same = tree_from-of p v.number v c.requires.here (c.requires.files.files v.number (fields_of v) c.requires.here) in
+    subst (λ bytes. StagesBlock v.number Single bytes p c.stage_block.new.self) (c.block_of.ensures ∙ ap (λ t. read t (12 ∷ [])) same) c.stage_block.ensures

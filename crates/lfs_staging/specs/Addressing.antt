@@ -1,0 +1,81 @@
+-- The address of a block is set in what holds it, which waits: the record, or the single indirect block.
+use Rattle.std.specs.Prelude.{map, ◌≡◌, ◌≢◌, ℕ, List, [], ◌∷◌, length, Some, true, false, ◌==◌, slice_set, All, ⊤}
+use Rattle.std.specs.List.{position_or_len}
+use Rattle.std.specs.Vec.{vec_capacity}
+use Rattle.lfs_ifile.specs.Tables.{row_of}
+use Rattle.lfs_inodes.specs.declared.inode.Inode.{Inode}
+use Rattle.lfs_inodes.specs.Addresses.{cells}
+use Rattle.lfs_inodes.specs.Attributes.{attributes}
+use Rattle.lfs_cache.specs.declared.key.Key.{Key}
+use Rattle.lfs_cache.specs.Changes.{IsContents}
+use Rattle.lfs_cache.specs.Contents.{Contents, IsLocked, block_in}
+use Rattle.lfs_cache.specs.Keys.{same_key}
+use Rattle.lfs_ways.specs.Reading.{table}
+use Rattle.lfs_ways.specs.Ways.{code_at}
+use Rattle.lfs_staging.specs.declared.parts.Parts.{Parts}
+use Rattle.lfs_staging.specs.Store.{IsPresent}
+use Rattle.lfs_staging.specs.View.{key_of, record_of, tree_of, version_of, waiting_in}
+
+-- some records with another one in place of the first of its number
+abbrev pub replaced : List Inode → Inode → List Inode
+replaced records v = slice_set records (position_or_len (λ (w : Inode). w.number == v.number) records) v
+
+-- their numbers, in order
+abbrev pub numbers_of : List Inode → List ℕ
+numbers_of records = map (λ (v : Inode). v.number) records
+
+-- Of some records, that of a number was replaced.
+pub record Replaces (old new : List Inode) (v : Inode) : Type 0 where
+  pub here : waiting_in new v.number ≡ Some v
+  pub others : (number : ℕ) → number ≢ v.number → waiting_in new number ≡ waiting_in old number
+  pub numbers : numbers_of new ≡ numbers_of old
+
+-- an inode is the record that waits of its number, which is in use at its version
+pub record IsWaiting (p : Parts) (v : Inode) : Type 0 where
+  pub waits : waiting_in p.waiting.items v.number ≡ Some v
+  pub in_use : (row_of p.log.tables v.number).used ≡ true
+  pub at_version : v.version ≡ version_of p v.number
+
+-- In a cache that holds nothing clean, other bytes wait for a key, and nothing else changed.
+pub record Rewrites (old new : Contents) (key : Key) (block : List ℕ) : Type 0 where
+  pub here : block_in key new.locked ≡ Some block
+  pub others : (other : Key) → same_key key other ≡ false → block_in other new.locked ≡ block_in other old.locked
+  pub none_clean : new.lru ≡ []
+  pub formed : IsContents new
+  pub many : length new.locked ≡ length old.locked
+
+-- what holds the address of a block waits: the record, or the single indirect block
+abbrev pub ParentWaits : Parts → Inode → List ℕ → Type 0
+ParentWaits p v [] = ⊤
+ParentWaits p v (i ∷ up) = IsLocked (key_of v.number v.version (code_at (i ∷ up))) p.cache
+
+-- An address was set in a block of a file, or in its record, at a place: what holds it waits, and nothing else of any
+-- file changed.
+pub record Sets (old new : Parts) (v : Inode) (i : ℕ) (up : List ℕ) (a : ℕ) : Type 0 where
+  pub log : new.log ≡ old.log
+  pub parent : table (tree_of new v.number) up ≡ slice_set (table (tree_of old v.number) up) i a
+  pub root : up ≢ [] → record_of new v.number ≡ record_of old v.number
+  pub records : (number : ℕ) → number ≢ v.number → record_of new number ≡ record_of old number
+  pub waits : (key : Key) → same_key (key_of v.number v.version (code_at up)) key ≡ false
+      → block_in key new.cache.locked ≡ block_in key old.cache.locked
+  pub record_only : up ≡ [] → new.cache ≡ old.cache
+  pub many : length new.cache.locked ≡ length old.cache.locked
+  pub still : ParentWaits new v up
+
+-- What waits is still formed: the record of the number too, which has the attributes that it had.
+pub record StaysWaiting (old new : Parts) (v : Inode) : Type 0 where
+  pub cache : IsContents new.cache
+  pub none_clean : new.cache.lru ≡ []
+  pub present : All (λ (w : Inode). IsPresent new w.number w.version) new.waiting.items
+  pub room : vec_capacity new.waiting ≡ vec_capacity old.waiting
+  pub after : Inode
+  pub here : IsWaiting new after
+  pub same : attributes after ≡ attributes v
+  pub others : (number : ℕ) → number ≢ v.number → waiting_in new.waiting.items number ≡ waiting_in old.waiting.items number
+  pub numbers : numbers_of new.waiting.items ≡ numbers_of old.waiting.items
+
+-- An address was set in an indirect block that waits.
+pub record SetsEntry (old new : Contents) (key : Key) (index address : ℕ) (before : List ℕ) : Type 0 where
+  pub after : List ℕ
+  pub changed : cells after ≡ slice_set (cells before) index address
+  pub rewritten : Rewrites old new key after

@@ -1,0 +1,47 @@
+-- A change of a store's content that waits: what it leaves of the log, and the frames and records that it takes.
+use Rattle.std.specs.Prelude.{◌≡◌, ℕ, ◌+◌, ◌*◌, ◌%◌, length, if◌then◌else◌, ◌==◌, nat_lt, ⊤}
+use Rattle.lfs_types.specs.declared.block.TheConstants.{BLOCK_SIZE}
+use Rattle.lfs_types.specs.declared.store.Change.{Change}
+use Rattle.lfs_types.specs.declared.store.Change.TheVariants.{Make, Remove, SetAttrs, Put, SetLength}
+use Rattle.lfs_ways.specs.declared.blocks.TheConstants.{DIRECT_BLOCKS}
+use Rattle.lfs_ways.specs.Moves.{Moves}
+use Rattle.lfs_staging.specs.declared.parts.Parts.{Parts}
+use Rattle.lfs_staging.specs.Keys.{log_state}
+use Rattle.lfs_staging.specs.Putting.{blocks_of_put}
+
+-- Nothing was written: the segments' blocks, how each is used and how many are clean are as before; a key has the place
+-- that it had, in a number of the same version, or none.
+pub record StaysInLog (old new : Parts) : Type 0 where
+  pub memory : new.log.memory ≡ old.log.memory
+  pub states : new.log.tables.states ≡ old.log.tables.states
+  pub clean : new.log.clean ≡ old.log.clean
+  pub numbers : length new.log.tables.rows ≡ length old.log.tables.rows
+  pub moves : Moves (λ segment. ⊤) (log_state old) (log_state new)
+
+-- one frame for the single indirect block, where a file's bytes up to this one reach past its direct blocks
+abbrev pub frames_of_single : ℕ → ℕ
+frames_of_single end = if nat_lt (DIRECT_BLOCKS * BLOCK_SIZE) end then 1 else 0
+
+-- the frames that bytes put into a file take at most
+abbrev pub frames_of_put : ℕ → ℕ → ℕ
+frames_of_put start count = blocks_of_put start count + frames_of_single (start + count)
+
+-- the frames that a length takes at most: one for its last block, where it ends within it
+abbrev pub frames_of_length : ℕ → ℕ
+frames_of_length len = (if len % BLOCK_SIZE == 0 then 0 else 1) + frames_of_single len
+
+-- the frames that a change takes at most
+abbrev pub frames_of : Change → ℕ
+frames_of (Make ino attrs) = 0
+frames_of (Remove ino) = 0
+frames_of (SetAttrs ino attrs) = 0
+frames_of (Put ino off bytes) = if length bytes.now == 0 then 0 else frames_of_put off (length bytes.now)
+frames_of (SetLength ino len) = frames_of_length len
+
+-- the records that it has wait at most
+abbrev pub records_of : Change → ℕ
+records_of (Make ino attrs) = 1
+records_of (Remove ino) = 0
+records_of (SetAttrs ino attrs) = 1
+records_of (Put ino off bytes) = if length bytes.now == 0 then 0 else 1
+records_of (SetLength ino len) = 1

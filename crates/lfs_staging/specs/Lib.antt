@@ -1,0 +1,13 @@
+pub mod Files
+pub mod Filling
+pub mod Keys
+pub mod Making
+pub mod Opening
+pub mod Store
+pub mod View
+pub mod Staging
+pub mod Waiting
+pub mod Putting
+pub mod Changing
+pub mod Cutting
+pub mod Addressing

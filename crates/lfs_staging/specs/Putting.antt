@@ -1,0 +1,120 @@
+-- Bytes put into a file.
+use Rattle.std.specs.Prelude.{◌≡◌, ◌≢◌, ℕ, ◌+◌, ◌-◌, ◌*◌, ◌/◌, ◌<◌, ◌≤◌, ◌⊎◌, max, List, length, Some, true}
+use Rattle.std.specs.FinMap as map
+use Rattle.lfs_types.specs.Changes.{changed_at}
+use Rattle.lfs_types.specs.Splicing.{splice}
+use Rattle.lfs_types.specs.Tree.{Content, file_of}
+use Rattle.lfs_types.specs.declared.attrs.Attrs.{Attrs}
+use Rattle.lfs_inodes.specs.declared.inode.Inode.{Inode}
+use Rattle.lfs_inodes.specs.Reading.{Fields, fields_of}
+use Rattle.lfs_cache.specs.Contents.{IsLocked}
+use Rattle.lfs_ways.specs.declared.blocks.TheConstants.{DIRECT_BLOCKS}
+use Rattle.lfs_ways.specs.Pieces.{IsPut}
+use Rattle.lfs_ways.specs.Reading.{address, data_block}
+use Rattle.lfs_ways.specs.Ways.{IsKnown}
+use Rattle.lfs_staging.specs.declared.parts.Parts.{Parts}
+use Rattle.lfs_types.specs.declared.block.TheConstants.{BLOCK_SIZE}
+use Rattle.lfs_types.specs.declared.limits.TheConstants.{FILE_BYTES}
+use Rattle.lfs_ifile.specs.Tables.{row_of}
+use Rattle.lfs_inodes.specs.Facts.{IsSizeOf}
+use Rattle.lfs_staging.specs.declared.parts.TheConstants.{WAITING_LIMIT}
+use Rattle.lfs_staging.specs.Staging.{IsStaged, MayStage, ParentsWait, TakesFrames}
+use Rattle.lfs_staging.specs.Store.{AreFiles}
+use Rattle.lfs_staging.specs.Waiting.{without}
+use Rattle.lfs_staging.specs.View.{LiesIn, blocks_of, key_of, record_of, tree_of, version_of}
+
+-- how many blocks some bytes at a place of a file fall into, at least one
+abbrev pub blocks_of_put : ℕ → ℕ → ℕ
+blocks_of_put start count = (start + count - 1) / BLOCK_SIZE + 1 - start / BLOCK_SIZE
+
+-- What falls of some bytes, put at `start` of a file, into one of its data blocks is there, and nothing else changed.
+pub record PutsBlock (v : Inode) (index start : ℕ) (bytes : List ℕ) (old new : Parts) : Type 0 where
+  pub log : new.log ≡ old.log
+  pub records : (n : ℕ) → record_of new n ≡ record_of old n
+  pub put : IsPut index start bytes (data_block (tree_of old v.number) index) (data_block (tree_of new v.number) index)
+  pub rest : (m : ℕ) → m ≢ index → data_block (tree_of new v.number) m ≡ data_block (tree_of old v.number) m
+  pub others : (n m : ℕ) → n ≢ v.number → data_block (tree_of new n) m ≡ data_block (tree_of old n) m
+  pub addresses : (n : ℕ) (way : List ℕ) → IsKnown way → address (tree_of new n) way ≡ address (tree_of old n) way
+  pub again : MayStage new v
+  pub kept : (spare : ℕ) → IsStaged old spare → IsStaged new spare
+  pub takes : TakesFrames v.number index old new
+
+-- Blocks of a number from one to before another wait: a frame more for each, and one for the single indirect block where
+-- one of them lies past the direct blocks.
+pub record TakesBelow (number first before : ℕ) (old new : Parts) : Type 0 where
+  pub frames : (length new.cache.locked + first ≤ length old.cache.locked + before)
+      ⊎ ((DIRECT_BLOCKS < before) × (length new.cache.locked + first ≤ length old.cache.locked + before + 1)
+      × IsLocked (key_of number (version_of new number) 1) new.cache)
+  pub records : without number new.waiting.items ≡ without number old.waiting.items
+
+-- What falls into the blocks below one of some bytes put at `start` of a file is there, and nothing else changed.
+pub record PutsBelow (v : Inode) (start : ℕ) (bytes : List ℕ) (before : ℕ) (old new : Parts) : Type 0 where
+  pub log : new.log ≡ old.log
+  pub records : (n : ℕ) → record_of new n ≡ record_of old n
+  pub put : (m : ℕ) → m < before → IsPut m start bytes (data_block (tree_of old v.number) m) (data_block (tree_of new v.number) m)
+  pub rest : (m : ℕ) → before ≤ m → data_block (tree_of new v.number) m ≡ data_block (tree_of old v.number) m
+  pub others : (n m : ℕ) → n ≢ v.number → data_block (tree_of new n) m ≡ data_block (tree_of old n) m
+  pub addresses : (n : ℕ) (way : List ℕ) → IsKnown way → address (tree_of new n) way ≡ address (tree_of old n) way
+  pub again : MayStage new v
+  pub kept : (spare : ℕ) → IsStaged old spare → IsStaged new spare
+
+-- Bytes put at `start` of a file are there: what falls of them into each of its data blocks. Nothing else changed.
+pub record PutsBytes (v : Inode) (start : ℕ) (bytes : List ℕ) (old new : Parts) : Type 0 where
+  pub log : new.log ≡ old.log
+  pub records : (n : ℕ) → record_of new n ≡ record_of old n
+  pub put : (m : ℕ) → IsPut m start bytes (data_block (tree_of old v.number) m) (data_block (tree_of new v.number) m)
+  pub others : (n m : ℕ) → n ≢ v.number → data_block (tree_of new n) m ≡ data_block (tree_of old n) m
+  pub addresses : (n : ℕ) (way : List ℕ) → IsKnown way → address (tree_of new n) way ≡ address (tree_of old n) way
+  pub again : MayStage new v
+  pub kept : (spare : ℕ) → IsStaged old spare → IsStaged new spare
+  pub frames : (length new.cache.locked ≤ length old.cache.locked + blocks_of_put start (length bytes))
+      ⊎ ((DIRECT_BLOCKS * BLOCK_SIZE < start + length bytes)
+      × (length new.cache.locked ≤ length old.cache.locked + blocks_of_put start (length bytes) + 1))
+  pub waiting : without v.number new.waiting.items ≡ without v.number old.waiting.items
+
+-- The record of a file waits with a size of at least so many bytes. Nothing else changed.
+pub record GrowsTo (v w : Inode) (size : ℕ) (old new : Parts) : Type 0 where
+  pub log : new.log ≡ old.log
+  pub cache : new.cache ≡ old.cache
+  pub number : w.number ≡ v.number
+  pub size_is : w.size ≡ max v.size size
+  pub here : record_of new v.number ≡ Some (record (fields_of v) { attributes = record ((fields_of v).attributes) { size = max v.size size } })
+  pub others : (n : ℕ) → n ≢ v.number → record_of new n ≡ record_of old n
+  pub blocks : (n : ℕ) → tree_of new n ≡ tree_of old n
+  pub again : MayStage new w
+  pub kept : (spare : ℕ) → IsStaged old spare → IsStaged new spare
+  pub room : without v.number new.waiting.items ≡ without v.number old.waiting.items
+
+-- the content with bytes put at a place of a file
+abbrev pub with_put : ℕ → ℕ → List ℕ → Content → Content
+with_put number start bytes c = changed_at (map.get c number) number (λ f. record f { bytes = splice f.bytes start bytes }) c
+
+-- The record of a file waits with other attributes, and the file's blocks stay. Nothing else changed.
+pub record ChangesRecord (v w : Inode) (old new : Parts) : Type 0 where
+  pub log : new.log ≡ old.log
+  pub cache : new.cache ≡ old.cache
+  pub here : record_of new v.number ≡ Some (fields_of w)
+  pub others : (n : ℕ) → n ≢ v.number → record_of new n ≡ record_of old n
+  pub blocks : (n : ℕ) → tree_of new n ≡ tree_of old n
+  pub again : MayStage new w
+  pub kept : (spare : ℕ) → IsStaged old spare → IsStaged new spare
+  pub room : without v.number new.waiting.items ≡ without v.number old.waiting.items
+
+-- the content with other attributes of a file, whose bytes stay
+abbrev pub with_attrs : ℕ → Attrs → Content → Content
+with_attrs number attrs c = changed_at (map.get c number) number (λ f. file_of attrs f.bytes) c
+
+-- A file may be changed: its number is in use, and there is room for its record.
+pub record MayChange (p : Parts) (number : ℕ) : Type 0 where
+  pub files : AreFiles p
+  pub parents : ParentsWait p
+  pub inside : LiesIn (blocks_of p) (tree_of p number)
+  pub in_range : number < length p.log.tables.rows
+  pub in_use : (row_of p.log.tables number).used ≡ true
+  pub records : length (without number p.waiting.items) < WAITING_LIMIT
+
+-- Bytes may be put at a place of a file: there are some, and it may have the size that it gets.
+pub record MayPut (p : Parts) (number start : ℕ) (bytes : List ℕ) : Type 0 where
+  pub some : 0 < length bytes
+  pub bounded : start + length bytes ≤ FILE_BYTES
+  pub sized : (f : Fields) → record_of p number ≡ Some f → IsSizeOf f.attributes.kind (max f.attributes.size (start + length bytes))

@@ -1,0 +1,140 @@
+-- What waits in the middle of a call, and how it grows.
+use Rattle.std.specs.Prelude.{◌≡◌, ◌≢◌, ◌⊎◌, ℕ, ◌+◌, ◌*◌, ◌<◌, ◌≤◌, List, [], ◌∷◌, length, Some, IsSome, slice_index, true}
+use Rattle.lfs_types.specs.declared.block.TheConstants.{BLOCK_SIZE}
+use Rattle.lfs_ifile.specs.Tables.{row_of}
+use Rattle.lfs_inodes.specs.declared.inode.Inode.{Inode}
+use Rattle.lfs_inodes.specs.Reading.{Fields, fields_of}
+use Rattle.lfs_cache.specs.declared.key.Key.{Key}
+use Rattle.lfs_cache.specs.Changes.{IsContents}
+use Rattle.lfs_cache.specs.Contents.{IsLocked}
+use Rattle.lfs_ways.specs.declared.blocks.TheConstants.{DIRECT_BLOCKS, FIRST_DATA_CODE}
+use Rattle.lfs_ways.specs.declared.blocks.FileBlock.{FileBlock}
+use Rattle.lfs_ways.specs.Blocks.{IsFileBlock, code_of, way_to}
+use Rattle.lfs_ways.specs.Log.{IsLog}
+use Rattle.lfs_ways.specs.Reading.{SameReadings, Stages, address, data_block}
+use Rattle.lfs_ways.specs.Ways.{IsKnown}
+use Rattle.std.specs.Vec.{vec_capacity}
+use Rattle.lfs_staging.specs.declared.parts.TheConstants.{WAITING_LIMIT}
+use Rattle.lfs_staging.specs.declared.parts.Parts.{Parts}
+use Rattle.lfs_staging.specs.Keys.{log_state}
+use Rattle.lfs_staging.specs.Store.{AreFiles, IsWithin}
+use Rattle.lfs_staging.specs.View.{LiesIn, blocks_of, key_of, record_of, tree_of, version_of, waiting_in}
+use Rattle.lfs_staging.specs.Waiting.{AreOnce, without}
+
+-- Where a block waits, its parents do: the record of its number, and for a data block past the direct ones the single
+-- indirect block.
+pub record ParentsWait (p : Parts) : Type 0 where
+  pub records : (key : Key) → IsLocked key p.cache → IsSome (waiting_in p.waiting.items key.ino)
+  pub singles : (key : Key) → IsLocked key p.cache → FIRST_DATA_CODE + DIRECT_BLOCKS ≤ key.lbn
+      → IsLocked (key_of key.ino key.version 1) p.cache
+
+-- What holds in the middle of a call: of the files, of the log with so many spare bytes, and of what waits. There is room
+-- for the records, and each block that waits lies within its file.
+pub record IsStaged (p : Parts) (spare : ℕ) : Type 0 where
+  pub whole : AreFiles p
+  pub log : IsLog (log_state p) spare
+  pub parents : ParentsWait p
+  pub once : AreOnce p.waiting.items
+  pub few : length p.waiting.items ≤ WAITING_LIMIT
+  pub within : (number : ℕ) (block : FileBlock) (f : Fields) → record_of p number ≡ Some f → IsFileBlock block
+      → IsLocked (key_of number (version_of p number) (code_of block)) p.cache → IsWithin block f.attributes.size
+
+-- A record waits, in place of any other of its number. Nothing else changed.
+pub record StagesRecord (v : Inode) (old new : Parts) : Type 0 where
+  pub log : new.log ≡ old.log
+  pub cache : new.cache ≡ old.cache
+  pub waiting : new.waiting.items ≡ v ∷ without v.number old.waiting.items
+  pub room : vec_capacity new.waiting ≡ vec_capacity old.waiting
+  pub here : record_of new v.number ≡ Some (fields_of v)
+  pub others : (n : ℕ) → n ≢ v.number → record_of new n ≡ record_of old n
+
+-- The frames that wait are those that waited, and one of this key; it is one more where it is new.
+pub record GrowsBy (key : Key) (old new : Parts) : Type 0 where
+  pub formed : IsContents new.cache
+  pub none_clean : new.cache.lru ≡ []
+  pub here : IsLocked key new.cache
+  pub kept : (other : Key) → IsLocked other old.cache → IsLocked other new.cache
+  pub only : (other : Key) → IsLocked other new.cache → (other ≡ key) ⊎ IsLocked other old.cache
+  pub one_more : length new.cache.locked ≤ length old.cache.locked + 1
+  pub none_more : IsLocked key old.cache → length new.cache.locked ≡ length old.cache.locked
+
+-- Bytes wait for a block of a number. Nothing else changed.
+pub record StagesBlock (number : ℕ) (block : FileBlock) (bytes : List ℕ) (old new : Parts) : Type 0 where
+  pub log : new.log ≡ old.log
+  pub waiting : new.waiting.items ≡ old.waiting.items
+  pub room : vec_capacity new.waiting ≡ vec_capacity old.waiting
+  pub staged : Stages (tree_of old number) (tree_of new number) (way_to block) bytes
+  pub others : (n : ℕ) → n ≢ number → tree_of new n ≡ tree_of old n
+  pub frames : GrowsBy (key_of number (version_of old number) (code_of block)) old new
+
+-- Each number has the record, the addresses and the bytes that it had.
+pub record SameFiles (old new : Parts) : Type 0 where
+  pub log : new.log ≡ old.log
+  pub records : (n : ℕ) → record_of new n ≡ record_of old n
+  pub readings : (n : ℕ) → SameReadings (tree_of old n) (tree_of new n)
+
+-- The parents of a data block of a number wait.
+pub record HasParents (p : Parts) (number index : ℕ) : Type 0 where
+  pub record_waits : IsSome (waiting_in p.waiting.items number)
+  pub single_waits : DIRECT_BLOCKS ≤ index → IsLocked (key_of number (version_of p number) 1) p.cache
+
+-- A data block of the file with this record may wait: it is the record of a number in use, and there is room for it.
+pub record MayStage (p : Parts) (v : Inode) : Type 0 where
+  pub files : AreFiles p
+  pub parents : ParentsWait p
+  pub inside : LiesIn (blocks_of p) (tree_of p v.number)
+  pub in_range : v.number < length p.log.tables.rows
+  pub in_use : (row_of p.log.tables v.number).used ≡ true
+  pub here : record_of p v.number ≡ Some (fields_of v)
+  pub records : length (without v.number p.waiting.items) < WAITING_LIMIT
+
+-- some bytes may be data block `index` of a file of this size: they are zeros past it
+abbrev pub IsZeroPast : ℕ → ℕ → List ℕ → Type 0
+IsZeroPast size index bytes = (k : ℕ) → k < BLOCK_SIZE → size ≤ BLOCK_SIZE * index + k → slice_index bytes k ≡ 0
+
+-- The record of a number waits, with what it had, and each file is what it was.
+pub record StagesOwnRecord (number : ℕ) (old new : Parts) : Type 0 where
+  pub same : SameFiles old new
+  pub cache : new.cache ≡ old.cache
+  pub files : AreFiles new
+  pub parents : ParentsWait new
+  pub waits : IsSome (waiting_in new.waiting.items number)
+  pub room : without number new.waiting.items ≡ without number old.waiting.items
+  pub once : AreOnce old.waiting.items → AreOnce new.waiting.items
+
+-- The parents of a data block of a number wait, with what they had, and each file is what it was.
+pub record StagesParents (number index : ℕ) (old new : Parts) : Type 0 where
+  pub same : SameFiles old new
+  pub files : AreFiles new
+  pub parents : ParentsWait new
+  pub waits : HasParents new number index
+  pub room : without number new.waiting.items ≡ without number old.waiting.items
+  pub once : AreOnce old.waiting.items → AreOnce new.waiting.items
+  pub frames : length new.cache.locked ≤ length old.cache.locked + 1
+  pub direct : index < DIRECT_BLOCKS → new.cache ≡ old.cache
+  pub again : IsLocked (key_of number (version_of old number) 1) old.cache → length new.cache.locked ≡ length old.cache.locked
+  pub stays : (key : Key) → IsLocked key old.cache → IsLocked key new.cache
+  pub only : (key : Key) → IsLocked key new.cache
+      → ((key ≡ key_of number (version_of old number) 1) × (DIRECT_BLOCKS ≤ index)) ⊎ IsLocked key old.cache
+
+-- A data block of a number was staged with its parents: a frame waits more for it, and one for the single indirect block
+-- where that one didn't wait and the block lies past the direct ones.
+pub record TakesFrames (number index : ℕ) (old new : Parts) : Type 0 where
+  pub waits : HasParents new number index
+  pub stays : (key : Key) → IsLocked key old.cache → IsLocked key new.cache
+  pub most : length new.cache.locked ≤ length old.cache.locked + 2
+  pub direct : index < DIRECT_BLOCKS → length new.cache.locked ≤ length old.cache.locked + 1
+  pub again : IsLocked (key_of number (version_of old number) 1) old.cache → length new.cache.locked ≤ length old.cache.locked + 1
+  pub records : without number new.waiting.items ≡ without number old.waiting.items
+  pub block_waits : IsLocked (key_of number (version_of new number) (FIRST_DATA_CODE + index)) new.cache
+
+-- Bytes wait for a data block of a number: it reads as these bytes, and every other data block, every record and every
+-- address is what it was.
+pub record StagesData (number index : ℕ) (bytes : List ℕ) (old new : Parts) : Type 0 where
+  pub log : new.log ≡ old.log
+  pub records : (n : ℕ) → record_of new n ≡ record_of old n
+  pub here : data_block (tree_of new number) index ≡ bytes
+  pub others : (n m : ℕ) → (n ≢ number) ⊎ (m ≢ index) → data_block (tree_of new n) m ≡ data_block (tree_of old n) m
+  pub addresses : (n : ℕ) (way : List ℕ) → IsKnown way → address (tree_of new n) way ≡ address (tree_of old n) way
+  pub frames : length new.cache.locked ≤ length old.cache.locked + 2
+  pub takes : TakesFrames number index old new

@@ -1,0 +1,69 @@
+-- What holds of the parts of a store.
+use Rattle.std.specs.Prelude.{◌≡◌, ◌≢◌, ◌⊎◌, ℕ, ◌<◌, ◌≤◌, [], Some, IsSome, true, false, All, ⊤}
+use Rattle.lfs_types.specs.declared.limits.TheConstants.{FILE_BLOCKS, FIRST_INODE, ROOT_INODE}
+use Rattle.lfs_segments.specs.Log.{Expects}
+use Rattle.lfs_ifile.specs.Tables.{row_of}
+use Rattle.lfs_inodes.specs.declared.inode.Inode.{Inode}
+use Rattle.lfs_inodes.specs.Facts.{block_count}
+use Rattle.lfs_inodes.specs.Reading.{Fields, AreFields}
+use Rattle.lfs_cache.specs.declared.key.Key.{Key}
+use Rattle.lfs_cache.specs.Changes.{IsContents}
+use Rattle.lfs_cache.specs.Contents.{IsLocked}
+use Rattle.lfs_log.specs.Parts.{IsParts}
+use Rattle.lfs_ways.specs.declared.blocks.TheConstants.{BLOCK_CODES, DIRECT_BLOCKS, FIRST_DATA_CODE}
+use Rattle.lfs_ways.specs.declared.blocks.FileBlock.{FileBlock}
+use Rattle.lfs_ways.specs.declared.blocks.FileBlock.TheVariants.{Record, Single, Data}
+use Rattle.lfs_ways.specs.Log.{IsLog}
+use Rattle.lfs_ways.specs.Pieces.{IsPadded}
+use Rattle.lfs_ways.specs.Reading.{address, data_block}
+use Rattle.lfs_ways.specs.Ways.{data_way}
+use Rattle.std.specs.Vec.{vec_capacity}
+use Rattle.lfs_staging.specs.declared.parts.TheConstants.{WAITING_LIMIT}
+use Rattle.lfs_staging.specs.declared.parts.Parts.{Parts}
+use Rattle.lfs_staging.specs.Keys.{log_state}
+use Rattle.lfs_staging.specs.View.{IsReadable, record_of, tree_of, version_of}
+
+-- a file of this size can have the block: it lies below the size, or is the single indirect block of a file that has one
+abbrev pub IsWithin : FileBlock → ℕ → Type 0
+IsWithin Record size = ⊤
+IsWithin Single size = DIRECT_BLOCKS < block_count size
+IsWithin (Data index) size = index < block_count size
+
+-- a number in use, at the version that it has
+pub record IsPresent (p : Parts) (number version : ℕ) : Type 0 where
+  pub in_use : (row_of p.log.tables number).used ≡ true
+  pub at_version : version ≡ version_of p number
+
+-- what holds of the record of a number: it is well formed and says the number and its version; blocks past the size
+-- have no address, and bytes past it are zero
+pub record IsFile (p : Parts) (number : ℕ) (f : Fields) : Type 0 where
+  pub formed : AreFields f
+  pub own_number : f.attributes.number ≡ number
+  pub own_version : f.attributes.version ≡ version_of p number
+  pub none_past : (n : ℕ) → block_count f.attributes.size ≤ n → n < FILE_BLOCKS → address (tree_of p number) (data_way n) ≡ 0
+  pub padded : IsPadded (data_block (tree_of p number)) f.attributes.size
+
+-- What holds of the files and of what waits: the parts are each well formed and of one volume; of the numbers below 4 none
+-- but the root's is in use; each number in use has a record; what waits is of a number in use, at its present version.
+pub record AreFiles (p : Parts) : Type 0 where
+  pub parts : IsParts p.log
+  pub cache : IsContents p.cache
+  pub readable : IsReadable p
+  pub reserved : (number : ℕ) → number < FIRST_INODE → number ≢ ROOT_INODE → (row_of p.log.tables number).used ≡ false
+  pub recorded : (number : ℕ) → (row_of p.log.tables number).used ≡ true → IsSome (record_of p number)
+  pub files : (number : ℕ) (f : Fields) → record_of p number ≡ Some f → IsFile p number f
+  pub records : All (λ (v : Inode). IsPresent p v.number v.version) p.waiting.items
+  pub frames : (key : Key) → IsLocked key p.cache → IsPresent p key.ino key.version
+  pub room : WAITING_LIMIT ≤ vec_capacity p.waiting
+  pub coded : (key : Key) → IsLocked key p.cache → (key.lbn ≡ 1) ⊎ ((FIRST_DATA_CODE ≤ key.lbn) × (key.lbn < BLOCK_CODES))
+
+-- What holds between the calls of a store: of its files, of its log, which goes on with a summary.
+pub record IsStore (p : Parts) : Type 0 where
+  pub whole : AreFiles p
+  pub log : IsLog (log_state p) 0
+  pub ready : Expects p.log.memory []
+
+-- nothing waits to be written
+pub record IsSettled (p : Parts) : Type 0 where
+  pub no_record : p.waiting.items ≡ []
+  pub no_frame : p.cache.locked ≡ []

@@ -1,0 +1,110 @@
+//! Changing what waits: bytes put into a file.
+
+ghost use Rattle.std.specs.Prelude.{◌≡◌, ◌+◌, ◌*◌, ◌-◌, ◌/◌, ◌<◌, ◌≤◌, ℕ, List, max, length, Some};
+ghost use Rattle.lfs_ways.specs.Reading.{address};
+ghost use Rattle.lfs_ways.specs.Ways.{IsKnown};
+ghost use Rattle.lfs_staging.specs.View.{record_of, tree_of};
+ghost use Rattle.lfs_types.specs.declared.limits.TheConstants.{FILE_BLOCKS};
+ghost use Rattle.lfs_cache.specs.declared.cache.TheConstants.{LOCKED_LIMIT};
+ghost use Rattle.lfs_inodes.specs.Reading.{Fields};
+ghost use Rattle.lfs_inodes.specs.Facts.{IsSizeOf, block_count};
+ghost use Rattle.lfs_staging.specs.Changing.{frames_of_put};
+ghost use Rattle.lfs_staging.specs.Putting.{GrowsTo, MayChange, MayPut, with_attrs, PutsBlock, PutsBytes, blocks_of_put, with_put};
+ghost use Rattle.lfs_staging.specs.Files.{content_of};
+ghost use Rattle.lfs_staging.specs.Staging.{IsStaged, MayStage};
+
+use crate::parts::Parts;
+use lfs_inodes::inode::Inode;
+use lfs_types::attrs::Attrs;
+use lfs_ways::blocks::FileBlock;
+use lfs_ways::pieces::{blocks_touched, put_piece};
+
+impl Parts {
+    /// Puts bytes, at least one, into a file in use at byte `off`: they wait, with the record and the
+    /// indirect block that lead to them. The file grows where they reach past its size, and between
+    /// its size and `off` it has zeros.
+    pub fn put(&mut self, ino: u32, off: u64, bytes: &[u8])
+        requires may { MayChange self.old ino }
+        requires fits { MayPut self.old ino off bytes.now }
+        requires room { length self.old.cache.locked + 2 * blocks_of_put off (length bytes.now)
+            ≤ LOCKED_LIMIT }
+        ensures content { content_of self.new ≡ with_put ino off bytes.now (content_of self.old) }
+        ensures log { self.new.log ≡ self.old.log }
+        ensures addresses { (n : ℕ) (way : List ℕ) → IsKnown way
+            → address (tree_of self.new n) way ≡ address (tree_of self.old n) way }
+        ensures frames { length self.new.cache.locked
+            ≤ length self.old.cache.locked + frames_of_put off (length bytes.now) }
+        ensures waiting { length self.new.waiting.items ≤ length self.old.waiting.items + 1 }
+        // What holds in the middle of a call is kept.
+        ensures kept { (spare : ℕ) → IsStaged self.old spare → IsStaged self.new spare }
+    {
+        let Some(inode) = self.record(ino) else {
+            unreachable!()
+        };
+        let inode = self.grow(&inode, off + bytes.len() as u64);
+        self.put_blocks(&inode, off, bytes);
+    }
+
+    /// Has other attributes of a file in use wait, of its kind. Its size stays, whatever theirs is.
+    pub fn set_attrs(&mut self, ino: u32, attrs: &Attrs)
+        requires may { MayChange self.old ino }
+        requires kind { (f : Fields) → record_of self.old ino ≡ Some f
+            → attrs.now.kind ≡ f.attributes.kind }
+        ensures content { content_of self.new ≡ with_attrs ino attrs.now (content_of self.old) }
+        ensures log { self.new.log ≡ self.old.log }
+        ensures cache { self.new.cache ≡ self.old.cache }
+        ensures addresses { (n : ℕ) → tree_of self.new n ≡ tree_of self.old n }
+        ensures waiting { length self.new.waiting.items ≤ length self.old.waiting.items + 1 }
+        // What holds in the middle of a call is kept.
+        ensures kept { (spare : ℕ) → IsStaged self.old spare → IsStaged self.new spare }
+    {
+        let Some(inode) = self.record(ino) else {
+            unreachable!()
+        };
+        let changed = inode.with_attrs(attrs);
+        self.stage_record(changed);
+    }
+
+    /// Puts into a data block of a file what falls into it of bytes put at byte `off` of the file, all
+    /// below its size.
+    fn put_block(&mut self, inode: &Inode, index: u32, off: u64, bytes: &[u8])
+        requires may { MayStage self.old inode.now }
+        requires room { length self.old.cache.locked + 2 ≤ LOCKED_LIMIT }
+        requires block { index < FILE_BLOCKS }
+        requires within { index < block_count inode.now.size }
+        requires below { off + length bytes.now ≤ inode.now.size }
+        ensures { PutsBlock inode.now index off bytes.now self.old self.new }
+    {
+        let mut block = *self.block_of(inode, FileBlock::Data(index));
+        put_piece(&mut block, index, off, bytes);
+        self.stage_data(inode, index, &block);
+    }
+
+    /// Puts bytes into a file at byte `off`, all below its size: they wait.
+    fn put_blocks(&mut self, inode: &Inode, off: u64, bytes: &[u8])
+        requires may { MayStage self.old inode.now }
+        requires some { 0 < length bytes.now }
+        requires below { off + length bytes.now ≤ inode.now.size }
+        requires room { length self.old.cache.locked + 2 * blocks_of_put off (length bytes.now)
+            ≤ LOCKED_LIMIT }
+        ensures { PutsBytes inode.now off bytes.now self.old self.new }
+    {
+        let touched = blocks_touched(off, off + bytes.len() as u64);
+        for index in touched.start..touched.end {
+            self.put_block(inode, index, off, bytes);
+        }
+    }
+
+    /// Has the record of a file wait with a size of at least so many bytes, and gives it.
+    fn grow(&mut self, inode: &Inode, size: u64) -> Inode
+        requires may { MayStage self.old inode.now }
+        requires sized { IsSizeOf inode.now.kind (max inode.now.size size) }
+        ensures { GrowsTo inode.now result size self.old self.new }
+    {
+        let size = size.max(inode.size);
+        let grown = inode.grown(size);
+        let staged = grown;
+        self.stage_record(staged);
+        grown
+    }
+}

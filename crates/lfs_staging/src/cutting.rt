@@ -1,0 +1,163 @@
+//! Changing what waits: the length of a file.
+
+ghost use Rattle.std.specs.Prelude.{◌≡◌, ◌+◌, ◌-◌, ◌<◌, ◌≤◌, Some, length, true};
+ghost use Rattle.lfs_cache.specs.declared.cache.TheConstants.{LOCKED_LIMIT};
+ghost use Rattle.lfs_ifile.specs.Tables.{row_of};
+ghost use Rattle.lfs_inodes.specs.Facts.{IsSizeOf, block_count};
+ghost use Rattle.lfs_inodes.specs.Reading.{Fields};
+ghost use Rattle.lfs_staging.specs.Changing.{StaysInLog, frames_of_length};
+ghost use Rattle.lfs_staging.specs.Cutting.{ClearsBlock, ClearsBlocks, CutsBlock, CutsFile, CutsLast, DropsBlocks, MayClear, MayClearBelow, MayShorten, Shortens, with_length};
+ghost use Rattle.lfs_staging.specs.Files.{content_of};
+ghost use Rattle.lfs_staging.specs.Addressing.{IsWaiting};
+ghost use Rattle.lfs_staging.specs.Staging.{HasParents, IsStaged, MayStage};
+ghost use Rattle.lfs_staging.specs.View.{record_of};
+ghost use Rattle.lfs_staging.specs.Waiting.{without};
+ghost use Rattle.lfs_staging.specs.declared.parts.TheConstants.{WAITING_LIMIT};
+
+use crate::parts::Parts;
+use lfs_cache::Key;
+use lfs_inodes::inode::Inode;
+use lfs_types::block::BLOCK_SIZE;
+use lfs_ways::blocks::{DIRECT_BLOCKS, FileBlock};
+use lfs_ways::pieces::cut_piece;
+
+impl Parts {
+    /// Cuts a file in use, or adds zeros to it, so that it has this many bytes. The blocks past them
+    /// are given back: they have no address and wait no more.
+    pub fn set_length(&mut self, ino: u32, len: u64)
+        requires staged { IsStaged self.old 0 }
+        requires in_range { ino < length self.old.log.tables.rows }
+        requires in_use { (row_of self.old.log.tables ino).used ≡ true }
+        requires sized { (f : Fields) → record_of self.old ino ≡ Some f → IsSizeOf f.attributes.kind len }
+        requires frames { length self.old.cache.locked + 2 ≤ LOCKED_LIMIT }
+        requires records { length self.old.waiting.items < WAITING_LIMIT }
+        ensures staged { IsStaged self.new 0 }
+        ensures content { content_of self.new ≡ with_length ino len (content_of self.old) }
+        ensures size { (f : Fields) → record_of self.new ino ≡ Some f → f.attributes.size ≡ len }
+        ensures log { StaysInLog self.old self.new }
+        ensures rows { self.new.log.tables.rows ≡ self.old.log.tables.rows }
+        ensures frames { length self.new.cache.locked ≤ length self.old.cache.locked + frames_of_length len }
+        ensures waiting { length self.new.waiting.items ≤ length self.old.waiting.items + 1 }
+        // No more records of other numbers wait than records waited.
+        ensures others { length (without ino self.new.waiting.items) ≤ length self.old.waiting.items }
+    {
+        let Some(inode) = self.record(ino) else {
+            unreachable!()
+        };
+        if len < inode.size {
+            self.cut(&inode, len);
+        } else {
+            self.stage_record(inode.grown(len));
+        }
+    }
+
+    /// Gives back a block of a file whose record waits: its address is none, its live bytes go, and it
+    /// waits no more.
+    fn clear(&mut self, inode: &Inode, block: FileBlock)
+        requires is { IsWaiting self.old inode.now }
+        requires may { MayClear self.old inode.now.number block }
+        ensures { ClearsBlock inode.now.number block self.old self.new }
+    {
+        let from = self.address_of(inode, block);
+        self.set_address(inode, block, 0);
+        self.log.move_live(block, from, 0);
+        self.cache.forget(Key {
+            ino: inode.number,
+            version: inode.version,
+            lbn: block.code(),
+        });
+    }
+
+    /// Gives back a block of a file in use whose record waits.
+    fn clear_block(&mut self, ino: u32, block: FileBlock)
+        requires { MayClear self.old ino block }
+        ensures { ClearsBlock ino block self.old self.new }
+    {
+        let Some(inode) = self.waiting(ino) else {
+            unreachable!()
+        };
+        self.clear(&inode, block);
+    }
+
+    /// Gives back the data blocks of a file from `first` to before `end`.
+    fn clear_blocks(&mut self, ino: u32, first: u32, end: u32)
+        requires may { MayClearBelow self.old ino end }
+        requires ordered { first ≤ end }
+        ensures { ClearsBlocks ino first end self.old self.new }
+    {
+        for index in first..end {
+            self.clear_block(ino, FileBlock::Data(index));
+        }
+    }
+
+    /// Gives back the data blocks of a file from `left` on, of as many as it has, and the single
+    /// indirect block where no block is left that it leads to.
+    fn drop_blocks(&mut self, ino: u32, left: u32, blocks: u32)
+        requires may { MayClearBelow self.old ino blocks }
+        requires ordered { left ≤ blocks }
+        requires all { (f : Fields) → record_of self.old ino ≡ Some f
+            → blocks ≡ block_count f.attributes.size }
+        ensures { DropsBlocks ino left blocks self.old self.new }
+    {
+        self.clear_blocks(ino, left, blocks);
+        if left <= DIRECT_BLOCKS && blocks > DIRECT_BLOCKS {
+            self.clear_block(ino, FileBlock::Single);
+        }
+    }
+
+    /// Zeroes what a data block of a file has past a length, which isn't more than the size.
+    fn cut_block(&mut self, inode: &Inode, index: u32, len: u64)
+        requires may { MayStage self.old inode.now }
+        requires staged { IsStaged self.old 0 }
+        requires parents { HasParents self.old inode.now.number index }
+        requires within { index < block_count inode.now.size }
+        requires less { len ≤ inode.now.size }
+        requires room { length self.old.cache.locked < LOCKED_LIMIT }
+        ensures { CutsBlock inode.now.number index len self.old self.new }
+    {
+        let mut block = *self.block_of(inode, FileBlock::Data(index));
+        cut_piece(&mut block, index, len);
+        self.stage_block(inode, FileBlock::Data(index), &block);
+    }
+
+    /// Zeroes what the last block of a length has past it, where the length ends within a block.
+    fn cut_last(&mut self, inode: &Inode, len: u64)
+        requires may { MayStage self.old inode.now }
+        requires staged { IsStaged self.old 0 }
+        requires parents { HasParents self.old inode.now.number (block_count inode.now.size - 1) }
+        requires less { len < inode.now.size }
+        requires room { length self.old.cache.locked < LOCKED_LIMIT }
+        ensures { CutsLast inode.now.number len self.old self.new }
+    {
+        if !len.is_multiple_of(BLOCK_SIZE as u64) {
+            self.cut_block(inode, (len / BLOCK_SIZE as u64) as u32, len);
+        }
+    }
+
+    /// Has the record of a file wait with a size that isn't more than it has.
+    fn shorten(&mut self, ino: u32, len: u64)
+        requires { MayShorten self.old ino len }
+        ensures { Shortens ino len self.old self.new }
+    {
+        let Some(inode) = self.waiting(ino) else {
+            unreachable!()
+        };
+        self.stage_record(inode.cut(len));
+    }
+
+    /// Cuts a file with this record to fewer bytes than it has.
+    fn cut(&mut self, inode: &Inode, len: u64)
+        requires may { MayStage self.old inode.now }
+        requires staged { IsStaged self.old 0 }
+        requires less { len < inode.now.size }
+        requires sized { IsSizeOf inode.now.kind len }
+        requires frames { length self.old.cache.locked + 2 ≤ LOCKED_LIMIT }
+        ensures { CutsFile inode.now.number len self.old self.new }
+    {
+        let blocks = inode.blocks();
+        self.stage_parents(inode, blocks - 1);
+        self.cut_last(inode, len);
+        self.drop_blocks(inode.number, inode.cut(len).blocks(), blocks);
+        self.shorten(inode.number, len);
+    }
+}

@@ -1,0 +1,51 @@
+//! The files that the parts hold.
+
+ghost use Rattle.std.specs.Prelude.{◌≡◌, length};
+ghost use Rattle.lfs_types.specs.Stored.{IsLeastFree, Reads, bytes_of, shown_attrs, slice_of};
+ghost use Rattle.lfs_staging.specs.Files.{content_of};
+ghost use Rattle.lfs_staging.specs.Store.{IsStore};
+
+use crate::parts::Parts;
+use lfs_types::attrs::Attrs;
+
+impl Parts {
+    /// The attributes of a number, if it is in use.
+    pub fn attrs(&self, ino: u32) -> Option<Attrs>
+        requires { IsStore self.now }
+        ensures { result ≡ shown_attrs (content_of self.now) ino }
+    {
+        if ino >= self.log.inodes() {
+            return None;
+        }
+        Some(self.record(ino)?.attrs())
+    }
+
+    /// Reads a file's bytes from `off` on, as many as there are and the buffer takes, and says how
+    /// many.
+    pub fn read(&self, ino: u32, off: u64, into: &mut [u8]) -> usize
+        requires { IsStore self.now }
+        ensures { Reads (slice_of (bytes_of (content_of self.now) ino) off (length into.old))
+            result into.old into.new }
+    {
+        if ino >= self.log.inodes() {
+            return 0;
+        }
+        let Some(inode) = self.record(ino) else {
+            return 0;
+        };
+        if off >= inode.size {
+            return 0;
+        }
+        let count = into.len().min((inode.size - off) as usize);
+        self.read_blocks(&inode, off, &mut into[..count]);
+        count
+    }
+
+    /// The least free number from 4 up, if there is one below the number of inode numbers.
+    pub fn least_free(&self) -> Option<u32>
+        requires { IsStore self.now }
+        ensures { IsLeastFree (length self.now.log.tables.rows) (content_of self.now) result }
+    {
+        self.log.least_free()
+    }
+}
