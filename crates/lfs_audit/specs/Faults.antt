@@ -1,5 +1,7 @@
 -- Faults of a run.
 use Rattle.std.specs.Prelude.{ℕ, ◌<◌, List, length, Option, Err, IfSome}
+use Rattle.lfs_streams.specs.declared.read.ReadFault.{ReadFault}
+use Rattle.lfs_streams.specs.declared.read.ReadFault.TheVariants as read
 use Rattle.lfs_text.specs.Parsing.{ParsesScript}
 use Rattle.lfs_text.specs.declared.split.SplitFault.{SplitFault}
 use Rattle.lfs_text.specs.declared.split.SplitFault.TheVariants as split
@@ -26,6 +28,12 @@ IsFaultOf script (Script fault) = IfSome script (λ bytes. ParsesScript bytes (E
 IsFaultOf script (Format fault) = ⊥
 IsFaultOf script Memory = Unit {0}
 IsFaultOf script Write = Unit {0}
+
+-- the fault of a run whose script could not be read
+abbrev pub read_fault : ReadFault → RunFault
+read_fault read.Read = Read
+read_fault read.TooLong = TooLong
+read_fault read.Memory = Memory
 
 -- the fault of a run on threads whose plan could not be split
 abbrev pub split_fault : SplitFault → ThreadsFault

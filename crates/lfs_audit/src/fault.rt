@@ -4,6 +4,8 @@ ghost use Rattle.std.specs.Prelude.{◌≡◌};
 ghost use Rattle.lfs_audit.specs.declared.fault.RunFault.TheVariants.{Memory};
 
 use lfs_server::serving::ServeFault;
+use lfs_streams::output::WriteFault;
+use lfs_streams::read::ReadFault;
 use lfs_text::fault::ScriptFault;
 use lfs_text::split::SplitFault;
 use lfs_types::fault::FormatFault;
@@ -46,6 +48,30 @@ impl<T: Drop> From<AllocFailed<T>> for RunFault {
 
     fn from(_error: AllocFailed<T>) -> RunFault {
         RunFault::Memory
+    }
+}
+
+impl From<ReadFault> for RunFault {
+    ghost use Rattle.lfs_audit.specs.Faults.{read_fault};
+
+    ghost from_gives = { λ fault run. run ≡ read_fault fault };
+
+    fn from(fault: ReadFault) -> RunFault {
+        match fault {
+            ReadFault::Read => RunFault::Read,
+            ReadFault::TooLong => RunFault::TooLong,
+            ReadFault::Memory => RunFault::Memory,
+        }
+    }
+}
+
+impl From<WriteFault> for RunFault {
+    ghost use Rattle.lfs_audit.specs.declared.fault.RunFault.TheVariants.{Write};
+
+    ghost from_gives = { λ _ fault. fault ≡ Write };
+
+    fn from(_fault: WriteFault) -> RunFault {
+        RunFault::Write
     }
 }
 

@@ -2,13 +2,11 @@
 #![tactic(auto)]
 
 pub mod fault;
-mod output;
 mod passing;
-mod read;
 pub mod run;
 pub mod scripts;
-pub mod tell;
 pub mod threaded;
 pub mod threads;
 
+pub use lfs_streams::tell;
 pub use lfs_text::{plan, print, report, script, split};

@@ -9,9 +9,9 @@ ghost use Rattle.lfs_audit.specs.Output.{IsOutput, IsRun};
 ghost use Rattle.lfs_audit.specs.Runs.{Writes};
 
 use crate::fault::RunFault;
-use crate::output::{flush, write_full, write_text};
 use crate::passing::run_step;
-use crate::read::read_script;
+use lfs_streams::output::{flush, write_full, write_text};
+use lfs_streams::read::read_script;
 use lfs_text::plan::{Plan, Step};
 use lfs_text::report::append_report;
 use lfs_text::script::parse_script;
@@ -74,7 +74,8 @@ pub fn run_plan<F: CleanedStore + Drop, W: Write>(
     print_steps(volume, steps, &mut text, writer)?;
     append_report(&mut text, volume.journal())?;
     write_text(writer, text.as_slice())?;
-    flush(writer)
+    flush(writer)?;
+    Ok(())
 }
 
 /// Does what the lines of a plan ask for, and adds the lines of the answers to a text, which is written piece by piece.

@@ -8,9 +8,9 @@ ghost use Rattle.lfs_audit.specs.Faults.{MayHaveWritten};
 ghost use Rattle.lfs_audit.specs.Threads.{IsClosedText, IsThreadsOutput, MayHaveWrittenThreads, transcript_text, transcripts_text};
 
 use crate::fault::{RunFault, ThreadsFault};
-use crate::output::{flush, write_full, write_text};
 use crate::run::read_plan;
 use lfs_server::serving::{Closed, serve_over};
+use lfs_streams::output::{flush, write_full, write_text};
 use lfs_text::print::append_answer;
 use lfs_text::report::append_report;
 use lfs_types::answer::Answer;
@@ -83,7 +83,8 @@ fn print_closed<F: CleanedStore + Drop, W: Write>(
     print_transcripts(writer, &mut text, closed.transcripts.as_slice())?;
     append_report(&mut text, closed.volume.journal())?;
     write_text(writer, text.as_slice())?;
-    flush(writer)
+    flush(writer)?;
+    Ok(())
 }
 
 /// Adds the lines of the sessions' answers to a text, session 1's first, which is written piece by piece.

@@ -10,7 +10,8 @@ use lfs_text::fault::{FaultKind, ScriptFault};
 #[test]
 fn status_of_a_run(rt: HostRuntime) {
     let mut told = Vec::new(rt.alloc());
-    expect_eq(&rt, end(&mut told, Ok(())), 0);
+    let done: Result<(), ThreadsFault> = Ok(());
+    expect_eq(&rt, end(&mut told, done), 0);
     assert!(rt; told.is_empty());
     expect_eq(
         &rt,

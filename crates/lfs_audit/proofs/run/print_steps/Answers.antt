@@ -13,4 +13,4 @@ loop-step-preserved g c =
     let s = g.F.CleanedStore in
     let r = cleaner_of g.F.FileStore.state s.gives_ifile s.gives_infos s.gives_addresses s.writes_again s.reclaims in
     writes_more r c.args.volume.now c.loop-step.volume c.run_step.new.volume c.loop-step.yielded c.in-Some.step _ _ _ c.loop-step.text.items c.run_step.new.text.items
-    c.loop-step.invariant c.in_ok-run_step.ensures c.in_ok-write_full.ensures.written
+    c.loop-step.invariant c.in_ok-run_step.ensures c.in_ok-write_full.ensures

@@ -6,7 +6,6 @@ use Rattle.lfs_types.specs.declared.answer.Answer.{Answer}
 use Rattle.lfs_model.specs.Steps.{IsLegal}
 use Rattle.lfs_model.specs.declared.journal.Entry.{Entry}
 use Rattle.lfs_audit.specs.Threads.{transcripts_text}
-use Rattle.lfs_audit.proofs.RunLemmas.{on_ok}
 use Rattle.lfs_audit.proofs.ThreadLemmas.{closed_written}
 use Rattle.lfs_audit.proofs.threads.print_closed.Goals as goal
 
@@ -18,12 +17,10 @@ returns-clause-written g c =
     Appends (append_known (g.W.Write.contents c.print_transcript.new.writer) c.print_transcript.new.text.items)
     (append_known (g.W.Write.contents c.print_transcripts.new.writer) c.print_transcripts.new.text.items)
     (transcripts_text 1 (map (λ (t : Vec Answer). t.items) ts))) c.as_slice-2.ensures.value c.in_ok-print_transcripts.ensures.written in
-    on_ok c.flush.result c.flush.ensures.written
-    (λ stays.
     record {
       legal = subst (λ (j : List Entry). IsLegal shape.numbers shape.segments j opening_world) c.journal.ensures.entries c.journal.ensures.legal.legal;
       written = closed_written closed.volume.journal c.journal.result.now closed.setup.items c.as_slice.result.now (map (λ (t : Vec Answer). t.items) closed.transcripts.items) _ _ _ _ _ _
           c.print_transcript.new.text.items c.print_transcripts.new.text.items c.append_report.new.out.items c.as_slice-3.result.now
           c.journal.ensures.entries c.as_slice.ensures.value c.new-text.ensures.items c.in_ok-print_transcript.ensures.written sessions
-          c.in_ok-append_report.ensures c.as_slice-3.ensures.value c.in_ok-write_text.ensures.written stays;
-    })
+          c.in_ok-append_report.ensures c.as_slice-3.ensures.value c.in_ok-write_text.ensures c.in_ok-flush.ensures;
+    }

@@ -1,6 +1,6 @@
 use Rattle.std.proofs.Common.{◌≤◌, ◌-◌, vec_len}
 use Rattle.std.specs.Io.KnownBytes.{Consumes}
-use Rattle.lfs_audit.proofs.read.read_script.Given as goal
+use Rattle.lfs_streams.proofs.read.read_script.Given as goal
 
 abbrev pub invariant-loop-count : goal.invariant-loop-count
 invariant-loop-count g l = record {

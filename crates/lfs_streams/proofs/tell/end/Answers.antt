@@ -1,5 +1,5 @@
 use Rattle.std.proofs.Common.{refl}
-use Rattle.lfs_audit.proofs.tell.end.Goals as goal
+use Rattle.lfs_streams.proofs.tell.end.Goals as goal
 
 pub returns-in-Ok : goal.returns-in-Ok
 returns-in-Ok g c = rw c.in-Ok.is refl

@@ -1,5 +1,5 @@
 use Rattle.std.proofs.Common.{refl}
-use Rattle.lfs_audit.proofs.tell.tell.Goals as goal
+use Rattle.lfs_streams.proofs.tell.tell.Goals as goal
 
 pub returns : goal.returns
 returns g c = refl
