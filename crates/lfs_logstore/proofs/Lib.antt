@@ -1,3 +1,4 @@
 pub mod AccountLemmas
 pub mod AddressLemmas
 pub mod ReclaimLemmas
+pub mod OpeningLemmas

@@ -15,6 +15,8 @@ use Rattle.lfs_staging.specs.Store.{AreFiles, IsFile, IsSettled, IsStore}
 use Rattle.lfs_staging.specs.View.{record_of}
 use Rattle.lfs_logstore.specs.Cleaning.{HasLive, IsReclaimed}
 use Rattle.lfs_logstore.proofs.AccountLemmas.{has_key, segment_is}
+use Rattle.lfs_types.specs.Cleaned.{with_clean_segment}
+use Rattle.lfs_logstore.specs.States.{state_of}
 
 -- the parts with another log
 abbrev pub with_log : Parts → LogParts → Parts
@@ -132,3 +134,7 @@ cleaned p l s store settled has tables memory clean step parts =
       settled = is_settled p s store settled has;
       reclaimed = is_reclaimed p s store settled has;
     })
+
+-- the store shows one clean segment more, and all else as before
+pub reclaimed_state : (old new : Parts) (segment : ℕ) → IsReclaimed old segment new → state_of new ≡ with_clean_segment (state_of old)
+reclaimed_state old new segment h = rw (h.content, h.clean, h.tables, h.memory) refl
