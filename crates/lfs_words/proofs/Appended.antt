@@ -3,10 +3,11 @@ use Rattle.std.proofs.Common.{◌≡◌, ℕ, ◌/◌, ◌%◌, ◌==◌, true, 
 use Rattle.std.specs.Bool.{if◌then◌else◌}
 use Rattle.std.specs.Result.{is_ok}
 use Rattle.std.specs.Char.{digit_char}
+use Rattle.std.specs.Int.{w32, to_be_bytes}
 use Rattle.std.proofs.lemmas.Bool.{eqb-true}
 use Rattle.std.proofs.lemmas.List.{nil_from_length}
-use Rattle.lfs_words.specs.BytesText.{bytes_text}
-use Rattle.lfs_words.specs.NameText.{mode_text}
+use Rattle.lfs_words.specs.BytesText.{bytes_text, hex_text}
+use Rattle.lfs_words.specs.NameText.{flags_text, mode_text}
 
 -- a text to which bytes were added, where memory was there
 pub added : {T E : Type 0} (result : Result T E) (new old bytes other wanted : List ℕ) → new ≡ (if is_ok result then old ++ bytes else other) → old ++ bytes ≡ wanted → OnOk result (new ≡ wanted)
@@ -27,3 +28,9 @@ mode_added out spaced bits mode first second third fourth e same one two three f
 -- no bytes are a dash
 pub none_added : (new out bytes : List ℕ) → (length bytes == 0) ≡ true → new ≡ out ++ 32 ∷ codes "-" → new ≡ out ++ 32 ∷ bytes_text bytes
 none_added new out bytes none e = rw (nil_from_length bytes (eqb-true (length bytes) 0 none)) e
+
+-- flags behind a space, whose digits are those of their bytes
+pub flags_added : (new out spaced bytes : List ℕ) (bits flags : ℕ) → spaced ≡ out ++ 32 ∷ [] → bits ≡ flags → bytes ≡ to_be_bytes w32 bits
+    → new ≡ spaced ++ hex_text bytes → new ≡ out ++ 32 ∷ flags_text flags
+unfolding flags_text
+flags_added new out spaced bytes bits flags e same told grown = rw (grown, told, same, e, append_assoc) refl

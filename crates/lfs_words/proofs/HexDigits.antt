@@ -19,15 +19,23 @@ take_two digits j lt =
     let both : j + 2 ≡ j + 1 + 1 = omega arith in
     rw (both, second, first, append_assoc) refl
 
-pub hex_step : (digits bs : List ℕ) (k high low : ℕ) → 2 * k + 1 < length digits → high < 16 → low < 16 → hex_text bs ≡ take (2 * k) digits → digit_char high ≡ get_or digits (2 * k) 0 → digit_char low ≡ get_or digits (2 * k + 1) 0 → hex_text (bs ++ (16 * high + low) ∷ []) ≡ take (2 * (k + 1)) digits
-hex_step digits bs k high low lt h l so_far first second =
-    let top : (16 * high + low) / 16 ≡ high = omega arith in
-    let bottom : (16 * high + low) % 16 ≡ low = omega arith in
+-- a byte is spelled by the digits of its halves
+pub byte_spelled : (high low h l : ℕ) → h < 16 → l < 16 → digit_char h ≡ high → digit_char l ≡ low → hex_text ((16 * h + l) ∷ []) ≡ high ∷ low ∷ []
+byte_spelled high low h l few less first second =
+    let top : (16 * h + l) / 16 ≡ h = omega arith in
+    let bottom : (16 * h + l) % 16 ≡ l = omega arith in
+    rw (top, bottom, first, second) refl
+
+-- one more byte has its two digits
+pub hex_step : (digits bs : List ℕ) (k b : ℕ) → 2 * k + 1 < length digits → hex_text bs ≡ take (2 * k) digits → hex_text (b ∷ []) ≡ get_or digits (2 * k) 0 ∷ get_or digits (2 * k + 1) 0 ∷ [] → hex_text (bs ++ b ∷ []) ≡ take (2 * (k + 1)) digits
+hex_step digits bs k b lt so_far spelled =
     let two = take_two digits (2 * k) lt in
     let there : 2 * (k + 1) ≡ 2 * k + 2 = omega arith in
-    let pushed = hex_text-push bs (16 * high + low) in
     let taken : take (2 * (k + 1)) digits ≡ take (2 * k + 2) digits = ap (λ n. take n digits) there in
-    pushed ∙ rw (top, bottom, first, second, so_far) (sym (taken ∙ two))
+    hex_text-push bs b
+    ∙ ap (λ (xs : List ℕ). hex_text bs ++ xs) spelled
+    ∙ ap (λ (xs : List ℕ). xs ++ (get_or digits (2 * k) 0 ∷ get_or digits (2 * k + 1) 0 ∷ [])) so_far
+    ∙ sym (taken ∙ two)
 
 pub hex_parts : (digits : List ℕ) → is_hex digits ≡ true → (0 < length digits) × (length digits % 2 ≡ 0) × (list_all is_hex_digit digits ≡ true)
 hex_parts digits h =
@@ -41,13 +49,12 @@ hex_bytes-hex_push (x ∷ bs) b =
     ap (λ xs. (16 * digit_value (digit_char (x / 16)) + digit_value (digit_char (x % 16))) ∷ xs) (hex_bytes-hex_push bs b)
 
 -- one more byte is read from its two digits
-pub hex_read : (bs : List ℕ) (high low : ℕ) → high < 16 → low < 16 → hex_bytes (hex_text bs) ≡ bs → hex_bytes (hex_text (bs ++ (16 * high + low) ∷ [])) ≡ bs ++ (16 * high + low) ∷ []
-hex_read bs high low h l so_far =
-    let top : (16 * high + low) / 16 ≡ high = omega arith in
-    let bottom : (16 * high + low) % 16 ≡ low = omega arith in
-    let first : digit_value (digit_char high) ≡ high = digit_value-digit_char high (omega arith) in
-    let second : digit_value (digit_char low) ≡ low = digit_value-digit_char low (omega arith) in
-    hex_bytes-hex_push bs (16 * high + low) ∙ rw (top, bottom, first, second, so_far) refl
+pub hex_read : (bs : List ℕ) (b : ℕ) → b < 256 → hex_bytes (hex_text bs) ≡ bs → hex_bytes (hex_text (bs ++ b ∷ [])) ≡ bs ++ b ∷ []
+hex_read bs b lt so_far =
+    let first : digit_value (digit_char (b / 16)) ≡ b / 16 = digit_value-digit_char (b / 16) (omega arith) in
+    let second : digit_value (digit_char (b % 16)) ≡ b % 16 = digit_value-digit_char (b % 16) (omega arith) in
+    let whole : 16 * (b / 16) + b % 16 ≡ b = omega arith in
+    hex_bytes-hex_push bs b ∙ rw (first, second, whole, so_far) refl
 
 -- the bytes of digits that are as they are to be
 pub bytes_read : (word bs : List ℕ) → is_dash word ≡ false → length word ≤ 8192 → is_hex word ≡ true → hex_bytes word ≡ bs → bytes_of word ≡ Ok bs

@@ -1,6 +1,6 @@
 //! Bytes and file flags in scripts.
 
-ghost use Rattle.std.specs.Prelude.{◌≡◌, ◌<◌, ◌≤◌, length, true, IfOk};
+ghost use Rattle.std.specs.Prelude.{◌≡◌, ◌<◌, ◌≤◌, [], ◌∷◌, length, true, IfOk};
 ghost use Rattle.lfs_words.specs.Faults.{Reads};
 ghost use Rattle.lfs_words.specs.BytesText.{is_dash, is_hex_digit, is_hex, hex_text, hex_bytes, bytes_of};
 ghost use Rattle.lfs_words.specs.FlagText.{is_flags, flags_of};
@@ -92,6 +92,15 @@ fn digit_value(digit: u8) -> u8
     }
 }
 
+/// The byte that two digits spell.
+fn byte_of(high: u8, low: u8) -> u8
+    requires high_digit { is_hex_digit high ≡ true }
+    requires low_digit { is_hex_digit low ≡ true }
+    ensures { hex_text (result ∷ []) ≡ high ∷ low ∷ [] }
+{
+    16 * digit_value(high) + digit_value(low)
+}
+
 /// The bytes that these digits spell.
 fn decoded(alloc: Global, digits: &[u8]) -> Result<Vec<u8>, AllocError>
     requires { is_hex digits.now ≡ true }
@@ -101,9 +110,7 @@ fn decoded(alloc: Global, digits: &[u8]) -> Result<Vec<u8>, AllocError>
     let half = digits.len() / 2;
     let mut bytes = Vec::with_capacity(alloc, half)?;
     for k in 0..half {
-        let high = digit_value(digits[2 * k]);
-        let low = digit_value(digits[2 * k + 1]);
-        bytes.push(16 * high + low)?;
+        bytes.push(byte_of(digits[2 * k], digits[2 * k + 1]))?;
     }
     Ok(bytes)
 }

@@ -8,13 +8,11 @@ pub loop-k-preserved : goal.loop-k-preserved
 loop-k-preserved c = record {
   spelled =
       rw c.in_ok-push.ensures.items
-      (hex_step c.args.digits.now c.loop-k.bytes.items c.loop-k.k c.digit_value-high.result c.digit_value-low.result (omega arith)
-      c.digit_value-high.ensures.bounded c.digit_value-low.ensures.bounded c.loop-k.invariant.spelled
-      c.digit_value-high.ensures.spelled c.digit_value-low.ensures.spelled);
+      (hex_step c.args.digits.now c.loop-k.bytes.items c.loop-k.k c.byte_of.result (omega arith)
+      c.loop-k.invariant.spelled c.byte_of.ensures);
   read =
       rw c.in_ok-push.ensures.items
-      (hex_read c.loop-k.bytes.items c.digit_value-high.result c.digit_value-low.result
-      c.digit_value-high.ensures.bounded c.digit_value-low.ensures.bounded c.loop-k.invariant.read);
+      (hex_read c.loop-k.bytes.items c.byte_of.result (omega arith) c.loop-k.invariant.read);
 }
 
 pub returns-clause-read : goal.returns-clause-read
