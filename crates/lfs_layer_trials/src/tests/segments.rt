@@ -1,6 +1,6 @@
 //! The worked example of a summary block, and each call of the memory at values.
 
-ghost use Rattle.std.specs.Prelude.{◌≡◌, ◌<◌, ◌≤◌, All, [], length};
+ghost use Rattle.std.specs.Prelude.{◌≡◌, ◌*◌, ◌<◌, ◌≤◌, All, [], length};
 ghost use Rattle.lfs_segments.specs.Entry.{IsEntry};
 ghost use Rattle.lfs_segments.specs.Log.{Expects};
 ghost use Rattle.lfs_segments.specs.Memory.{room_of};
@@ -11,6 +11,7 @@ use lfs_segments::segments::{Segments, log_start};
 use lfs_segments::summary::Summary;
 use lfs_types::block::Block;
 use lfs_types::fault::FormatFault;
+use std::process::Abort;
 use std::test::Fail;
 
 /// Segment 0, offset 3, one entry for block 0 of file 4 in version 1.
@@ -120,29 +121,62 @@ fn format_keeps_its_range(rt: HostRuntime) {
     );
 }
 
+/// Asserts that the memory has this block at this address.
+fn has(rt: &impl Abort, segments: &Segments, address: u32, block: &Block)
+    requires { address < segments.now.segments * 64 }
+{
+    assert!(rt; *segments.block(address) == *block);
+}
+
+/// The block at the start of a memory of six segments and sixteen inode numbers.
+fn label() -> Block {
+    block_of(&[0x4c, 0x46, 0x53, 0x31, 0, 0, 0, 6, 0, 0, 0, 16])
+}
+
 #[test]
-fn memory_is_laid_out_and_written(rt: HostRuntime) -> Result<(), Fail> {
-    let label = [0x4c, 0x46, 0x53, 0x31, 0, 0, 0, 6, 0, 0, 0, 16];
-    let mut segments = Segments::format(rt.alloc(), 6, 16)?;
-    assert!(rt; *segments.block(0) == block_of(&label));
+fn memory_is_laid_out(rt: HostRuntime) -> Result<(), Fail> {
+    let segments = Segments::format(rt.alloc(), 6, 16)?;
+    has(&rt, &segments, 0, &label());
     for address in 1..384 {
-        assert!(rt; *segments.block(address) == [0; 512], "block {address}");
+        has(&rt, &segments, address, &[0; 512]);
     }
     expect_eq(&rt, segments.room(), 63);
-    let first = segments.append(&[block_of(&EXAMPLE), [7; 512]]);
-    expect_eq(&rt, first, 1);
-    expect_eq(&rt, segments.room(), 61);
-    assert!(rt; *segments.block(1) == block_of(&EXAMPLE));
-    assert!(rt; *segments.block(2) == [7; 512]);
+    Ok(())
+}
+
+/// Appends two blocks to segment 0, and asserts that they are there.
+fn two_are_appended(rt: &impl Abort, segments: &mut Segments)
+    requires small { segments.old.segments ≡ 6 }
+    requires room { 2 ≤ room_of segments.old }
+    ensures { segments.new.segments ≡ 6 }
+{
+    expect_eq(rt, segments.append(&[block_of(&EXAMPLE), [7; 512]]), 1);
+    expect_eq(rt, segments.room(), 61);
+    has(rt, segments, 1, &block_of(&EXAMPLE));
+    has(rt, segments, 2, &[7; 512]);
+}
+
+/// Appends a block to segment 2, and asserts that it is there.
+fn one_is_appended(rt: &impl Abort, segments: &mut Segments)
+    requires { segments.old.segments ≡ 6 }
+    ensures { segments.new.segments ≡ 6 }
+{
     segments.open_next(2);
-    expect_eq(&rt, segments.room(), 64);
-    expect_eq(&rt, segments.append(&[[9; 512]]), 128);
-    assert!(rt; *segments.block(128) == [9; 512]);
+    expect_eq(rt, segments.room(), 64);
+    expect_eq(rt, segments.append(&[[9; 512]]), 128);
+    has(rt, segments, 128, &[9; 512]);
+}
+
+#[test]
+fn memory_is_written(rt: HostRuntime) -> Result<(), Fail> {
+    let mut segments = Segments::format(rt.alloc(), 6, 16)?;
+    two_are_appended(&rt, &mut segments);
+    one_is_appended(&rt, &mut segments);
     segments.open_next(0);
     expect_eq(&rt, segments.room(), 63);
-    assert!(rt; *segments.block(0) == block_of(&label));
-    assert!(rt; *segments.block(2) == [0; 512]);
-    assert!(rt; *segments.block(128) == [9; 512]);
+    has(&rt, &segments, 0, &label());
+    has(&rt, &segments, 2, &[0; 512]);
+    has(&rt, &segments, 128, &[9; 512]);
     Ok(())
 }
 
@@ -184,7 +218,7 @@ fn partial_segments_follow_one_another(rt: HostRuntime) -> Result<(), Fail> {
         ]
         .as_slice(),
     );
-    assert!(rt; *segments.block(65_474) == [9; 512]);
+    has(&rt, &segments, 65_474, &[9; 512]);
     expect_eq(&rt, (log_start(0), log_start(1)), (1, 0));
     Ok(())
 }
