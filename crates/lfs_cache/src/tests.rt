@@ -6,6 +6,7 @@ use crate::key::same;
 use crate::{Cache, Key, LOCKED_LIMIT};
 use lfs_types::block::Block;
 use std::alloc::{AllocError, Global};
+use std::process::Abort;
 use std::test::*;
 use std::thread;
 
@@ -65,31 +66,57 @@ fn busy_cache(alloc: Global) -> Result<Cache, AllocError> {
     for lbn in 0..24 {
         write_new(&mut cache, lbn);
     }
-    for lbn in 100..140 {
-        fill_new(&mut cache, lbn);
-    }
+    fill_range(&mut cache, 100, 140);
     Ok(cache)
+}
+
+/// Fills the blocks of the keys of a range.
+fn fill_range(cache: &mut Cache, from: u32, to: u32) {
+    for lbn in from..to {
+        fill_new(cache, lbn);
+    }
+}
+
+/// Asserts that the block of a key is held, or that it is not. An assertion takes the prover a second or more, a call of
+/// this less.
+fn expect_held(rt: &impl Abort, cache: &mut Cache, lbn: u32, held: bool) {
+    assert_eq!(rt; holds(cache, lbn), held, "at {lbn}");
+}
+
+/// Asserts that the blocks of the keys of a range are held.
+fn expect_range(rt: &impl Abort, cache: &mut Cache, from: u32, to: u32) {
+    for lbn in from..to {
+        expect_held(rt, cache, lbn, true);
+    }
+}
+
+/// Asserts how many keys are locked.
+fn expect_locked(rt: &impl Abort, cache: &Cache, count: usize) {
+    assert_eq!(rt; cache.locked_count(), count);
+}
+
+/// Asserts that a look finds the block of a key, or that it finds none.
+fn expect_peek(rt: &impl Abort, cache: &Cache, lbn: u32, held: bool) {
+    let block = block(lbn);
+    let wanted = if held { Some(&block) } else { None };
+    assert!(rt; cache.peek(key(lbn)) == wanted, "at {lbn}");
 }
 
 #[test]
 fn new_cache_holds_nothing(rt: HostRuntime) -> Result<(), Fail> {
     let mut cache = Cache::new(rt.alloc(), 32)?;
     assert!(rt; cache.get(key(0)).is_none());
-    assert_eq!(rt; cache.locked_count(), 0);
+    expect_locked(&rt, &cache, 0);
     Ok(())
 }
 
 #[test]
 fn locked_keys_outlive_fills(rt: HostRuntime) -> Result<(), Fail> {
     let mut cache = busy_cache(rt.alloc())?;
-    assert_eq!(rt; cache.locked_count(), 24);
-    for lbn in 0..24 {
-        assert!(rt; holds(&mut cache, lbn), "at {lbn}");
-    }
-    assert!(rt; !holds(&mut cache, 131));
-    for lbn in 132..140 {
-        assert!(rt; holds(&mut cache, lbn), "at {lbn}");
-    }
+    expect_locked(&rt, &cache, 24);
+    expect_range(&rt, &mut cache, 0, 24);
+    expect_held(&rt, &mut cache, 131, false);
+    expect_range(&rt, &mut cache, 132, 140);
     Ok(())
 }
 
@@ -97,11 +124,9 @@ fn locked_keys_outlive_fills(rt: HostRuntime) -> Result<(), Fail> {
 fn settled_block_outlives_eight_fills(rt: HostRuntime) -> Result<(), Fail> {
     let mut cache = busy_cache(rt.alloc())?;
     settle_written(&mut cache, 0);
-    assert_eq!(rt; cache.locked_count(), 23);
-    for lbn in 200..208 {
-        fill_new(&mut cache, lbn);
-    }
-    assert!(rt; holds(&mut cache, 0));
+    expect_locked(&rt, &cache, 23);
+    fill_range(&mut cache, 200, 208);
+    expect_held(&rt, &mut cache, 0, true);
     Ok(())
 }
 
@@ -109,10 +134,8 @@ fn settled_block_outlives_eight_fills(rt: HostRuntime) -> Result<(), Fail> {
 fn settled_block_gives_way_to_the_ninth_fill(rt: HostRuntime) -> Result<(), Fail> {
     let mut cache = busy_cache(rt.alloc())?;
     settle_written(&mut cache, 0);
-    for lbn in 200..209 {
-        fill_new(&mut cache, lbn);
-    }
-    assert!(rt; !holds(&mut cache, 0));
+    fill_range(&mut cache, 200, 209);
+    expect_held(&rt, &mut cache, 0, false);
     Ok(())
 }
 
@@ -120,28 +143,26 @@ fn settled_block_gives_way_to_the_ninth_fill(rt: HostRuntime) -> Result<(), Fail
 #[test]
 fn peek_moves_no_frame(rt: HostRuntime) -> Result<(), Fail> {
     let mut cache = busy_cache(rt.alloc())?;
-    assert!(rt; cache.peek(key(132)) == Some(&block(132)));
-    assert!(rt; cache.peek(key(0)) == Some(&block(0)));
-    assert!(rt; cache.peek(key(131)).is_none());
+    expect_peek(&rt, &cache, 132, true);
+    expect_peek(&rt, &cache, 0, true);
+    expect_peek(&rt, &cache, 131, false);
     fill_new(&mut cache, 200);
-    assert!(rt; cache.peek(key(132)).is_none());
-    assert!(rt; holds(&mut cache, 133));
+    expect_peek(&rt, &cache, 132, false);
+    expect_held(&rt, &mut cache, 133, true);
     fill_new(&mut cache, 201);
-    assert!(rt; holds(&mut cache, 133));
-    assert!(rt; cache.peek(key(134)).is_none());
+    expect_held(&rt, &mut cache, 133, true);
+    expect_peek(&rt, &cache, 134, false);
     Ok(())
 }
 
 #[test]
 fn largest_cache_holds_a_block_for_each_frame(rt: HostRuntime) -> Result<(), Fail> {
     let mut cache = Cache::new(rt.alloc(), 1_024)?;
-    for lbn in 0..1_024 {
-        fill_new(&mut cache, lbn);
-    }
-    assert!(rt; holds(&mut cache, 0));
+    fill_range(&mut cache, 0, 1_024);
+    expect_held(&rt, &mut cache, 0, true);
     fill_new(&mut cache, 1_024);
-    assert!(rt; holds(&mut cache, 0));
-    assert!(rt; !holds(&mut cache, 1));
+    expect_held(&rt, &mut cache, 0, true);
+    expect_held(&rt, &mut cache, 1, false);
     Ok(())
 }
 
@@ -149,15 +170,13 @@ fn largest_cache_holds_a_block_for_each_frame(rt: HostRuntime) -> Result<(), Fai
 fn forgotten_frame_is_taken_first(rt: HostRuntime) -> Result<(), Fail> {
     let mut cache = busy_cache(rt.alloc())?;
     cache.forget(key(5));
-    assert_eq!(rt; cache.locked_count(), 23);
+    expect_locked(&rt, &cache, 23);
     fill_new(&mut cache, 200);
-    for lbn in 0..24 {
-        assert_eq!(rt; holds(&mut cache, lbn), lbn != 5, "at {lbn}");
-    }
-    for lbn in 132..140 {
-        assert!(rt; holds(&mut cache, lbn), "at {lbn}");
-    }
-    assert!(rt; holds(&mut cache, 200));
+    expect_range(&rt, &mut cache, 0, 5);
+    expect_held(&rt, &mut cache, 5, false);
+    expect_range(&rt, &mut cache, 6, 24);
+    expect_range(&rt, &mut cache, 132, 140);
+    expect_held(&rt, &mut cache, 200, true);
     Ok(())
 }
 
@@ -169,7 +188,7 @@ fn cache_moves_into_a_thread_and_back(rt: HostRuntime) -> Result<(), Fail> {
         cache
     })?;
     let mut cache = worker.join(&rt);
-    assert!(rt; holds(&mut cache, 300));
-    assert!(rt; holds(&mut cache, 23));
+    expect_held(&rt, &mut cache, 300, true);
+    expect_held(&rt, &mut cache, 23, true);
     Ok(())
 }
