@@ -135,11 +135,7 @@ impl Request {
                 off: *off,
                 len: *len,
             },
-            Request::Write { path, place, bytes } => Request::Write {
-                path: path.try_clone(alloc)?,
-                place: *place,
-                bytes: bytes.try_clone(alloc)?,
-            },
+            Request::Write { path, place, bytes } => copied_write(alloc, path, *place, bytes)?,
             Request::List { path } => Request::List {
                 path: path.try_clone(alloc)?,
             },
@@ -161,10 +157,7 @@ impl Request {
             Request::Rmdir { path } => Request::Rmdir {
                 path: path.try_clone(alloc)?,
             },
-            Request::Rename { from, to } => Request::Rename {
-                from: from.try_clone(alloc)?,
-                to: to.try_clone(alloc)?,
-            },
+            Request::Rename { from, to } => copied_rename(alloc, from, to)?,
             Request::Chmod { path, mode } => Request::Chmod {
                 path: path.try_clone(alloc)?,
                 mode: *mode,
@@ -182,4 +175,30 @@ impl Request {
             Request::Sync => Request::Sync,
         })
     }
+}
+
+/// A Write of copies of a path and bytes.
+fn copied_write(
+    alloc: Global,
+    path: &Path,
+    place: Place,
+    bytes: &Payload,
+) -> Result<Request, AllocError>
+    ensures { IfOk result (λ copy. copy ≡ Request.Write path.now place bytes.now) }
+{
+    Ok(Request::Write {
+        path: path.try_clone(alloc)?,
+        place,
+        bytes: bytes.try_clone(alloc)?,
+    })
+}
+
+/// A Rename of copies of two paths.
+fn copied_rename(alloc: Global, from: &Path, to: &Path) -> Result<Request, AllocError>
+    ensures { IfOk result (λ copy. copy ≡ Request.Rename from.now to.now) }
+{
+    Ok(Request::Rename {
+        from: from.try_clone(alloc)?,
+        to: to.try_clone(alloc)?,
+    })
 }

@@ -1,19 +1,19 @@
 use Rattle.lfs_types.proofs.request.Request.try_clone.Goals as goal
-use Rattle.lfs_types.proofs.request.Request.try_clone.Goals.{in-Stat+in_ok-try_clone-in-Stat, in-Read+in_ok-try_clone-in-Read, in-Write+in_ok-try_clone-in-Write+in_ok-try_clone-in-Write-2, in-List+in_ok-try_clone-in-List, in-SetLength+in_ok-try_clone-in-SetLength, in-Create+in_ok-try_clone-in-Create, in-Mkdir+in_ok-try_clone-in-Mkdir, in-Unlink+in_ok-try_clone-in-Unlink, in-Rmdir+in_ok-try_clone-in-Rmdir, in-Rename+in_ok-try_clone-in-Rename+in_ok-try_clone-in-Rename-2, in-Chmod+in_ok-try_clone-in-Chmod, in-Chown+in_ok-try_clone-in-Chown, in-Chflags+in_ok-try_clone-in-Chflags, in-SetLevel, in-Sync}
+use Rattle.lfs_types.proofs.request.Request.try_clone.Goals.{in-Stat+in_ok-try_clone-in-Stat, in-Read+in_ok-try_clone-in-Read, in-Write+in_ok-copied_write-in-Write, in-List+in_ok-try_clone-in-List, in-SetLength+in_ok-try_clone-in-SetLength, in-Create+in_ok-try_clone-in-Create, in-Mkdir+in_ok-try_clone-in-Mkdir, in-Unlink+in_ok-try_clone-in-Unlink, in-Rmdir+in_ok-try_clone-in-Rmdir, in-Rename+in_ok-copied_rename-in-Rename, in-Chmod+in_ok-try_clone-in-Chmod, in-Chown+in_ok-try_clone-in-Chown, in-Chflags+in_ok-try_clone-in-Chflags, in-SetLevel, in-Sync}
 
 pub returns-clause-copy : goal.returns-clause-copy
 returns-clause-copy c =
     elim c.match-self.branch [
       | in-Stat+in_ok-try_clone-in-Stat w ↦ rw (w.result-is, w.in-Stat.is, w.in_ok-try_clone-in-Stat.ensures)
       | in-Read+in_ok-try_clone-in-Read w ↦ rw (w.result-is, w.in-Read.is, w.in_ok-try_clone-in-Read.ensures)
-      | in-Write+in_ok-try_clone-in-Write+in_ok-try_clone-in-Write-2 w ↦ rw (w.result-is, w.in-Write.is, w.in_ok-try_clone-in-Write.ensures, w.in_ok-try_clone-in-Write-2.ensures)
+      | in-Write+in_ok-copied_write-in-Write w ↦ rw (w.result-is, w.in-Write.is, w.in_ok-copied_write-in-Write.ensures)
       | in-List+in_ok-try_clone-in-List w ↦ rw (w.result-is, w.in-List.is, w.in_ok-try_clone-in-List.ensures)
       | in-SetLength+in_ok-try_clone-in-SetLength w ↦ rw (w.result-is, w.in-SetLength.is, w.in_ok-try_clone-in-SetLength.ensures)
       | in-Create+in_ok-try_clone-in-Create w ↦ rw (w.result-is, w.in-Create.is, w.in_ok-try_clone-in-Create.ensures)
       | in-Mkdir+in_ok-try_clone-in-Mkdir w ↦ rw (w.result-is, w.in-Mkdir.is, w.in_ok-try_clone-in-Mkdir.ensures)
       | in-Unlink+in_ok-try_clone-in-Unlink w ↦ rw (w.result-is, w.in-Unlink.is, w.in_ok-try_clone-in-Unlink.ensures)
       | in-Rmdir+in_ok-try_clone-in-Rmdir w ↦ rw (w.result-is, w.in-Rmdir.is, w.in_ok-try_clone-in-Rmdir.ensures)
-      | in-Rename+in_ok-try_clone-in-Rename+in_ok-try_clone-in-Rename-2 w ↦ rw (w.result-is, w.in-Rename.is, w.in_ok-try_clone-in-Rename.ensures, w.in_ok-try_clone-in-Rename-2.ensures)
+      | in-Rename+in_ok-copied_rename-in-Rename w ↦ rw (w.result-is, w.in-Rename.is, w.in_ok-copied_rename-in-Rename.ensures)
       | in-Chmod+in_ok-try_clone-in-Chmod w ↦ rw (w.result-is, w.in-Chmod.is, w.in_ok-try_clone-in-Chmod.ensures)
       | in-Chown+in_ok-try_clone-in-Chown w ↦ rw (w.result-is, w.in-Chown.is, w.in_ok-try_clone-in-Chown.ensures)
       | in-Chflags+in_ok-try_clone-in-Chflags w ↦ rw (w.result-is, w.in-Chflags.is, w.in_ok-try_clone-in-Chflags.ensures)

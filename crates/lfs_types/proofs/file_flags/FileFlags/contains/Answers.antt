@@ -1,0 +1,5 @@
+use Rattle.std.proofs.Common.{rules}
+use Rattle.lfs_types.proofs.file_flags.FileFlags.contains.Goals as goal
+
+pub returns : goal.returns
+returns c = search rules
