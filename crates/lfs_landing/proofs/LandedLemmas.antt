@@ -1,43 +1,38 @@
 -- A block that waits lands: what that makes of each file, and of the log.
 use Rattle.std.proofs.Common.{◌≡◌, ◌≢◌, ℕ, ◌+◌, ◌-◌, ◌*◌, ◌/◌, ◌<◌, ◌≤◌, ◌⊎◌, List, [], ◌∷◌, length, Option, None, Some, IsSome, false, refl, sym, ap, ◌∙◌, subst, inl, inr, arith}
-use Rattle.std.specs.Prelude.{slice_set, if◌then◌else◌, ◌==◌}
+use Rattle.std.specs.Prelude.{slice_set}
 use Rattle.std.proofs.lemmas.Bool.{cases_eq, cases_lt, cond-true, cond-false, eq-eqb, ne_eqb, lt-ltb, le-ltb}
 use Rattle.lfs_ifile.specs.declared.inode.InodeRow.{InodeRow}
 use Rattle.lfs_ifile.specs.Tables.{Tables, row_at, row_of}
 use Rattle.lfs_inodes.specs.declared.inode.Inode.{Inode}
-use Rattle.lfs_inodes.specs.Addresses.{cells}
-use Rattle.lfs_inodes.proofs.AddressLemmas.{length-addresses}
-use Rattle.lfs_inodes.proofs.Cells.{length-numbers}
 use Rattle.lfs_segments.specs.Log.{entry_at}
 use Rattle.lfs_segments.specs.Memory.{SegmentMemory, block_at, next_address}
 use Rattle.lfs_cache.specs.declared.key.Key.{Key}
 use Rattle.lfs_cache.specs.Contents.{Contents, block_in}
 use Rattle.lfs_cache.specs.Keys.{same_key}
-use Rattle.lfs_cache.proofs.Entries.{same_cases, same_is}
 use Rattle.lfs_log.specs.Parts.{LogParts, live_of, record_place}
 use Rattle.lfs_log.specs.Parts as log
 use Rattle.lfs_log.proofs.NameLemmas.{named_at-block}
 use Rattle.lfs_ways.specs.declared.blocks.TheConstants.{BLOCK_CODES}
 use Rattle.lfs_ways.specs.declared.blocks.FileBlock.{FileBlock}
-use Rattle.lfs_ways.specs.declared.blocks.FileBlock.TheVariants.{Record, Single, Data}
 use Rattle.lfs_ways.specs.Blocks.{IsFileBlock, code_of, logical_of, way_to}
 use Rattle.lfs_ways.specs.Counting.{placed, units}
 use Rattle.lfs_ways.specs.Log.{Assigns, IsLog, LogState, MayTake}
-use Rattle.lfs_ways.specs.Reading.{Lands, SameReadings, Tree, address, data_block, read, table}
+use Rattle.lfs_ways.specs.Reading.{Lands, SameReadings, address, data_block, read, table}
 use Rattle.lfs_ways.specs.Ways.{IsKnown, code_at, data_way, way_of}
 use Rattle.lfs_ways.proofs.BlockLemmas.{code_of-below}
 use Rattle.lfs_ways.proofs.CountingLemmas.{placed-cases}
 use Rattle.lfs_ways.proofs.LogLemmas.{taken_log, written_log}
-use Rattle.lfs_ways.proofs.ReadingLemmas.{kept_blocks, landed_address, landed_addresses, landed_data, read-waits, table-read, table-root}
-use Rattle.lfs_ways.proofs.WayLemmas.{data_way-direct, data_way-single, known_way_of, same_code, up_known, way_of-code_of, way_of-data, way_of-known}
+use Rattle.lfs_ways.proofs.ReadingLemmas.{kept_blocks, landed_address, landed_addresses, landed_data}
+use Rattle.lfs_ways.proofs.WayLemmas.{known_way_of, same_code, up_known, way_of-code_of, way_of-data, way_of-known}
 use Rattle.lfs_staging.specs.declared.parts.Parts.{Parts}
 use Rattle.lfs_staging.specs.Keys.{log_state}
 use Rattle.lfs_staging.specs.Addressing.{IsWaiting, ParentWaits, Sets}
 use Rattle.lfs_landing.specs.Landing.{AppendsBlock}
 use Rattle.lfs_staging.specs.View.{key_of, record_of, root_in, tree_of, version_of, waiting_in}
 use Rattle.lfs_staging.proofs.KeyLemmas.{place-block, place-record}
+use Rattle.lfs_staging.proofs.TableLemmas.{apart_code, apart_number, longer, room_at, same_place, table_same}
 use Rattle.lfs_staging.proofs.ViewLemmas.{record_like}
-use Rattle.lfs_staging.proofs.SettingLemmas.{at_way, record_table, some_there}
 use Rattle.lfs_staging.proofs.ViewLemmas.{code_at-way_to}
 
 -- The steps of a landing: the block is put, its address is set, its live bytes move, and it waits no more.
@@ -55,47 +50,6 @@ pub record Steps (p r s q : Parts) (v : Inode) (block : FileBlock) (a i : ℕ) (
   pub waiting : q.waiting.items ≡ s.waiting.items
   pub gone : block_in (key_of v.number v.version (code_of block)) q.cache.locked ≡ None
   pub kept : (key : Key) → same_key (key_of v.number v.version (code_of block)) key ≡ false → block_in key q.cache.locked ≡ block_in key s.cache.locked
-
--- keys that differ
-apart_key : (a b : Key) → (a ≡ b → ⊥) → same_key a b ≡ false
-apart_key a b h = elim (same_cases a b) [ inl t ↦ absurd (h (same_is a b t)) | inr f ↦ f ]
-
-apart_number : (n m v w c d : ℕ) → m ≢ n → same_key (key_of n v c) (key_of m w d) ≡ false
-apart_number n m v w c d other = apart_key (key_of n v c) (key_of m w d) (λ e. other (sym (ap (λ (k : Key). k.ino) e)))
-
-apart_code : (n m v w c d : ℕ) → d ≢ c → same_key (key_of n v c) (key_of m w d) ≡ false
-apart_code n m v w c d other = apart_key (key_of n v c) (key_of m w d) (λ e. other (sym (ap (λ (k : Key). k.lbn) e)))
-
--- a way is longer than what it leads through
-longer : (i : ℕ) (up : List ℕ) → up ≡ i ∷ up → ⊥
-longer i up e = let same : length up ≡ length up + 1 = ap length e ∙ omega arith in omega arith
-
--- two trees have the same table where they have the same record, or the same bytes wait for the block
-table_same : (t u : Tree) (up : List ℕ) → u.root ≡ t.root → (up ≢ [] → (u.waits up ≡ t.waits up) × IsSome (t.waits up)) → table u up ≡ table t up
-table_same t u [] root h = table-root u ∙ root ∙ sym (table-root t)
-table_same t u (j ∷ above) root h =
-    let waits = h (λ e. cc) in
-    let b = some_there (t.waits (j ∷ above)) waits.1 in
-    table-read u j above ∙ ap cells (read-waits u (j ∷ above) b.0 (waits.0 ∙ b.1)) ∙ sym (ap cells (read-waits t (j ∷ above) b.0 b.1)) ∙ sym (table-read t j above)
-
--- there is room for the address of each block
-room_at : (p : Parts) (v : Inode) (block : FileBlock) → IsWaiting p v → IsFileBlock block → code_of block ≢ 0 → (i : ℕ) (up : List ℕ) → way_to block ≡ i ∷ up
-    → i < length (table (tree_of p v.number) up)
-room_at p v Record is can other = absurd (other refl)
-room_at p v Single is can other =
-    at_way (λ i up. i < length (table (tree_of p v.number) up)) (12 ∷ []) 12 [] refl
-    (let long = ap length (record_table p v is) ∙ length-addresses v in omega arith)
-room_at p v (Data index) is can other =
-    elim (cases_lt index 12) [
-      | inl direct ↦ at_way (λ i up. i < length (table (tree_of p v.number) up)) (data_way index) index [] (data_way-direct index direct)
-          (let long = ap length (record_table p v is) ∙ length-addresses v in omega arith)
-      | inr past ↦ at_way (λ i up. i < length (table (tree_of p v.number) up)) (data_way index) (index - 12) (12 ∷ []) (data_way-single index past can)
-          (let long = ap length (table-read (tree_of p v.number) 12 []) ∙ length-numbers (read (tree_of p v.number) (12 ∷ [])) 0 128 in omega arith)
-    ]
-
-same_place : (old new : Tables) (number : ℕ) → new.rows ≡ old.rows → record_place new number ≡ record_place old number
-unfolding record_place
-same_place old new number rows = ap (λ (rs : List InodeRow). let row = row_at rs number in if row.address == 0 then 0 else 4 * row.address + row.slot) rows
 
 module _ (p r s q : Parts) (v : Inode) (block : FileBlock) (a i : ℕ) (up : List ℕ) (h : Steps p r s q v block a i up) where
   pub rows_all : q.log.tables.rows ≡ p.log.tables.rows

@@ -17,7 +17,7 @@ use Rattle.lfs_staging.specs.declared.parts.Parts.{Parts}
 use Rattle.lfs_staging.specs.Cutting.{ClearsBlock, ClearsBlocks, IsGivenBack, KeepsRest, MayClear, MayClearBelow}
 use Rattle.lfs_staging.specs.Addressing.{IsWaiting}
 use Rattle.lfs_staging.specs.View.{key_of, record_of, tree_of, version_of, waiting_in}
-use Rattle.lfs_staging.proofs.ClearedLemmas.{apart_code}
+use Rattle.lfs_staging.proofs.TableLemmas.{apart_code}
 use Rattle.lfs_staging.proofs.FrameLemmas.{waiting_number}
 use Rattle.lfs_staging.proofs.StagedLemmas.{stays-refl, stays-trans}
 use Rattle.lfs_staging.proofs.ViewLemmas.{record_of-waiting}

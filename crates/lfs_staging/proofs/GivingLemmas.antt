@@ -35,7 +35,8 @@ use Rattle.lfs_staging.specs.Addressing.{ParentWaits, StaysWaiting, numbers_of}
 use Rattle.lfs_staging.specs.Staging.{IsStaged, ParentsWait}
 use Rattle.lfs_staging.specs.Store.{AreFiles, IsFile, IsPresent, IsWithin}
 use Rattle.lfs_staging.specs.View.{key_of, record_of, tree_of, version_of, waiting_in}
-use Rattle.lfs_staging.proofs.ClearedLemmas.{Steps, address_here, address_rest, address_same, apart_code, apart_number, data_same, moves, record_other, version_same, waits_key, zeros_here}
+use Rattle.lfs_staging.proofs.ClearedLemmas.{Steps, address_here, address_rest, address_same, data_same, moves, record_other, version_same, waits_key, zeros_here}
+use Rattle.lfs_staging.proofs.TableLemmas.{apart_code, apart_number}
 use Rattle.lfs_staging.proofs.FrameLemmas.{locked_less, locked_most, once_numbers}
 use Rattle.lfs_staging.proofs.SettingLemmas.{at_way, waiting_record}
 use Rattle.lfs_staging.proofs.ViewLemmas.{code_at-way_to}

@@ -15,6 +15,7 @@ pub mod GrowthLemmas
 pub mod MakingLemmas
 pub mod GivingLemmas
 pub mod TakingLemmas
+pub mod TableLemmas
 pub mod ClearedLemmas
 pub mod FrameLemmas
 pub mod ClearingLemmas
