@@ -19,9 +19,9 @@ use Rattle.lfs_model.specs.Steps.{IsLegal, world_of}
 use Rattle.lfs_calls.specs.Volumes.{IsVolume}
 use Rattle.lfs_cleaner.specs.Passing.{Steps, calls_left}
 use Rattle.lfs_cleaner.specs.declared.pass.Pass.{Pass}
-use Rattle.lfs_text.specs.AnswerText.{answer_line}
-use Rattle.lfs_text.specs.CleanerText.{cleaner_line}
-use Rattle.lfs_text.specs.ReportText.{report_text}
+use Rattle.lfs_answers.specs.AnswerText.{answer_line}
+use Rattle.lfs_answers.specs.CleanerText.{cleaner_line}
+use Rattle.lfs_answers.specs.ReportText.{report_text}
 use Rattle.lfs_text.specs.declared.plan.Act.TheVariants as plan
 use Rattle.lfs_text.specs.declared.plan.Step.{Step}
 use Rattle.lfs_volume.specs.Cleanings.{Cleaner}

@@ -7,7 +7,7 @@ use Rattle.lfs_model.specs.Runs.{kept_steps}
 use Rattle.lfs_model.specs.Steps.{IsLegal}
 use Rattle.lfs_text.specs.PlanTypes.{Planned}
 use Rattle.lfs_text.specs.Plans.{plan_of}
-use Rattle.lfs_text.specs.ReportText.{report_text}
+use Rattle.lfs_answers.specs.ReportText.{report_text}
 use Rattle.lfs_text.specs.declared.plan.Step.{Step}
 use Rattle.lfs_volume.specs.Cleanings.{Cleaner}
 use Rattle.lfs_volume.specs.StepRuns.{AreSteps}

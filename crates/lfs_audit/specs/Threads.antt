@@ -9,10 +9,10 @@ use Rattle.lfs_types.specs.declared.answer.Answer.{Answer}
 use Rattle.lfs_model.specs.Steps.{IsLegal}
 use Rattle.lfs_model.specs.declared.journal.Entry.{Entry}
 use Rattle.lfs_settle.specs.Interleaving.{IsInterleaving, Run}
-use Rattle.lfs_text.specs.AnswerText.{answer_line}
+use Rattle.lfs_answers.specs.AnswerText.{answer_line}
 use Rattle.lfs_text.specs.PlanTypes.{Planned}
 use Rattle.lfs_text.specs.Plans.{plan_of}
-use Rattle.lfs_text.specs.ReportText.{report_text}
+use Rattle.lfs_answers.specs.ReportText.{report_text}
 use Rattle.lfs_text.specs.Splitting.{Sorts, is_of_cleaner}
 use Rattle.lfs_audit.specs.Faults.{MayHaveWritten}
 use Rattle.lfs_audit.specs.declared.fault.ThreadsFault.{ThreadsFault}

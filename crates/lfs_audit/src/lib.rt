@@ -8,5 +8,6 @@ pub mod scripts;
 pub mod threaded;
 pub mod threads;
 
+pub use lfs_answers::{print, report};
 pub use lfs_streams::tell;
-pub use lfs_text::{plan, print, report, script, split};
+pub use lfs_text::{plan, script, split};

@@ -10,10 +10,10 @@ ghost use Rattle.lfs_audit.specs.Runs.{Writes};
 
 use crate::fault::RunFault;
 use crate::passing::run_step;
+use lfs_answers::report::append_report;
 use lfs_streams::output::{flush, write_full, write_text};
 use lfs_streams::read::read_script;
 use lfs_text::plan::{Plan, Step};
-use lfs_text::report::append_report;
 use lfs_text::script::parse_script;
 use lfs_types::cleaned::CleanedStore;
 use lfs_volume::volume::Volume;

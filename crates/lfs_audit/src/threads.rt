@@ -9,10 +9,10 @@ ghost use Rattle.lfs_audit.specs.Threads.{IsClosedText, IsThreadsOutput, MayHave
 
 use crate::fault::{RunFault, ThreadsFault};
 use crate::run::read_plan;
+use lfs_answers::print::append_answer;
+use lfs_answers::report::append_report;
 use lfs_server::serving::{Closed, serve_over};
 use lfs_streams::output::{flush, write_full, write_text};
-use lfs_text::print::append_answer;
-use lfs_text::report::append_report;
 use lfs_types::answer::Answer;
 use lfs_types::cleaned::CleanedStore;
 use lfs_volume::volume::Volume;

@@ -1,4 +1,3 @@
 pub mod PlanLemmas
-pub mod PrintLemmas
 pub mod RequestLemmas
 pub mod SplitLemmas

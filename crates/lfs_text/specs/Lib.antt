@@ -1,10 +1,7 @@
-pub mod AnswerText
 pub mod CleanerCalls
-pub mod CleanerText
 pub mod Parsing
 pub mod PlanTypes
 pub mod Plans
-pub mod ReportText
 pub mod Requests
 pub mod Splitting
 pub mod Verbs

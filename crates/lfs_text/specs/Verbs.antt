@@ -1,7 +1,7 @@
 -- The first words of lines.
 use Rattle.std.specs.Prelude.{ℕ, List, [], ◌∷◌, codes, find, Option}
 use Rattle.std.specs.Str.{bytes_eq}
-use Rattle.lfs_model.specs.declared.journal.CleanerKind.{CleanerKind}
+use Rattle.lfs_answers.specs.CleanerWords.{cleaner_word}
 use Rattle.lfs_model.specs.declared.journal.CleanerKind.TheVariants.{Ifile, Infos, Bmapv, Markv, Segclean}
 use Rattle.lfs_text.specs.declared.verb.RequestKind.{RequestKind}
 use Rattle.lfs_text.specs.declared.verb.RequestKind.TheVariants.{Stat, Read, Write, List as Names, SetLength, Create, Mkdir, Unlink, Rmdir, Rename, Chmod, Chown, Chflags, SetLevel, Sync}
@@ -25,14 +25,6 @@ request_word Chown = codes "chown"
 request_word Chflags = codes "chflags"
 request_word SetLevel = codes "level"
 request_word Sync = codes "sync"
-
--- the word of a call of the cleaner
-abbrev pub cleaner_word : CleanerKind → List ℕ
-cleaner_word Ifile = codes "ifile"
-cleaner_word Infos = codes "infos"
-cleaner_word Bmapv = codes "bmapv"
-cleaner_word Markv = codes "markv"
-cleaner_word Segclean = codes "segclean"
 
 -- the word of a verb
 abbrev pub verb_word : Verb → List ℕ

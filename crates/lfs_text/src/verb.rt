@@ -1,8 +1,9 @@
 //! The first words of lines.
 
 ghost use Rattle.std.specs.Prelude.{◌≡◌};
-ghost use Rattle.lfs_text.specs.Verbs.{cleaner_word, request_word, verb_of, verb_word};
+ghost use Rattle.lfs_text.specs.Verbs.{request_word, verb_of, verb_word};
 
+use lfs_answers::cleaner::cleaner_word;
 use lfs_model::journal::CleanerKind;
 
 /// A user's call without what it is given.
@@ -124,18 +125,5 @@ fn request_word(kind: RequestKind) -> &'static str
         RequestKind::Chflags => "chflags",
         RequestKind::SetLevel => "level",
         RequestKind::Sync => "sync",
-    }
-}
-
-/// The word of a call of the cleaner.
-pub fn cleaner_word(kind: CleanerKind) -> &'static str
-    ensures { result.now ≡ cleaner_word kind }
-{
-    match kind {
-        CleanerKind::Ifile => "ifile",
-        CleanerKind::Infos => "infos",
-        CleanerKind::Bmapv => "bmapv",
-        CleanerKind::Markv => "markv",
-        CleanerKind::Segclean => "segclean",
     }
 }

@@ -1,0 +1,4 @@
+pub mod AnswerText
+pub mod CleanerText
+pub mod CleanerWords
+pub mod ReportText

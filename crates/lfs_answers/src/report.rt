@@ -1,0 +1,207 @@
+//! The report over a journal.
+
+ghost use Rattle.std.specs.Prelude.{◌≡◌, ◌++◌, count_by, IfOk, OnOk};
+ghost use Rattle.std.specs.List.{flat_map};
+ghost use Rattle.lfs_answers.specs.ReportText.{count_line, denials, denied_code, is_cleaner, is_denied, is_refused, is_served, report_text, rule_line, users_lines};
+
+use lfs_model::journal::{CleanerOutcome, Entry, Event};
+use lfs_types::answer::Answer;
+use lfs_types::rule::Rule;
+use lfs_words::append::{push_number, push_word};
+use std::alloc::{AllocError, Global};
+
+/// The rules, in the order in which they are reported.
+const RULES: [Rule; 20] = [
+    Rule::IsDirectory,
+    Rule::GrantsSearch,
+    Rule::NameThere,
+    Rule::NameFree,
+    Rule::IsNoDirectory,
+    Rule::IsEmpty,
+    Rule::IsNotRoot,
+    Rule::IsNotBeneathItself,
+    Rule::IsMutable,
+    Rule::IsNotAppendOnly,
+    Rule::GrantsRead,
+    Rule::GrantsWrite,
+    Rule::PassesSticky,
+    Rule::IsOwner,
+    Rule::MaySetOwner,
+    Rule::IsSuperuser,
+    Rule::MaySetFlags,
+    Rule::KeepsSystemLocks,
+    Rule::MaySetLevel,
+    Rule::FitsFile,
+];
+
+/// The report over a journal: how many entries it has, how many users' calls were served, denied and refused,
+/// how many calls the cleaner made, and how many calls each rule denied.
+pub fn report(alloc: Global, entries: &[Entry]) -> Result<Vec<u8>, AllocError>
+    ensures { IfOk result (λ text. text.items ≡ report_text entries.now) }
+{
+    let mut text = Vec::new(alloc);
+    append_report(&mut text, entries)?;
+    Ok(text)
+}
+
+/// Appends the report over a journal.
+pub fn append_report(out: &mut Vec<u8>, entries: &[Entry]) -> Result<(), AllocError>
+    ensures { OnOk result (out.new.items ≡ out.old.items ++ report_text entries.now) }
+{
+    push_count(out, "entries", entries.len())?;
+    push_users_counts(out, entries)?;
+    push_count(out, "cleaner", cleaner_count(entries))?;
+    push_rules(out, entries, &RULES)
+}
+
+/// Appends how many users' calls were served, denied and refused.
+fn push_users_counts(out: &mut Vec<u8>, entries: &[Entry]) -> Result<(), AllocError>
+    ensures { OnOk result (out.new.items ≡ out.old.items ++ users_lines entries.now) }
+{
+    push_count(out, "served", served_count(entries))?;
+    push_count(out, "denied", denied_count(entries))?;
+    push_count(out, "refused", refused_count(entries))
+}
+
+/// Appends a line of a word and a number.
+#[tactic(auto, unfolding(crate::specs::ReportText::count_line))]
+fn push_count(out: &mut Vec<u8>, word: &str, number: usize) -> Result<(), AllocError>
+    ensures { OnOk result (out.new.items ≡ out.old.items ++ count_line word.now number) }
+{
+    out.extend_from_slice(word.as_bytes())?;
+    push_number(out, number as u64)?;
+    out.push(b'\n')?;
+    Ok(())
+}
+
+/// Appends the lines of the rules that denied calls.
+fn push_rules(out: &mut Vec<u8>, entries: &[Entry], rules: &[Rule]) -> Result<(), AllocError>
+    ensures { OnOk result (out.new.items ≡ out.old.items ++ flat_map (rule_line entries.now) rules.now) }
+{
+    for rule in rules {
+        push_rule(out, entries, *rule)?;
+    }
+    Ok(())
+}
+
+/// Appends the line of a rule, where it denied a call.
+#[tactic(auto, unfolding(crate::specs::ReportText::rule_line))]
+fn push_rule(out: &mut Vec<u8>, entries: &[Entry], rule: Rule) -> Result<(), AllocError>
+    ensures { OnOk result (out.new.items ≡ out.old.items ++ rule_line entries.now rule) }
+{
+    let number = denials(entries, rule);
+    if number == 0 {
+        return Ok(());
+    }
+    out.extend_from_slice(b"rule")?;
+    push_word(out, rule.code())?;
+    push_number(out, number as u64)?;
+    out.push(b'\n')?;
+    Ok(())
+}
+
+/// How many calls a rule denied.
+fn denials(entries: &[Entry], rule: Rule) -> usize
+    ensures { result ≡ denials rule entries.now }
+{
+    let code = rule.code();
+    entries
+        .iter()
+        .filter(|entry| denied_code(&entry.event) == code)
+        .count()
+}
+
+/// How many users' calls were served.
+fn served_count(entries: &[Entry]) -> usize
+    ensures { result ≡ count_by (λ entry. is_served entry.event) entries.now }
+{
+    entries
+        .iter()
+        .filter(|entry| is_served(&entry.event))
+        .count()
+}
+
+/// How many users' calls were denied.
+fn denied_count(entries: &[Entry]) -> usize
+    ensures { result ≡ count_by (λ entry. is_denied entry.event) entries.now }
+{
+    entries
+        .iter()
+        .filter(|entry| is_denied(&entry.event))
+        .count()
+}
+
+/// How many users' calls were refused.
+fn refused_count(entries: &[Entry]) -> usize
+    ensures { result ≡ count_by (λ entry. is_refused entry.event) entries.now }
+{
+    entries
+        .iter()
+        .filter(|entry| is_refused(&entry.event))
+        .count()
+}
+
+/// How many calls the cleaner made.
+fn cleaner_count(entries: &[Entry]) -> usize
+    ensures { result ≡ count_by (λ entry. is_cleaner entry.event) entries.now }
+{
+    entries
+        .iter()
+        .filter(|entry| is_cleaner(&entry.event))
+        .count()
+}
+
+/// The code of the rule that denied a call.
+fn denied_code(event: &Event) -> &'static str
+    ensures { result.now ≡ denied_code event.now }
+{
+    match event {
+        Event::User(_, Answer::Denied(denial)) => denial.rule.code(),
+        Event::Cleaner(_, CleanerOutcome::Denied) => Rule::IsSuperuser.code(),
+        Event::User(..) | Event::Cleaner(..) => "",
+    }
+}
+
+/// Whether it is a user's call that was served.
+#[tactic(auto, unfolding(crate::specs::ReportText::is_served))]
+fn is_served(event: &Event) -> bool
+    ensures { result ≡ is_served event.now }
+{
+    match event {
+        Event::User(_, Answer::Served(_)) => true,
+        _ => false,
+    }
+}
+
+/// Whether it is a user's call that was denied.
+#[tactic(auto, unfolding(crate::specs::ReportText::is_denied))]
+fn is_denied(event: &Event) -> bool
+    ensures { result ≡ is_denied event.now }
+{
+    match event {
+        Event::User(_, Answer::Denied(_)) => true,
+        _ => false,
+    }
+}
+
+/// Whether it is a user's call that was refused.
+#[tactic(auto, unfolding(crate::specs::ReportText::is_refused))]
+fn is_refused(event: &Event) -> bool
+    ensures { result ≡ is_refused event.now }
+{
+    match event {
+        Event::User(_, Answer::Refused(_)) => true,
+        _ => false,
+    }
+}
+
+/// Whether it is a cleaner's call.
+#[tactic(auto, unfolding(crate::specs::ReportText::is_cleaner))]
+fn is_cleaner(event: &Event) -> bool
+    ensures { result ≡ is_cleaner event.now }
+{
+    match event {
+        Event::Cleaner(..) => true,
+        Event::User(..) => false,
+    }
+}
