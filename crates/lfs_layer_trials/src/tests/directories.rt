@@ -1,23 +1,12 @@
 //! Blocks whose bytes are written out by hand.
 
-ghost use Rattle.std.specs.Prelude.{◌≤◌, length};
-
-use super::expect_eq;
+use super::{block_of, expect_bytes, expect_eq};
 use lfs_dirs::{added, entries, find, is_directory_block, removed};
 use lfs_types::block::{BLOCK_SIZE, Block};
 use lfs_types::name::Name;
 use std::alloc::Global;
 use std::process::Abort;
 use std::test::Fail;
-
-/// The block that begins with these bytes and goes on with zeros.
-fn block_of(bytes: &[u8]) -> Block
-    requires { length bytes.now ≤ 512 }
-{
-    let mut block = [0; BLOCK_SIZE];
-    block[..bytes.len()].copy_from_slice(bytes);
-    block
-}
 
 /// A block of two entries with names of `first` bytes `a` and of `second` bytes `b`, as long as they fit.
 fn two_long_names(first: u8, second: u8) -> Block {
@@ -32,51 +21,53 @@ fn two_long_names(first: u8, second: u8) -> Block {
     block
 }
 
+fn name_of(rt: &impl Abort, alloc: Global, bytes: &[u8]) -> Name {
+    Name::parse(alloc, bytes).expect(rt, "a name")
+}
+
 /// The block with the entry added, once what `added` asks for holds.
-fn add(
-    alloc: Global,
-    rt: &impl Abort,
-    block: &Block,
-    name: &[u8],
-    number: u32,
-) -> Result<Option<Block>, Fail> {
-    let name = Name::parse(alloc, name)?;
-    assert!(rt; is_directory_block(block));
-    assert!(rt; number > 0);
-    assert_eq!(rt; find(block, &name), None);
-    Ok(added(block, &name, number))
+fn add(rt: &impl Abort, alloc: Global, block: &Block, name: &[u8], number: u32) -> Option<Block> {
+    let name = name_of(rt, alloc, name);
+    assert!(rt; is_directory_block(block) && number > 0 && find(block, &name).is_none());
+    added(block, &name, number)
+}
+
+/// Asserts that the first entry of this name has this number, or that the name has none.
+fn expect_entry(rt: &impl Abort, alloc: Global, block: &Block, name: &[u8], number: Option<u32>) {
+    expect_eq(rt, find(block, &name_of(rt, alloc, name)), number);
 }
 
 #[test]
-fn example_block(rt: HostRuntime) -> Result<(), Fail> {
-    let block = add(rt.alloc(), &rt, &[0; BLOCK_SIZE], b"ab", 4)?.ok_or("no room")?;
-    let expected = block_of(b"\x00\x00\x00\x04\x02ab");
-    expect_eq(&rt, block.as_slice(), expected.as_slice());
-    expect_eq(&rt, find(&block, &Name::parse(rt.alloc(), b"ab")?), Some(4));
-    expect_eq(&rt, find(&block, &Name::parse(rt.alloc(), b"a")?), None);
-    Ok(())
+fn example_block(rt: HostRuntime) {
+    let alloc = rt.alloc();
+    let block = add(&rt, alloc, &[0; BLOCK_SIZE], b"ab", 4).expect(&rt, "room");
+    expect_bytes(&rt, &block, &block_of(b"\x00\x00\x00\x04\x02ab"));
+    expect_entry(&rt, alloc, &block, b"ab", Some(4));
+    expect_entry(&rt, alloc, &block, b"a", None);
 }
 
 #[test]
-fn two_names_of_251_bytes_fill_a_block(rt: HostRuntime) -> Result<(), Fail> {
-    let one = add(rt.alloc(), &rt, &[0; BLOCK_SIZE], &[b'a'; 251], 7)?.ok_or("no room for one")?;
-    let two = add(rt.alloc(), &rt, &one, &[b'b'; 251], 9)?.ok_or("no room for two")?;
-    expect_eq(&rt, two.as_slice(), two_long_names(251, 251).as_slice());
+fn two_names_of_251_bytes_fill_a_block(rt: HostRuntime) {
+    let alloc = rt.alloc();
+    let one = add(&rt, alloc, &[0; BLOCK_SIZE], &[b'a'; 251], 7).expect(&rt, "room for one");
+    let two = add(&rt, alloc, &one, &[b'b'; 251], 9).expect(&rt, "room for two");
+    expect_bytes(&rt, &two, &two_long_names(251, 251));
     expect_eq(&rt, entries(&two).count(), 2);
-    assert!(rt; add(rt.alloc(), &rt, &two, b"c", 11)?.is_none());
-    Ok(())
+    expect_eq(&rt, add(&rt, alloc, &two, b"c", 11), None);
+}
+
+/// Asserts what a block becomes once the entry of this name, where it has one, is removed.
+fn expect_removed(rt: &impl Abort, alloc: Global, block: &Block, name: &[u8], wanted: &Block) {
+    assert!(rt; is_directory_block(block));
+    expect_bytes(rt, &removed(block, &name_of(rt, alloc, name)), wanted);
 }
 
 #[test]
-fn removal_closes_the_list_up(rt: HostRuntime) -> Result<(), Fail> {
+fn removal_closes_the_list_up(rt: HostRuntime) {
     let block = block_of(b"\x00\x00\x00\x04\x02ab\x00\x00\x0f\xff\x01c\x00\x00\x00\x05\x03xyz");
-    assert!(rt; is_directory_block(&block));
-    let first = removed(&block, &Name::parse(rt.alloc(), b"ab")?);
     let expected = block_of(b"\x00\x00\x0f\xff\x01c\x00\x00\x00\x05\x03xyz");
-    expect_eq(&rt, first.as_slice(), expected.as_slice());
-    let other = removed(&block, &Name::parse(rt.alloc(), b"unknown")?);
-    expect_eq(&rt, other.as_slice(), block.as_slice());
-    Ok(())
+    expect_removed(&rt, rt.alloc(), &block, b"ab", &expected);
+    expect_removed(&rt, rt.alloc(), &block, b"unknown", &block);
 }
 
 #[test]
@@ -110,47 +101,46 @@ fn entries_of_any_block_end(rt: HostRuntime) -> Result<(), Fail> {
     Ok(())
 }
 
+/// Asserts whether a block is a directory block.
+fn expect_judged(rt: &impl Abort, block: &Block, is_one: bool) {
+    expect_eq(rt, is_directory_block(block), is_one);
+}
+
+/// Blocks that begin with these bytes are no directory blocks.
+const OTHERS: [&[u8]; 5] = [
+    // A byte behind the end.
+    b"\x00\x00\x00\x04\x02ab\x00\x00\x00\x00\x00\x01",
+    // A name twice.
+    b"\x00\x00\x00\x04\x01a\x00\x00\x00\x05\x01a",
+    // A number without a name.
+    b"\x00\x00\x00\x04",
+    // A slash.
+    b"\x00\x00\x00\x04\x01/",
+    // Two dots.
+    b"\x00\x00\x00\x04\x02..",
+];
+
 #[test]
 fn other_blocks_are_no_directory_blocks(rt: HostRuntime) {
+    for start in OTHERS {
+        expect_judged(&rt, &block_of(start), false);
+    }
+    expect_judged(&rt, &[0; BLOCK_SIZE], true);
+    // A full block.
+    expect_judged(&rt, &two_long_names(250, 252), true);
+    // Fewer than five bytes left.
+    expect_judged(&rt, &two_long_names(250, 250), true);
+    // A name that runs over the end.
+    expect_judged(&rt, &two_long_names(250, 253), false);
+    // A byte in what is left.
     let mut late_byte = two_long_names(250, 250);
     late_byte[BLOCK_SIZE - 1] = 1;
-    let blocks = [
-        ([0; BLOCK_SIZE], true, "zeros"),
-        (two_long_names(250, 252), true, "a full block"),
-        (two_long_names(250, 250), true, "fewer than five bytes left"),
-        (late_byte, false, "a byte in what is left"),
-        (
-            two_long_names(250, 253),
-            false,
-            "a name that runs over the end",
-        ),
-        (
-            block_of(b"\x00\x00\x00\x04\x02ab\x00\x00\x00\x00\x00\x01"),
-            false,
-            "a byte behind the end",
-        ),
-        (
-            block_of(b"\x00\x00\x00\x04\x01a\x00\x00\x00\x05\x01a"),
-            false,
-            "a name twice",
-        ),
-        (
-            block_of(b"\x00\x00\x00\x04"),
-            false,
-            "a number without a name",
-        ),
-        (block_of(b"\x00\x00\x00\x04\x01/"), false, "a slash"),
-        (block_of(b"\x00\x00\x00\x04\x02.."), false, "two dots"),
-    ];
-    for (block, is_one, what) in &blocks {
-        expect_eq(&rt, is_directory_block(block), *is_one);
-    }
+    expect_judged(&rt, &late_byte, false);
 }
 
 #[test]
-fn the_first_entry_of_a_name_is_found(rt: HostRuntime) -> Result<(), Fail> {
+fn the_first_entry_of_a_name_is_found(rt: HostRuntime) {
     let block = block_of(b"\x00\x00\x00\x04\x01a\x00\x00\x00\x05\x01b\x00\x00\x00\x06\x01b");
-    expect_eq(&rt, find(&block, &Name::parse(rt.alloc(), b"b")?), Some(5));
-    expect_eq(&rt, find(&block, &Name::parse(rt.alloc(), b"c")?), None);
-    Ok(())
+    expect_entry(&rt, rt.alloc(), &block, b"b", Some(5));
+    expect_entry(&rt, rt.alloc(), &block, b"c", None);
 }

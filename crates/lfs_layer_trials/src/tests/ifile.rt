@@ -2,87 +2,137 @@ use super::expect_eq;
 use lfs_ifile::{Ifile, InodePlace, SegState, SegUse, raised_version, usage_in};
 use lfs_types::fault::FormatFault;
 use std::alloc::Global;
-use std::test::Fail;
+use std::process::Abort;
 
-fn fault_of(alloc: Global, segments: u32, inodes: u32) -> Option<FormatFault> {
-    Ifile::format(alloc, segments, inodes).err()
-}
+/// Numbers of segments and of inodes, and the fault of a format with them.
+const RANGES: [(u32, u32, Option<FormatFault>); 8] = [
+    (5, 16, Some(FormatFault::TooFew)),
+    (6, 16, None),
+    (1_024, 4_096, None),
+    (1_025, 16, Some(FormatFault::TooMany)),
+    (6, 15, Some(FormatFault::TooFew)),
+    (6, 4_097, Some(FormatFault::TooMany)),
+    (5, 4_097, Some(FormatFault::TooFew)),
+    (1_025, 15, Some(FormatFault::TooMany)),
+];
 
 #[test]
 fn ranges_are_judged_in_order(rt: HostRuntime) {
-    let table = [
-        (5, 16, Some(FormatFault::TooFew)),
-        (6, 16, None),
-        (1_024, 4_096, None),
-        (1_025, 16, Some(FormatFault::TooMany)),
-        (6, 15, Some(FormatFault::TooFew)),
-        (6, 4_097, Some(FormatFault::TooMany)),
-        (5, 4_097, Some(FormatFault::TooFew)),
-        (1_025, 15, Some(FormatFault::TooMany)),
-    ];
-    for (segments, inodes, want) in table {
-        expect_eq(&rt, &fault_of(rt.alloc(), segments, inodes), &want);
+    for (segments, inodes, fault) in RANGES {
+        expect_eq(
+            &rt,
+            Ifile::format(rt.alloc(), segments, inodes).err(),
+            fault,
+        );
     }
 }
 
-#[test]
-fn lengths_of_the_bytes(rt: HostRuntime) -> Result<(), Fail> {
-    let small = Ifile::format(rt.alloc(), 6, 16)?;
-    expect_eq(&rt, small.least_free(), Some(4));
-    expect_eq(&rt, small.bytes()?.len(), 252);
-    let usual = Ifile::format(rt.alloc(), 64, 256)?;
-    expect_eq(&rt, usual.bytes()?.len(), 3_596);
-    Ok(())
+/// The ifile of six segments and sixteen inode numbers.
+fn small(rt: &impl Abort, alloc: Global) -> Ifile {
+    Ifile::format(alloc, 6, 16).expect(rt, "an ifile")
+}
+
+/// Asserts that this is the least number that is not used.
+fn expect_least(rt: &impl Abort, file: &Ifile, number: Option<u32>) {
+    expect_eq(rt, file.least_free(), number);
+}
+
+/// Asserts how many bytes an ifile takes.
+fn expect_length(rt: &impl Abort, file: &Ifile, length: usize) {
+    expect_eq(rt, file.bytes().expect(rt, "bytes").len(), length);
 }
 
 #[test]
-fn numbers_are_given_out_from_four(rt: HostRuntime) -> Result<(), Fail> {
-    let mut file = Ifile::format(rt.alloc(), 6, 16)?;
-    for want in 4..16 {
-        assert_eq!(rt; file.least_free(), Some(want));
-        expect_eq(&rt, file.give_out(want), 1);
-    }
-    assert_eq!(rt; file.least_free(), None);
-    Ok(())
+fn lengths_of_the_bytes(rt: HostRuntime) {
+    let file = small(&rt, rt.alloc());
+    expect_least(&rt, &file, Some(4));
+    expect_length(&rt, &file, 252);
+    drop(file);
+    let usual = Ifile::format(rt.alloc(), 64, 256).expect(&rt, "an ifile");
+    expect_length(&rt, &usual, 3_596);
+}
+
+/// Gives out a number that is not used, and asserts that its version is this one.
+fn give_out(rt: &impl Abort, file: &mut Ifile, number: u32, version: u32) {
+    assert!(rt; number < file.inodes());
+    assert!(rt; file.place(number).is_none());
+    expect_eq(rt, file.give_out(number), version);
+}
+
+/// The same of the least number that is not used.
+fn give_out_least(rt: &impl Abort, file: &mut Ifile, number: u32, version: u32) {
+    expect_least(rt, file, Some(number));
+    give_out(rt, file, number, version);
+}
+
+/// Takes a number back, once it is used.
+fn release(rt: &impl Abort, file: &mut Ifile, number: u32) {
+    assert!(rt; number < file.inodes());
+    assert!(rt; file.place(number).is_some());
+    file.release(number);
 }
 
 #[test]
-fn released_number_is_the_least_free(rt: HostRuntime) -> Result<(), Fail> {
-    let mut file = Ifile::format(rt.alloc(), 6, 16)?;
-    for want in 4..12 {
-        assert_eq!(rt; file.least_free(), Some(want));
-        file.give_out(want);
+fn numbers_are_given_out_from_four(rt: HostRuntime) {
+    let mut file = small(&rt, rt.alloc());
+    for number in 4..16 {
+        give_out_least(&rt, &mut file, number, 1);
     }
-    assert_eq!(rt; file.least_free(), Some(12));
-    assert!(rt; file.place(9).is_some());
-    file.release(9);
-    assert_eq!(rt; file.least_free(), Some(9));
-    assert!(rt; file.place(6).is_some());
-    file.release(6);
-    assert_eq!(rt; file.least_free(), Some(6));
-    expect_eq(&rt, file.give_out(6), 2);
-    assert_eq!(rt; file.least_free(), Some(9));
-    expect_eq(&rt, file.give_out(9), 2);
-    assert_eq!(rt; file.least_free(), Some(12));
-    Ok(())
+    expect_least(&rt, &file, None);
+}
+
+#[test]
+fn released_number_is_the_least_free(rt: HostRuntime) {
+    let mut file = small(&rt, rt.alloc());
+    for number in 4..12 {
+        give_out_least(&rt, &mut file, number, 1);
+    }
+    expect_least(&rt, &file, Some(12));
+    release(&rt, &mut file, 9);
+    expect_least(&rt, &file, Some(9));
+    release(&rt, &mut file, 6);
+    give_out_least(&rt, &mut file, 6, 2);
+    give_out_least(&rt, &mut file, 9, 2);
+    expect_least(&rt, &file, Some(12));
+}
+
+/// Places the record of a number that is used.
+fn place(rt: &impl Abort, file: &mut Ifile, number: u32, addr: u32, slot: u16) {
+    assert!(rt; number < file.inodes());
+    assert!(rt; file.place(number).is_some());
+    assert!(rt; addr < 64 * file.segments() && slot < 4);
+    file.set_place(number, addr, slot);
+}
+
+/// Gives a segment a state and live bytes, where it has none.
+fn fill(rt: &impl Abort, file: &mut Ifile, segment: u32, state: SegState, live: u32) {
+    assert!(rt; segment < file.segments());
+    assert!(rt; file.usage(segment).live == 0 && live <= 32_768);
+    file.add_live(segment, live);
+    file.set_state(segment, state);
+}
+
+/// Drops live bytes of a segment that has as many.
+fn drop_live(rt: &impl Abort, file: &mut Ifile, segment: u32, live: u32) {
+    assert!(rt; segment < file.segments());
+    assert!(rt; live <= file.usage(segment).live);
+    file.drop_live(segment, live);
 }
 
 /// The ifile of six segments and sixteen inode numbers that `BYTES` spells.
-fn changed(alloc: Global) -> Result<Ifile, FormatFault> {
-    let mut file = Ifile::format(alloc, 6, 16)?;
-    file.set_state(0, SegState::Active);
-    file.add_live(0, 640);
-    file.set_state(3, SegState::Dirty);
-    file.add_live(3, 32_768);
-    file.drop_live(3, 512);
-    file.give_out(2);
-    file.set_place(2, 2, 0);
-    file.give_out(4);
-    file.set_place(4, 130, 3);
-    file.give_out(5);
-    file.release(5);
-    file.give_out(6);
-    Ok(file)
+fn changed(rt: &impl Abort, alloc: Global) -> Ifile {
+    let mut file = small(rt, alloc);
+    fill(rt, &mut file, 0, SegState::Active, 640);
+    fill(rt, &mut file, 3, SegState::Dirty, 32_768);
+    drop_live(rt, &mut file, 3, 512);
+    give_out(rt, &mut file, 2, 1);
+    place(rt, &mut file, 2, 2, 0);
+    give_out(rt, &mut file, 4, 1);
+    place(rt, &mut file, 4, 130, 3);
+    give_out(rt, &mut file, 5, 1);
+    release(rt, &mut file, 5);
+    give_out(rt, &mut file, 6, 1);
+    file
 }
 
 /// Its bytes, by hand: the header, six segments, and the rows of sixteen inode numbers, of which 2
@@ -112,10 +162,9 @@ const BYTES: &[u8; 252] = b"LFIF\0\0\0\x06\0\0\0\x10\
     \0\0\0\0\0\0\0\0\0\0\0\0";
 
 #[test]
-fn bytes_by_hand(rt: HostRuntime) -> Result<(), Fail> {
-    let bytes = changed(rt.alloc())?.bytes()?;
+fn bytes_by_hand(rt: HostRuntime) {
+    let bytes = changed(&rt, rt.alloc()).bytes().expect(&rt, "bytes");
     expect_eq(&rt, bytes.as_slice(), BYTES.as_slice());
-    Ok(())
 }
 
 #[test]
@@ -125,104 +174,123 @@ fn one_follows_the_last_version(rt: HostRuntime) {
     expect_eq(&rt, raised_version(4_294_967_295), 1);
 }
 
+/// Asserts where the record of a number is.
+fn expect_place(rt: &impl Abort, file: &Ifile, number: u32, place: Option<InodePlace>) {
+    assert!(rt; number < file.inodes());
+    expect_eq(rt, file.place(number), place);
+}
+
+/// How a segment is used.
+fn usage(rt: &impl Abort, file: &Ifile, segment: u32) -> SegUse {
+    assert!(rt; segment < file.segments());
+    file.usage(segment)
+}
+
 #[test]
-fn usage_and_places(rt: HostRuntime) -> Result<(), Fail> {
-    let mut file = changed(rt.alloc())?;
-    assert_eq!(rt; file.least_free(), Some(5));
+fn usage_and_places(rt: HostRuntime) {
+    let mut file = changed(&rt, rt.alloc());
     let active = SegUse {
         live: 640,
         state: SegState::Active,
     };
-    expect_eq(&rt, &file.usage(0), &active);
-    let place = InodePlace {
+    expect_eq(&rt, usage(&rt, &file, 0), active);
+    let placed = InodePlace {
         addr: 130,
         slot: 3,
         version: 1,
     };
-    expect_eq(&rt, file.place(4), Some(place));
-    expect_eq(&rt, file.place(5), None);
-    expect_eq(&rt, file.give_out(5), 2);
+    expect_place(&rt, &file, 4, Some(placed));
+    expect_place(&rt, &file, 5, None);
+    give_out_least(&rt, &mut file, 5, 2);
     let waiting = InodePlace {
         addr: 0,
         slot: 0,
         version: 2,
     };
-    expect_eq(&rt, file.place(5), Some(waiting));
-    Ok(())
+    expect_place(&rt, &file, 5, Some(waiting));
 }
 
-#[test]
-fn usage_in_the_bytes_is_usage(rt: HostRuntime) -> Result<(), Fail> {
-    let file = changed(rt.alloc())?;
-    assert_eq!(rt; file.least_free(), Some(5));
-    let bytes = file.bytes()?;
-    for seg in 0..6 {
-        expect_eq(&rt, usage_in(&bytes, seg), Some(file.usage(seg)));
+/// Asserts what the bytes of an ifile say of the use of a segment.
+fn expect_usage_in(rt: &impl Abort, bytes: &[u8], segment: u32, used: Option<SegUse>) {
+    expect_eq(rt, usage_in(bytes, segment), used);
+}
+
+/// Asserts that the bytes of an ifile of six segments say of the use of each segment what the ifile says.
+fn expect_usage(rt: &impl Abort, file: &Ifile, bytes: &[u8]) {
+    for segment in 0..6 {
+        expect_usage_in(rt, bytes, segment, Some(usage(rt, file, segment)));
     }
-    expect_eq(&rt, usage_in(&bytes, 6), None);
-    Ok(())
+    expect_usage_in(rt, bytes, 6, None);
 }
 
 #[test]
-fn bytes_of_the_largest(rt: HostRuntime) -> Result<(), Fail> {
-    let mut file = Ifile::format(rt.alloc(), 1_024, 4_096)?;
-    expect_eq(&rt, file.segments(), 1_024);
-    expect_eq(&rt, file.inodes(), 4_096);
-    file.set_state(1_023, SegState::Dirty);
-    file.add_live(1_023, 32_768);
-    file.give_out(4_095);
-    file.set_place(4_095, 65_535, 3);
-    let bytes = file.bytes()?;
+fn usage_in_the_bytes_is_usage(rt: HostRuntime) {
+    let file = changed(&rt, rt.alloc());
+    expect_least(&rt, &file, Some(5));
+    expect_usage(&rt, &file, &file.bytes().expect(&rt, "bytes"));
+}
+
+/// The largest ifile, with use of its last segment and its last number.
+fn largest(rt: &impl Abort, alloc: Global) -> Ifile {
+    let mut file = Ifile::format(alloc, 1_024, 4_096).expect(rt, "an ifile");
+    fill(rt, &mut file, 1_023, SegState::Dirty, 32_768);
+    give_out(rt, &mut file, 4_095, 1);
+    place(rt, &mut file, 4_095, 65_535, 3);
+    file
+}
+
+#[test]
+fn bytes_of_the_largest(rt: HostRuntime) {
+    let file = largest(&rt, rt.alloc());
+    expect_eq(&rt, [file.segments(), file.inodes()], [1_024, 4_096]);
+    let bytes = file.bytes().expect(&rt, "bytes");
     expect_eq(&rt, bytes.len(), 57_356);
     let full = SegUse {
         live: 32_768,
         state: SegState::Dirty,
     };
-    expect_eq(&rt, usage_in(&bytes, 1_023), Some(full));
-    expect_eq(&rt, usage_in(&bytes, 1_024), None);
+    expect_usage_in(&rt, &bytes, 1_023, Some(full));
+    expect_usage_in(&rt, &bytes, 1_024, None);
     expect_eq(
         &rt,
-        &bytes[57_344..],
-        b"\0\0\xff\xff\0\x03\0\x01\0\0\0\x01".as_slice(),
+        bytes.ends_with(b"\0\0\xff\xff\0\x03\0\x01\0\0\0\x01"),
+        true,
     );
-    Ok(())
+}
+
+/// The bytes of one segment with 640 live bytes, as those of an ifile without inode numbers.
+const GOOD: &[u8; 20] = b"LFIF\0\0\0\x01\0\0\0\0\0\0\x02\x80\0\0\0\x02";
+
+/// Bytes that say of the use of no segment, or not of segment 0.
+const OTHERS: [&[u8; 20]; 7] = [
+    b"LFIG\0\0\0\x01\0\0\0\0\0\0\x02\x80\0\0\0\x02",
+    b"LFIF\0\0\0\x01\0\0\0\0\0\0\x02\x80\0\0\0\x03",
+    b"LFIF\0\0\0\x01\0\0\0\0\0\0\x02\x80\x01\0\0\x02",
+    b"LFIF\0\0\0\x02\0\0\0\0\0\0\x02\x80\0\0\0\x02",
+    b"LFIF\0\0\0\x01\0\0\0\x01\0\0\x02\x80\0\0\0\x02",
+    b"LFIF\x20\0\0\x01\0\0\0\0\0\0\x02\x80\0\0\0\x02",
+    b"LFIF\xff\xff\xff\xff\xff\xff\xff\xff\0\0\x02\x80\0\0\0\x02",
+];
+
+/// Use of the active segment, with so many live bytes.
+fn active(live: u32) -> Option<SegUse> {
+    Some(SegUse {
+        live,
+        state: SegState::Active,
+    })
 }
 
 #[test]
 fn usage_in_bytes_of_others(rt: HostRuntime) {
-    let active = |live| {
-        Some(SegUse {
-            live,
-            state: SegState::Active,
-        })
-    };
-    let table = [
-        (
-            *b"LFIF\0\0\0\x01\0\0\0\0\0\0\x02\x80\0\0\0\x02",
-            active(640),
-        ),
-        (
-            *b"LFIF\0\0\0\x01\0\0\0\0\xff\xff\xff\xff\0\0\0\x02",
-            active(u32::MAX),
-        ),
-        (*b"LFIG\0\0\0\x01\0\0\0\0\0\0\x02\x80\0\0\0\x02", None),
-        (*b"LFIF\0\0\0\x01\0\0\0\0\0\0\x02\x80\0\0\0\x03", None),
-        (*b"LFIF\0\0\0\x01\0\0\0\0\0\0\x02\x80\x01\0\0\x02", None),
-        (*b"LFIF\0\0\0\x02\0\0\0\0\0\0\x02\x80\0\0\0\x02", None),
-        (*b"LFIF\0\0\0\x01\0\0\0\x01\0\0\x02\x80\0\0\0\x02", None),
-        (*b"LFIF\x20\0\0\x01\0\0\0\0\0\0\x02\x80\0\0\0\x02", None),
-        (
-            *b"LFIF\xff\xff\xff\xff\xff\xff\xff\xff\0\0\x02\x80\0\0\0\x02",
-            None,
-        ),
-    ];
-    for (bytes, want) in &table {
-        expect_eq(&rt, usage_in(bytes, 0), *want);
+    for bytes in OTHERS {
+        expect_usage_in(&rt, bytes, 0, None);
     }
-    let (good, _) = table[0];
-    expect_eq(&rt, usage_in(&good, 1), None);
-    expect_eq(&rt, usage_in(&good, u32::MAX), None);
-    expect_eq(&rt, usage_in(&good[..19], 0), None);
-    expect_eq(&rt, usage_in(&good[..11], 0), None);
-    expect_eq(&rt, usage_in(b"", 0), None);
+    expect_usage_in(&rt, GOOD, 0, active(640));
+    let most = b"LFIF\0\0\0\x01\0\0\0\0\xff\xff\xff\xff\0\0\0\x02";
+    expect_usage_in(&rt, most, 0, active(u32::MAX));
+    expect_usage_in(&rt, GOOD, 1, None);
+    expect_usage_in(&rt, GOOD, u32::MAX, None);
+    expect_usage_in(&rt, &GOOD[..19], 0, None);
+    expect_usage_in(&rt, &GOOD[..11], 0, None);
+    expect_usage_in(&rt, b"", 0, None);
 }

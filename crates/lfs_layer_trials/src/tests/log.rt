@@ -5,7 +5,7 @@ ghost use Rattle.lfs_segments.specs.Entry.{IsEntry};
 ghost use Rattle.lfs_inodes.specs.Facts.{IsInodeNumber};
 ghost use Rattle.lfs_log.specs.Parts.{live_of};
 
-use super::expect_eq;
+use super::{expect_bytes, expect_eq, mode};
 use lfs_ifile::{SegState, SegUse};
 use lfs_inodes::inode::Inode;
 use lfs_log::Log;
@@ -15,19 +15,9 @@ use lfs_types::attrs::Kind;
 use lfs_types::block::Block;
 use lfs_types::cleaner::BlockInfo;
 use lfs_types::file_flags::FileFlags;
-use lfs_types::mode::Mode;
 use lfs_ways::blocks::FileBlock;
+use std::alloc::Global;
 use std::process::Abort;
-use std::test::Fail;
-
-fn mode(bits: u16) -> Mode
-    requires { bits < 4096 }
-{
-    let Some(mode) = Mode::new(bits) else {
-        unreachable!()
-    };
-    mode
-}
 
 /// An inode without blocks.
 fn empty(kind: Kind, number: u32, version: u32) -> Inode
@@ -48,34 +38,49 @@ fn empty(kind: Kind, number: u32, version: u32) -> Inode
     }
 }
 
-/// The root, the last number, and a number given out again.
+/// The root.
+fn root() -> Inode {
+    empty(Kind::Directory, 2, 1)
+}
+
+/// The file of the last number, in the last version.
+fn last() -> Inode {
+    empty(Kind::File, 4095, 4_294_967_295)
+}
+
+/// The file of a number that is given out again.
+fn again() -> Inode {
+    empty(Kind::File, 4, 2)
+}
+
+/// All three.
 fn three() -> [Inode; 3] {
-    [
-        empty(Kind::Directory, 2, 1),
-        empty(Kind::File, 4095, 4_294_967_295),
-        empty(Kind::File, 4, 2),
-    ]
+    [root(), last(), again()]
+}
+
+/// Asserts that a slot of a block of inodes begins with these bytes, and has the record of this inode.
+fn expect_record(
+    rt: &impl Abort,
+    block: &Block,
+    slot: usize,
+    start: &[u8; 12],
+    inode: Option<Inode>,
+) {
+    assert!(rt; slot < 4);
+    expect_eq(rt, &block[128 * slot..128 * slot + 12], start.as_slice());
+    expect_eq(rt, inode_in(block, slot), inode);
 }
 
 #[test]
 fn records_share_a_block(rt: HostRuntime) {
     let block = packed(&three());
-    for (slot, start) in [
-        [0, 1, 0, 2, 0, 0, 0, 2, 0, 0, 0, 1],
-        [0, 1, 0, 1, 0, 0, 0x0f, 0xff, 0xff, 0xff, 0xff, 0xff],
-        [0, 1, 0, 1, 0, 0, 0, 4, 0, 0, 0, 2],
-        [0, 0, 0, 0, 0, 0, 0, 0, 0, 0, 0, 0],
-    ]
-    .iter()
-    .enumerate()
-    {
-        expect_eq(&rt, &block[128 * slot..128 * slot + 12], start.as_slice());
-    }
-    let [root, last, again] = three();
-    expect_eq(&rt, inode_in(&block, 0), Some(root));
-    expect_eq(&rt, inode_in(&block, 1), Some(last));
-    expect_eq(&rt, inode_in(&block, 2), Some(again));
-    expect_eq(&rt, inode_in(&block, 3), None);
+    let start = [0, 1, 0, 2, 0, 0, 0, 2, 0, 0, 0, 1];
+    expect_record(&rt, &block, 0, &start, Some(root()));
+    let start = [0, 1, 0, 1, 0, 0, 0x0f, 0xff, 0xff, 0xff, 0xff, 0xff];
+    expect_record(&rt, &block, 1, &start, Some(last()));
+    let start = [0, 1, 0, 1, 0, 0, 0, 4, 0, 0, 0, 2];
+    expect_record(&rt, &block, 2, &start, Some(again()));
+    expect_record(&rt, &block, 3, &[0; 12], None);
 }
 
 /// What is to be found of a block or a record.
@@ -150,27 +155,35 @@ fn put_are_found(rt: &impl Abort, log: &Log) {
     expect_eq(rt, log.infos(1).items().is_empty(), true);
 }
 
-#[test]
-fn what_is_put_is_found(rt: HostRuntime) -> Result<(), Fail> {
-    let mut log = Log::format(rt.alloc(), 6, 16)?;
+/// The log of a fresh volume of six segments, in which a partial segment of the entries above is begun.
+fn begun(rt: &impl Abort, alloc: Global) -> Log {
+    let mut log = Log::format(alloc, 6, 16).expect(rt, "a log");
     assert_eq!(rt; log.room(), 63);
-    expect_eq(&rt, log.begin(&entries()), 1);
+    expect_eq(rt, log.begin(&entries()), 1);
+    log
+}
+
+#[test]
+fn what_is_put_is_found(rt: HostRuntime) {
+    let mut log = begun(&rt, rt.alloc());
     put_at(&rt, &mut log, 2, &[7; 512]);
     put_at(&rt, &mut log, 3, &[8; 512]);
     put_three(&rt, &mut log);
     put_are_found(&rt, &log);
-    Ok(())
 }
 
 /// Opens the next clean segment, and asserts that it is this one and that so many are clean then.
 fn opens(rt: &impl Abort, log: &mut Log, segment: u32, clean: u32) {
-    expect_eq(rt, log.open(), Some(segment));
-    expect_eq(rt, log.active(), segment);
-    expect_eq(rt, log.clean(), clean);
+    let opened = log.open().expect(rt, "a clean segment");
+    expect_eq(
+        rt,
+        [opened, log.active(), log.clean()],
+        [segment, segment, clean],
+    );
 }
 
-/// Makes segment 3 clean, and asserts that it had no live bytes and is the next that is opened.
-fn third_is_opened_again(rt: &impl Abort, log: &mut Log) {
+/// Makes segment 3 clean, and asserts that it had no live bytes.
+fn third_is_reclaimed(rt: &impl Abort, log: &mut Log) {
     let dirty = SegUse {
         live: 0,
         state: SegState::Dirty,
@@ -178,29 +191,27 @@ fn third_is_opened_again(rt: &impl Abort, log: &mut Log) {
     is_small(rt, log);
     assert_eq!(rt; log.usage(3), dirty);
     log.reclaim(3);
-    expect_eq(rt, log.open(), Some(3));
 }
 
 #[test]
-fn segments_are_opened_in_turn(rt: HostRuntime) -> Result<(), Fail> {
-    let mut log = Log::format(rt.alloc(), 6, 16)?;
+fn segments_are_opened_in_turn(rt: HostRuntime) {
+    let mut log = Log::format(rt.alloc(), 6, 16).expect(&rt, "a log");
     expect_eq(&rt, log.clean(), 5);
     for (segment, clean) in [(1, 4), (2, 3), (3, 2), (4, 1), (5, 0)] {
         opens(&rt, &mut log, segment, clean);
     }
     expect_eq(&rt, log.open(), None);
-    third_is_opened_again(&rt, &mut log);
-    Ok(())
+    third_is_reclaimed(&rt, &mut log);
+    opens(&rt, &mut log, 3, 0);
 }
 
-/// Asserts that segments 1 and 2 have so many live bytes.
-fn live_is(rt: &impl Abort, log: &Log, first: u32, second: u32)
-    ensures first { live_of log.now.tables 1 ≡ first }
-    ensures second { live_of log.now.tables 2 ≡ second }
+/// Asserts that a segment has so many live bytes.
+fn live_is(rt: &impl Abort, log: &Log, segment: u32, live: u32)
+    ensures inside { segment < log.now.memory.segments }
+    ensures live { live_of log.now.tables segment ≡ live }
 {
-    is_small(rt, log);
-    assert_eq!(rt; log.usage(1).live, first);
-    assert_eq!(rt; log.usage(2).live, second);
+    assert!(rt; segment < log.segments());
+    assert!(rt; log.usage(segment).live == live);
 }
 
 /// Gives out number 4, and places its record at slot 3 of block 130, which is in segment 2.
@@ -208,25 +219,29 @@ fn placed(rt: &impl Abort, log: &mut Log) {
     assert_eq!(rt; log.inodes(), 16);
     assert_eq!(rt; log.least_free(), Some(4));
     expect_eq(rt, log.give_out(4), 1);
-    live_is(rt, log, 0, 0);
+    is_small(rt, log);
+    live_is(rt, log, 1, 0);
+    live_is(rt, log, 2, 0);
     log.place_record(4, 130, 3);
 }
 
 /// Moves the first block of file 4 to the record's segment, and on to the segment before it.
 fn moved(rt: &impl Abort, log: &mut Log) {
     is_small(rt, log);
-    live_is(rt, log, 0, 128);
+    live_is(rt, log, 1, 0);
+    live_is(rt, log, 2, 128);
     log.move_live(FileBlock::Data(0), 0, 131);
-    live_is(rt, log, 0, 640);
+    live_is(rt, log, 1, 0);
+    live_is(rt, log, 2, 640);
     log.move_live(FileBlock::Data(0), 131, 64);
-    live_is(rt, log, 512, 128);
+    live_is(rt, log, 1, 512);
+    live_is(rt, log, 2, 128);
 }
 
 #[test]
-fn live_bytes_follow_the_keys(rt: HostRuntime) -> Result<(), Fail> {
-    let mut log = Log::format(rt.alloc(), 6, 16)?;
+fn live_bytes_follow_the_keys(rt: HostRuntime) {
+    let mut log = Log::format(rt.alloc(), 6, 16).expect(&rt, "a log");
     placed(&rt, &mut log);
     moved(&rt, &mut log);
-    expect_eq(&rt, log.ifile_bytes()?.len(), 252);
-    Ok(())
+    expect_eq(&rt, log.ifile_bytes().expect(&rt, "bytes").len(), 252);
 }

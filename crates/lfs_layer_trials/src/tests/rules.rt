@@ -11,84 +11,101 @@ use lfs_types::file_flags::FileFlags;
 use lfs_types::level::Level;
 use lfs_types::mode::Mode;
 use lfs_types::rule::Rule;
-use std::test::Fail;
+use std::process::Abort;
+
+/// A mode.
+fn mode(rt: &impl Abort, bits: u16) -> Mode {
+    Mode::new(bits).expect(rt, "a mode")
+}
+
+/// A file's flags.
+fn flags(rt: &impl Abort, bits: u32) -> FileFlags {
+    FileFlags::new(bits).expect(rt, "flags")
+}
+
+/// A user of these groups.
+fn user(rt: &impl Abort, uid: u32, groups: &[u32], init: bool) -> Cred {
+    Cred::new(uid, groups, init).expect(rt, "a credential")
+}
 
 /// A file of this owner, group, mode and flags.
-fn file(uid: u32, gid: u32, mode: u16, flags: u32) -> Result<Attrs, Fail> {
-    Ok(Attrs {
+fn file(rt: &impl Abort, uid: u32, gid: u32, bits: u16, flag_bits: u32) -> Attrs {
+    Attrs {
         kind: Kind::File,
         uid,
         gid,
-        mode: Mode::new(mode).ok_or("a mode")?,
-        flags: FileFlags::new(flags).ok_or("flags")?,
+        mode: mode(rt, bits),
+        flags: flags(rt, flag_bits),
         size: 0,
-    })
+    }
 }
 
-/// Whether a user of these groups is granted a bit of a file of this owner, group and mode.
-fn granted(
-    (owner, group, mode): (u32, u32, u16),
-    uid: u32,
-    groups: &[u32],
-    bit: Bit,
-) -> Result<bool, Fail> {
-    let cred = Cred::new(uid, groups, false)?;
-    Ok(grants(&file(owner, group, mode, 0)?, &cred, bit))
+/// Asserts of each row whether a user of these groups is granted a bit of the file of a user and his group, with this mode:
+/// owner, mode, user, groups, bit, granted.
+fn expect_grants(rt: &impl Abort, rows: &[(u32, u16, u32, &[u32], Bit, bool)]) {
+    for (owner, mode, uid, groups, bit, want) in rows {
+        let attrs = file(rt, *owner, *owner, *mode, 0);
+        let cred = user(rt, *uid, groups, false);
+        expect_eq(rt, grants(&attrs, &cred, *bit), *want);
+    }
 }
 
 #[test]
-fn owner_is_judged_by_owner_bits_alone(rt: HostRuntime) -> Result<(), Fail> {
-    for (mode, uid, groups, bit, want) in [
-        (0o077, 7, [7].as_slice(), Bit::Read, false),
-        (0o077, 8, [9].as_slice(), Bit::Read, true),
-        (0o077, 0, [0].as_slice(), Bit::Read, true),
-        (0o704, 7, [9].as_slice(), Bit::Write, true),
-        (0o704, 8, [9, 7].as_slice(), Bit::Read, false),
-    ] {
-        expect_eq(&rt, granted((7, 7, mode), uid, groups, bit)?, want);
-    }
-    Ok(())
+fn owner_is_judged_by_owner_bits_alone(rt: HostRuntime) {
+    expect_grants(
+        &rt,
+        &[
+            (7, 0o077, 7, &[7], Bit::Read, false),
+            (7, 0o077, 8, &[9], Bit::Read, true),
+            (7, 0o077, 0, &[0], Bit::Read, true),
+            (7, 0o704, 7, &[9], Bit::Write, true),
+            (7, 0o704, 8, &[9, 7], Bit::Read, false),
+        ],
+    );
 }
 
 #[test]
-fn three_classes_have_bits_of_their_own(rt: HostRuntime) -> Result<(), Fail> {
-    for (uid, gid, bit, want) in [
-        (7, 7, Bit::Read, true),
-        (7, 7, Bit::Write, false),
-        (7, 7, Bit::Search, false),
-        (8, 7, Bit::Read, true),
-        (8, 7, Bit::Write, false),
-        (8, 7, Bit::Search, true),
-        (8, 8, Bit::Read, false),
-        (8, 8, Bit::Write, false),
-        (8, 8, Bit::Search, true),
-    ] {
-        expect_eq(&rt, granted((7, 7, 0o451), uid, &[gid], bit)?, want);
-    }
-    Ok(())
+fn three_classes_have_bits_of_their_own(rt: HostRuntime) {
+    expect_grants(
+        &rt,
+        &[
+            (7, 0o451, 7, &[7], Bit::Read, true),
+            (7, 0o451, 7, &[7], Bit::Write, false),
+            (7, 0o451, 7, &[7], Bit::Search, false),
+            (7, 0o451, 8, &[7], Bit::Read, true),
+            (7, 0o451, 8, &[7], Bit::Write, false),
+            (7, 0o451, 8, &[7], Bit::Search, true),
+            (7, 0o451, 8, &[8], Bit::Read, false),
+            (7, 0o451, 8, &[8], Bit::Write, false),
+            (7, 0o451, 8, &[8], Bit::Search, true),
+        ],
+    );
 }
 
 #[test]
-fn owner_writes_and_stranger_only_reads(rt: HostRuntime) -> Result<(), Fail> {
-    for (owner, mode, uid, bit, want) in [
-        (0, 0o644, 5, Bit::Read, true),
-        (0, 0o644, 5, Bit::Write, false),
-        (7, 0o700, 8, Bit::Search, false),
-    ] {
-        expect_eq(&rt, granted((owner, owner, mode), uid, &[uid], bit)?, want);
-    }
-    Ok(())
+fn owner_writes_and_stranger_only_reads(rt: HostRuntime) {
+    expect_grants(
+        &rt,
+        &[
+            (0, 0o644, 5, &[5], Bit::Read, true),
+            (0, 0o644, 5, &[5], Bit::Write, false),
+            (7, 0o700, 8, &[8], Bit::Search, false),
+        ],
+    );
 }
 
 /// Whether the sticky bit of a directory of user and group 9 keeps a user from removing user 7's file.
-fn barred(mode: u16, uid: u32) -> Result<bool, Fail> {
-    let cred = Cred::new(uid, &[uid], false)?;
-    let dir = file(9, 9, mode, 0)?;
-    Ok(sticky_bars(&dir, &file(7, 9, 0o644, 0)?, &cred))
+fn barred(rt: &impl Abort, mode: u16, uid: u32) -> bool {
+    let dir = file(rt, 9, 9, mode, 0);
+    sticky_bars(
+        &dir,
+        &file(rt, 7, 9, 0o644, 0),
+        &user(rt, uid, &[uid], false),
+    )
 }
 
 #[test]
-fn sticky_directory_guards_removal(rt: HostRuntime) -> Result<(), Fail> {
+fn sticky_directory_guards_removal(rt: HostRuntime) {
     for (mode, uid, want) in [
         (0o1777, 8, true),
         (0o1777, 7, false),
@@ -96,13 +113,12 @@ fn sticky_directory_guards_removal(rt: HostRuntime) -> Result<(), Fail> {
         (0o1777, 0, false),
         (0o777, 8, false),
     ] {
-        expect_eq(&rt, barred(mode, uid)?, want);
+        expect_eq(&rt, barred(&rt, mode, uid), want);
     }
-    Ok(())
 }
 
 #[test]
-fn flags_lock_a_file(rt: HostRuntime) -> Result<(), Fail> {
+fn flags_lock_a_file(rt: HostRuntime) {
     for (flags, locked, grows) in [
         (0, false, false),
         (0x1, false, false),
@@ -113,86 +129,75 @@ fn flags_lock_a_file(rt: HostRuntime) -> Result<(), Fail> {
         (0x4_0000, false, true),
         (0x6_0000, true, true),
     ] {
-        let attrs = file(0, 0, 0o666, flags)?;
-        expect_eq(&rt, immutable(&attrs), locked);
-        expect_eq(&rt, append_only(&attrs), grows);
+        let attrs = file(&rt, 0, 0, 0o666, flags);
+        expect_eq(
+            &rt,
+            [immutable(&attrs), append_only(&attrs)],
+            [locked, grows],
+        );
     }
-    Ok(())
 }
 
-/// What bars a user from changing the level.
-fn level_bar(uid: u32, init: bool, old: Level, new: Level) -> Result<Option<Rule>, Fail> {
-    let cred = Cred::new(uid, &[uid], init)?;
-    Ok(level_change(&cred, old, new))
+/// Asserts of each row what bars a user, who may be init, from changing the level: user, init, old level, new level, bar.
+fn expect_level_bars(rt: &impl Abort, rows: &[(u32, bool, Level, Level, Option<Rule>)]) {
+    for (uid, init, old, new, bar) in rows {
+        let cred = user(rt, *uid, &[*uid], *init);
+        expect_eq(rt, level_change(&cred, *old, *new), *bar);
+    }
 }
 
 /// What bars a caller, of a user, a group, and whether he is init, from changing the flags of a file of this owner, mode
 /// and flags.
 fn flag_bar(
-    (owner, mode, flags): (u32, u16, u32),
+    rt: &impl Abort,
+    (owner, mode, old): (u32, u16, u32),
     (uid, gid, init): (u32, u32, bool),
     level: Level,
     new: u32,
-) -> Result<Option<Rule>, Fail> {
-    let attrs = file(owner, owner, mode, flags)?;
-    let cred = Cred::new(uid, &[gid], init)?;
-    let new = FileFlags::new(new).ok_or("flags")?;
-    Ok(flag_change(&attrs, &cred, level, new))
+) -> Option<Rule> {
+    let attrs = file(rt, owner, owner, mode, old);
+    flag_change(&attrs, &user(rt, uid, &[gid], init), level, flags(rt, new))
 }
 
 #[test]
-fn raised_level_is_lowered_by_init_alone(rt: HostRuntime) -> Result<(), Fail> {
+fn raised_level_is_lowered_by_init_alone(rt: HostRuntime) {
     let (insecure, secure) = (Level::Insecure, Level::Secure);
-    for (uid, init, old, new, want) in [
-        (0, false, insecure, secure, None),
-        (0, false, secure, insecure, Some(Rule::MaySetLevel)),
-        (0, true, secure, insecure, None),
-        (5, false, insecure, secure, Some(Rule::IsSuperuser)),
-    ] {
-        expect_eq(&rt, level_bar(uid, init, old, new)?, want);
-    }
-    Ok(())
+    expect_level_bars(
+        &rt,
+        &[
+            (0, false, insecure, secure, None),
+            (0, false, secure, insecure, Some(Rule::MaySetLevel)),
+            (0, true, secure, insecure, None),
+            (5, false, insecure, secure, Some(Rule::IsSuperuser)),
+        ],
+    );
 }
 
 #[test]
-fn raised_level_keeps_system_flags_until_init_lowers_it(rt: HostRuntime) -> Result<(), Fail> {
+fn raised_level_keeps_system_flags_until_init_lowers_it(rt: HostRuntime) {
+    let (secure, highest) = (Level::Secure, Level::HighlySecure);
+    let kept = Some(Rule::KeepsSystemLocks);
     for (flags, init, level, new, want) in [
-        (
-            0x2_0000,
-            false,
-            Level::Secure,
-            0,
-            Some(Rule::KeepsSystemLocks),
-        ),
-        (0x2_0000, false, Level::Secure, 0x6_0000, None),
-        (
-            0x2_0000,
-            false,
-            Level::HighlySecure,
-            0,
-            Some(Rule::KeepsSystemLocks),
-        ),
-        (0x2_0000, false, Level::HighlySecure, 0x6_0000, None),
+        (0x2_0000, false, secure, 0, kept),
+        (0x2_0000, false, secure, 0x6_0000, None),
+        (0x2_0000, false, highest, 0, kept),
+        (0x2_0000, false, highest, 0x6_0000, None),
         (0x6_0000, true, Level::Insecure, 0, None),
     ] {
-        expect_eq(
-            &rt,
-            flag_bar((0, 0o644, flags), (0, 0, init), level, new)?,
-            want,
-        );
+        let bar = flag_bar(&rt, (0, 0o644, flags), (0, 0, init), level, new);
+        expect_eq(&rt, bar, want);
     }
-    Ok(())
 }
 
 #[test]
-fn another_bit_does_not_clear_append(rt: HostRuntime) -> Result<(), Fail> {
-    let bar = flag_bar((0, 0o644, 0x4_0000), (0, 0, false), Level::Secure, 0x2_0000)?;
+fn another_bit_does_not_clear_append(rt: HostRuntime) {
+    let (file, root) = ((0, 0o644, 0x4_0000), (0, 0, false));
+    let bar = flag_bar(&rt, file, root, Level::Secure, 0x2_0000);
     expect_eq(&rt, bar, Some(Rule::KeepsSystemLocks));
-    Ok(())
 }
 
 #[test]
-fn owner_may_change_user_flags_unless_locked(rt: HostRuntime) -> Result<(), Fail> {
+fn owner_may_change_user_flags_unless_locked(rt: HostRuntime) {
     for (flags, uid, gid, new, want) in [
         (0x1_0000, 7, 7, 0x1_0001, None),
         (0x1_0000, 7, 7, 0x1, Some(Rule::MaySetFlags)),
@@ -201,72 +206,68 @@ fn owner_may_change_user_flags_unless_locked(rt: HostRuntime) -> Result<(), Fail
         (0x5_0000, 8, 7, 0, Some(Rule::IsOwner)),
     ] {
         let (file, caller) = ((7, 0o644, flags), (uid, gid, false));
-        expect_eq(&rt, flag_bar(file, caller, Level::Insecure, new)?, want);
+        let bar = flag_bar(&rt, file, caller, Level::Insecure, new);
+        expect_eq(&rt, bar, want);
     }
-    Ok(())
 }
 
 #[test]
-fn level_minus_one_behaves_as_zero(rt: HostRuntime) -> Result<(), Fail> {
+fn level_minus_one_behaves_as_zero(rt: HostRuntime) {
     let (insecure, lowest) = (Level::Insecure, Level::PermanentlyInsecure);
-    for (init, old, new, want) in [
-        (true, insecure, lowest, None),
-        (false, lowest, insecure, None),
-        (false, insecure, lowest, Some(Rule::MaySetLevel)),
-    ] {
-        expect_eq(&rt, level_bar(0, init, old, new)?, want);
-    }
-    let bar = flag_bar((0, 0o600, 0x4_0000), (0, 0, true), lowest, 0)?;
+    expect_level_bars(
+        &rt,
+        &[
+            (0, true, insecure, lowest, None),
+            (0, false, lowest, insecure, None),
+            (0, false, insecure, lowest, Some(Rule::MaySetLevel)),
+        ],
+    );
+    let bar = flag_bar(&rt, (0, 0o600, 0x4_0000), (0, 0, true), lowest, 0);
     expect_eq(&rt, bar, None);
-    Ok(())
 }
 
 #[test]
-fn set_id_bits_are_cleared_alone(rt: HostRuntime) -> Result<(), Fail> {
-    for (mode, want) in [
+fn set_id_bits_are_cleared_alone(rt: HostRuntime) {
+    for (bits, want) in [
         (0o6644, 0o644),
         (0o6755, 0o755),
         (0o7777, 0o1777),
         (0o2000, 0),
     ] {
-        let mode = Mode::new(mode).ok_or("a mode")?;
-        expect_eq(&rt, clear_set_id(mode).bits(), want);
+        expect_eq(&rt, clear_set_id(mode(&rt, bits)).bits(), want);
     }
-    Ok(())
 }
 
-/// What bars a user of these groups from giving user 7's file of this group and mode to a user and a group.
-fn owner_bar(
-    (group, mode): (u32, u16),
-    uid: u32,
-    groups: &[u32],
-    to: (u32, u32),
-) -> Result<Option<Rule>, Fail> {
-    let cred = Cred::new(uid, groups, false)?;
-    Ok(owner_change(&file(7, group, mode, 0)?, &cred, to.0, to.1))
+/// Asserts of each row what bars a user of these groups from giving user 7's file of this group and mode to a user and a
+/// group: group, mode, user, groups, new owner, new group, bar.
+fn expect_owner_bars(rt: &impl Abort, rows: &[(u32, u16, u32, &[u32], u32, u32, Option<Rule>)]) {
+    for (group, mode, uid, groups, owner, new_group, bar) in rows {
+        let attrs = file(rt, 7, *group, *mode, 0);
+        let cred = user(rt, *uid, groups, false);
+        expect_eq(rt, owner_change(&attrs, &cred, *owner, *new_group), *bar);
+    }
 }
 
 #[test]
-fn owner_may_give_the_group_to_one_of_his_groups(rt: HostRuntime) -> Result<(), Fail> {
-    for (file, to, want) in [
-        ((7, 0o6755), (7, 8), None),
-        ((8, 0o755), (8, 8), Some(Rule::MaySetOwner)),
-        ((8, 0o755), (7, 9), Some(Rule::MaySetOwner)),
-        ((9, 0o755), (7, 9), None),
-    ] {
-        expect_eq(&rt, owner_bar(file, 7, &[7, 8], to)?, want);
-    }
-    let stranger = owner_bar((8, 0o755), 8, &[8], (7, 8))?;
-    expect_eq(&rt, stranger, Some(Rule::MaySetOwner));
-    expect_eq(&rt, owner_bar((8, 0o755), 0, &[0], (12, 34))?, None);
-    Ok(())
+fn owner_may_give_the_group_to_one_of_his_groups(rt: HostRuntime) {
+    let barred = Some(Rule::MaySetOwner);
+    expect_owner_bars(
+        &rt,
+        &[
+            (7, 0o6755, 7, &[7, 8], 7, 8, None),
+            (8, 0o755, 7, &[7, 8], 8, 8, barred),
+            (8, 0o755, 7, &[7, 8], 7, 9, barred),
+            (9, 0o755, 7, &[7, 8], 7, 9, None),
+            (8, 0o755, 8, &[8], 7, 8, barred),
+            (8, 0o755, 0, &[0], 12, 34, None),
+        ],
+    );
 }
 
 #[test]
-fn the_superuser_passes_as_owner(rt: HostRuntime) -> Result<(), Fail> {
-    let f = file(7, 7, 0o644, 0)?;
+fn the_superuser_passes_as_owner(rt: HostRuntime) {
+    let attrs = file(&rt, 7, 7, 0o644, 0);
     for (uid, want) in [(7, true), (0, true), (8, false)] {
-        expect_eq(&rt, is_owner(&f, &Cred::new(uid, &[7], false)?), want);
+        expect_eq(&rt, is_owner(&attrs, &user(&rt, uid, &[7], false)), want);
     }
-    Ok(())
 }

@@ -5,28 +5,25 @@ ghost use Rattle.lfs_segments.specs.Entry.{IsEntry};
 ghost use Rattle.lfs_segments.specs.Log.{Expects};
 ghost use Rattle.lfs_segments.specs.Memory.{room_of};
 
-use super::expect_eq;
+use super::{block_of, expect_bytes, expect_eq};
 use lfs_segments::entry::{LogicalBlock, SummaryEntry};
 use lfs_segments::segments::{Segments, log_start};
 use lfs_segments::summary::Summary;
 use lfs_types::block::Block;
 use lfs_types::fault::FormatFault;
+use std::alloc::Global;
 use std::process::Abort;
-use std::test::Fail;
 
 /// Segment 0, offset 3, one entry for block 0 of file 4 in version 1.
 const EXAMPLE: [u8; 28] = [
     0x4c, 0x46, 0x53, 0x53, 0, 0, 0, 0, 0, 3, 0, 1, 0, 0, 0, 0, 0, 0, 0, 4, 0, 0, 0, 1, 0, 0, 0, 0,
 ];
 
-/// The block that begins with these bytes and is zero behind them.
-fn block_of(start: &[u8]) -> Block
-    requires { length start.now ≤ 512 }
-{
-    let mut block = [0; 512];
-    block[..start.len()].copy_from_slice(start);
-    block
-}
+/// Segment 1,023, offset 3, one entry for block 5 of file 4 in version 1.
+const LAST: [u8; 28] = [
+    0x4c, 0x46, 0x53, 0x53, 0, 0, 0x03, 0xff, 0, 3, 0, 1, 0, 0, 0, 0, 0, 0, 0, 4, 0, 0, 0, 1, 0, 0,
+    0, 5,
+];
 
 /// The entry of a data block of file 4 in its first version.
 fn data(index: u32) -> SummaryEntry
@@ -45,24 +42,34 @@ fn example() -> Summary {
     Summary::new(0, 3, &[data(0)])
 }
 
+/// Asserts that a block spells this summary.
+fn expect_summary(rt: &impl Abort, block: &Block, summary: &Summary) {
+    expect_bytes(rt, &summary.encode(), block);
+    assert!(rt; Summary::decode(block) == Some(*summary));
+}
+
+/// Asserts whether a block is a summary.
+fn expect_is_one(rt: &impl Abort, block: &Block, is_one: bool) {
+    expect_eq(rt, Summary::decode(block).is_some(), is_one);
+}
+
 #[test]
 fn the_example_is_spelled_and_read(rt: HostRuntime) {
-    assert!(rt; example().encode() == block_of(&EXAMPLE));
-    assert!(rt; Summary::decode(&block_of(&EXAMPLE)) == Some(example()));
+    expect_summary(&rt, &block_of(&EXAMPLE), &example());
 }
 
 #[test]
 fn each_kind_of_entry_is_spelled(rt: HostRuntime) {
-    let kinds = [
+    for (bytes, block) in [
         ([0, 0, 0, 139], LogicalBlock::Data(139)),
         ([0x80, 0, 0, 0], LogicalBlock::Single),
         ([0xff, 0xff, 0xff, 0xff], LogicalBlock::Inodes),
-    ];
-    for (bytes, block) in kinds {
-        assert!(rt; block.number() == u32::from_be_bytes(bytes));
-        assert!(rt; LogicalBlock::from_number(u32::from_be_bytes(bytes)) == Some(block));
+    ] {
+        let number = u32::from_be_bytes(bytes);
+        expect_eq(&rt, block.number(), number);
+        expect_eq(&rt, LogicalBlock::from_number(number), Some(block));
     }
-    assert!(rt; LogicalBlock::from_number(140).is_none());
+    expect_eq(&rt, LogicalBlock::from_number(140), None);
 }
 
 #[test]
@@ -72,7 +79,7 @@ fn a_loose_summary_is_none(rt: HostRuntime) {
         if place < 512 {
             block[place] = byte;
         }
-        assert!(rt; Summary::decode(&block).is_none(), "byte {place}");
+        expect_is_one(&rt, &block, false);
     }
     let mut late = block_of(&EXAMPLE);
     late[9] = 60;
@@ -81,9 +88,9 @@ fn a_loose_summary_is_none(rt: HostRuntime) {
         late[23 + 12 * k] = 1;
     }
     late[11] = 4;
-    assert!(rt; Summary::decode(&late).is_none());
+    expect_is_one(&rt, &late, false);
     late[9] = 59;
-    assert!(rt; Summary::decode(&late).is_some());
+    expect_is_one(&rt, &late, true);
 }
 
 #[test]
@@ -94,7 +101,7 @@ fn each_changed_byte_is_refused_or_kept(rt: HostRuntime) {
             let mut block = block_of(&EXAMPLE);
             block[place] = byte;
             if let Some(summary) = Summary::decode(&block) {
-                assert!(rt; summary.encode() == block, "byte {place}");
+                expect_bytes(&rt, &summary.encode(), &block);
                 kept = kept.wrapping_add(1);
             }
         }
@@ -104,28 +111,27 @@ fn each_changed_byte_is_refused_or_kept(rt: HostRuntime) {
     expect_eq(&rt, kept, 2258);
 }
 
+/// The fault of a format with so many segments.
+fn fault_of(alloc: Global, segments: u32) -> Option<FormatFault> {
+    Segments::format(alloc, segments, 16).err()
+}
+
 #[test]
 fn format_keeps_its_range(rt: HostRuntime) {
-    assert!(rt;
-        matches!(
-            Segments::format(rt.alloc(), 5, 16),
-            Err(FormatFault::TooFew)
-        )
-    );
-    assert!(rt; Segments::format(rt.alloc(), 6, 16).is_ok());
-    assert!(rt;
-        matches!(
-            Segments::format(rt.alloc(), 1025, 16),
-            Err(FormatFault::TooMany)
-        )
-    );
+    for (segments, fault) in [
+        (5, Some(FormatFault::TooFew)),
+        (6, None),
+        (1025, Some(FormatFault::TooMany)),
+    ] {
+        expect_eq(&rt, &fault_of(rt.alloc(), segments), &fault);
+    }
 }
 
 /// Asserts that the memory has this block at this address.
 fn has(rt: &impl Abort, segments: &Segments, address: u32, block: &Block)
     requires { address < segments.now.segments * 64 }
 {
-    assert!(rt; *segments.block(address) == *block);
+    expect_bytes(rt, segments.block(address), block);
 }
 
 /// The block at the start of a memory of six segments and sixteen inode numbers.
@@ -134,14 +140,13 @@ fn label() -> Block {
 }
 
 #[test]
-fn memory_is_laid_out(rt: HostRuntime) -> Result<(), Fail> {
-    let segments = Segments::format(rt.alloc(), 6, 16)?;
+fn memory_is_laid_out(rt: HostRuntime) {
+    let segments = Segments::format(rt.alloc(), 6, 16).expect(&rt, "a memory");
     has(&rt, &segments, 0, &label());
     for address in 1..384 {
         has(&rt, &segments, address, &[0; 512]);
     }
     expect_eq(&rt, segments.room(), 63);
-    Ok(())
 }
 
 /// Appends two blocks to segment 0, and asserts that they are there.
@@ -150,8 +155,8 @@ fn two_are_appended(rt: &impl Abort, segments: &mut Segments)
     requires room { 2 ≤ room_of segments.old }
     ensures { segments.new.segments ≡ 6 }
 {
-    expect_eq(rt, segments.append(&[block_of(&EXAMPLE), [7; 512]]), 1);
-    expect_eq(rt, segments.room(), 61);
+    let address = segments.append(&[block_of(&EXAMPLE), [7; 512]]);
+    expect_eq(rt, [address, segments.room()], [1, 61]);
     has(rt, segments, 1, &block_of(&EXAMPLE));
     has(rt, segments, 2, &[7; 512]);
 }
@@ -168,8 +173,8 @@ fn one_is_appended(rt: &impl Abort, segments: &mut Segments)
 }
 
 #[test]
-fn memory_is_written(rt: HostRuntime) -> Result<(), Fail> {
-    let mut segments = Segments::format(rt.alloc(), 6, 16)?;
+fn memory_is_written(rt: HostRuntime) {
+    let mut segments = Segments::format(rt.alloc(), 6, 16).expect(&rt, "a memory");
     two_are_appended(&rt, &mut segments);
     one_is_appended(&rt, &mut segments);
     segments.open_next(0);
@@ -177,7 +182,6 @@ fn memory_is_written(rt: HostRuntime) -> Result<(), Fail> {
     has(&rt, &segments, 0, &label());
     has(&rt, &segments, 2, &[0; 512]);
     has(&rt, &segments, 128, &[9; 512]);
-    Ok(())
 }
 
 /// Writes a partial segment of two data blocks and begins one of a third, and gives the addresses.
@@ -193,39 +197,30 @@ fn written(segments: &mut Segments) -> [u32; 4]
 }
 
 #[test]
-fn partial_segments_follow_one_another(rt: HostRuntime) -> Result<(), Fail> {
-    let mut segments = Segments::format(rt.alloc(), 1024, 16)?;
+fn partial_segments_follow_one_another(rt: HostRuntime) {
+    let mut segments = Segments::format(rt.alloc(), 1024, 16).expect(&rt, "a memory");
     expect_eq(&rt, segments.segments(), 1024);
-    expect_eq(&rt, (segments.active(), segments.next_address()), (0, 1));
+    expect_eq(&rt, [segments.active(), segments.next_address()], [0, 1]);
     expect_eq(&rt, written(&mut segments), [1, 2, 3, 4]);
     segments.open_next(1023);
     expect_eq(
         &rt,
-        (segments.active(), segments.next_address()),
-        (1023, 65_472),
+        [segments.active(), segments.next_address()],
+        [1023, 65_472],
     );
     expect_eq(
         &rt,
         written(&mut segments),
         [65_472, 65_473, 65_474, 65_475],
     );
-    expect_eq(
-        &rt,
-        &segments.block(65_475)[..28],
-        [
-            0x4c, 0x46, 0x53, 0x53, 0, 0, 0x03, 0xff, 0, 3, 0, 1, 0, 0, 0, 0, 0, 0, 0, 4, 0, 0, 0,
-            1, 0, 0, 0, 5,
-        ]
-        .as_slice(),
-    );
+    expect_bytes(&rt, segments.block(65_475), &block_of(&LAST));
     has(&rt, &segments, 65_474, &[9; 512]);
-    expect_eq(&rt, (log_start(0), log_start(1)), (1, 0));
-    Ok(())
+    expect_eq(&rt, [log_start(0), log_start(1)], [1, 0]);
 }
 
 #[test]
 fn forty_entries_fit_a_summary(rt: HostRuntime) {
     let full = Summary::new(1023, 23, &[data(139); 40]);
-    assert!(rt; Summary::decode(&full.encode()) == Some(full));
+    expect_summary(&rt, &full.encode(), &full);
     assert!(rt; full.entries == [data(139); 40]);
 }
