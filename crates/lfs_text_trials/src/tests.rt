@@ -10,7 +10,7 @@ mod rules;
 mod texts;
 mod values;
 
-use std::alloc::{AllocError, Global};
+use std::alloc::Global;
 use std::fmt::Debug;
 use std::process::Abort;
 
@@ -20,10 +20,10 @@ fn expect_eq<T: PartialEq + Debug + Drop>(rt: &impl Abort, found: T, wanted: T) 
 }
 
 /// A text that begins so and goes on with this part, so many times.
-fn repeated(alloc: Global, before: &str, part: &str, times: u32) -> Result<String, AllocError> {
-    let mut text = String::from_str(alloc, before)?;
+fn repeated(rt: &impl Abort, alloc: Global, before: &str, part: &str, times: u32) -> String {
+    let mut text = String::from_str(alloc, before).expect(rt, "memory");
     for _ in 0..times {
-        text.push_str(part)?;
+        text.push_str(part).expect(rt, "memory");
     }
-    Ok(text)
+    text
 }

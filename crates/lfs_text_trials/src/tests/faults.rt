@@ -8,7 +8,6 @@ use lfs_types::name::BadName;
 use lfs_types::path::BadPath;
 use std::alloc::Global;
 use std::process::Abort;
-use std::test::Fail;
 
 /// The most bytes of a script of these tests.
 const MOST_BYTES: usize = 65_536;
@@ -209,22 +208,24 @@ const FAULTS: [(FaultKind, &str); 11] = [
 ];
 
 /// The first fault of a script, where it has one.
-fn fault_of(alloc: Global, script: &str) -> Result<Option<ScriptFault>, Fail> {
+fn fault_of(rt: &impl Abort, alloc: Global, script: &str) -> Option<ScriptFault> {
     let text = script.as_bytes();
-    if text.len() > MOST_BYTES {
-        return Err(Fail::from("a long script"));
-    }
-    Ok(parse_script(alloc, text).err())
+    assert!(rt; text.len() <= MOST_BYTES);
+    parse_script(alloc, text).err()
 }
 
-/// Asserts that each line of this text, as the second of a script, has this fault.
-fn expect_kind(rt: &impl Abort, alloc: Global, lines: &str, kind: FaultKind) -> Result<(), Fail> {
+/// Asserts that a line, as the second of a script, has this fault.
+fn expect_fault(rt: &impl Abort, alloc: Global, line: &str, kind: FaultKind) {
+    let script = format!(in alloc; "# a comment\n{line}\nlist\n").expect(rt, "memory");
+    let fault = ScriptFault { line: 2, kind };
+    expect_eq(rt, fault_of(rt, alloc, script.as_str()), Some(fault));
+}
+
+/// Asserts that each line of this text has this fault.
+fn expect_kind(rt: &impl Abort, alloc: Global, lines: &str, kind: FaultKind) {
     for line in lines.split('\n') {
-        let script = format!(in alloc; "# a comment\n{line}\nlist\n")?;
-        let fault = ScriptFault { line: 2, kind };
-        expect_eq(rt, fault_of(alloc, script.as_str())?, Some(fault));
+        expect_fault(rt, alloc, line, kind);
     }
-    Ok(())
 }
 
 #[test]
@@ -232,17 +233,15 @@ fn cut(rt: HostRuntime) {
     for (script, line) in [("#", 1), ("stat /\nstat /", 2), ("\n\n \u{7f}", 3)] {
         let kind = FaultKind::Cut;
         let fault = ScriptFault { line, kind };
-        let result = parse_script(rt.alloc(), script.as_bytes());
-        expect_eq(&rt, result.err(), Some(fault));
+        expect_eq(&rt, fault_of(&rt, rt.alloc(), script), Some(fault));
     }
 }
 
 #[test]
-fn first_fault_of_each_line(rt: HostRuntime) -> Result<(), Fail> {
+fn first_fault_of_each_line(rt: HostRuntime) {
     for (kind, lines) in FAULTS {
-        expect_kind(&rt, rt.alloc(), lines, kind)?;
+        expect_kind(&rt, rt.alloc(), lines, kind);
     }
-    Ok(())
 }
 
 /// The beginning of a line, what follows it at most so often, and what may not stand behind that.
@@ -273,26 +272,20 @@ const LONGEST: [(&str, &str, u32, &[(&str, FaultKind)]); 4] = [
 ];
 
 /// Asserts that a line has no fault by itself, and with each of these behind it the fault that is named.
-fn expect_longest(
-    rt: &impl Abort,
-    alloc: Global,
-    line: &str,
-    more: &[(&str, FaultKind)],
-) -> Result<(), Fail> {
-    let script = format!(in alloc; "{line}\n")?;
-    expect_eq(rt, fault_of(alloc, script.as_str())?, None);
+fn expect_longest(rt: &impl Abort, alloc: Global, line: &str, more: &[(&str, FaultKind)]) {
+    let script = format!(in alloc; "{line}\n").expect(rt, "memory");
+    expect_eq(rt, fault_of(rt, alloc, script.as_str()), None);
+    drop(script);
     for (behind, kind) in more {
-        let longer = format!(in alloc; "{line}{behind}")?;
-        expect_kind(rt, alloc, longer.as_str(), *kind)?;
+        let longer = format!(in alloc; "{line}{behind}").expect(rt, "memory");
+        expect_fault(rt, alloc, longer.as_str(), *kind);
     }
-    Ok(())
 }
 
 #[test]
-fn longest_lines(rt: HostRuntime) -> Result<(), Fail> {
+fn longest_lines(rt: HostRuntime) {
     for (before, part, times, more) in LONGEST {
-        let line = repeated(rt.alloc(), before, part, times)?;
-        expect_longest(&rt, rt.alloc(), line.as_str(), more)?;
+        let line = repeated(&rt, rt.alloc(), before, part, times);
+        expect_longest(&rt, rt.alloc(), line.as_str(), more);
     }
-    Ok(())
 }

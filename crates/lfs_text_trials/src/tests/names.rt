@@ -3,40 +3,37 @@
 use super::{expect_eq, repeated};
 use lfs_types::name::{BadName, Name, clone_names};
 use lfs_types::path::{BadPath, Path};
-use std::alloc::{AllocError, Global};
-use std::test::Fail;
+use std::alloc::Global;
+use std::process::Abort;
+
+/// Bytes that are names.
+const TAKEN: [&[u8]; 6] = [&[b'a'; 255], b"a", b"...", b".a", b"..a", b"\xff \n"];
+
+/// Bytes, and why each is no name.
+const REFUSED_NAMES: [(&[u8], BadName); 8] = [
+    (b"", BadName::Empty),
+    (&[b'a'; 256], BadName::Long),
+    (&[b'/'; 256], BadName::Long),
+    (b"a/b", BadName::Slash),
+    (b"\0/", BadName::Slash),
+    (b"a\0", BadName::Nul),
+    (b".", BadName::Dot),
+    (b"..", BadName::Dot),
+];
 
 #[test]
-fn names_are_taken_or_refused_by_the_first_fault(rt: HostRuntime) -> Result<(), Fail> {
-    let alloc = rt.alloc();
-    for taken in [
-        [b'a'; 255].as_slice(),
-        b"a",
-        b"...",
-        b".a",
-        b"..a",
-        b"\xff \n",
-    ] {
-        let name = Name::parse(alloc, taken)?;
-        expect_eq(&rt, &name.as_bytes(), &taken);
+fn names_are_taken_or_refused_by_the_first_fault(rt: HostRuntime) {
+    for bytes in TAKEN {
+        let name = Name::parse(rt.alloc(), bytes).expect(&rt, "a name");
+        expect_eq(&rt, name.as_bytes(), bytes);
     }
-    for (refused, fault) in [
-        (b"".as_slice(), BadName::Empty),
-        (&[b'a'; 256], BadName::Long),
-        (&[b'/'; 256], BadName::Long),
-        (b"a/b", BadName::Slash),
-        (b"\0/", BadName::Slash),
-        (b"a\0", BadName::Nul),
-        (b".", BadName::Dot),
-        (b"..", BadName::Dot),
-    ] {
-        expect_eq(&rt, Name::parse(alloc, refused), Err(fault));
+    for (bytes, fault) in REFUSED_NAMES {
+        expect_eq(&rt, Name::parse(rt.alloc(), bytes).err(), Some(fault));
     }
-    Ok(())
 }
 
 /// Texts, and why each is no path.
-const REFUSED: [(&str, BadPath); 7] = [
+const REFUSED_PATHS: [(&str, BadPath); 7] = [
     ("", BadPath::NotAbsolute),
     ("a", BadPath::NotAbsolute),
     ("//", BadPath::Name(1, BadName::Empty)),
@@ -52,79 +49,80 @@ aaaaaaaaaaaaaaaaaaaaaaaaaaaaaaaaaaaaaaaaaaaaaaaaaaaaaaaaaaaaaaaaaaaaaaaaaaaaaaaa
 aaaaaaaaaaaaaaaaaaaaaaaaaaaaaaaaaaaaaaaaaaaaaaaaaaaaaaaaaaaaaaaaaaaaaaaaaaaaaaaaaaaaa\
 aaaaaaaaaaaaaaaaaaaaaaaaaaaaaaaaaaaaaaaaaaaaaaaaaaaaaaaaaaaaaaaaaaaaaaaaaaaaaaaaaaaaa";
 
-#[test]
-fn paths_are_refused_by_the_first_fault(rt: HostRuntime) -> Result<(), Fail> {
-    for (text, fault) in REFUSED {
-        expect_eq(&rt, Path::parse(rt.alloc(), text).err(), Some(fault));
-    }
-    let name = repeated(rt.alloc(), "/", "b", 256)?;
-    let fault = BadPath::Name(1, BadName::Long);
-    expect_eq(
-        &rt,
-        Path::parse(rt.alloc(), name.as_str()).err(),
-        Some(fault),
-    );
-    Ok(())
+/// The first fault of a text that is no path.
+fn fault_of(alloc: Global, text: &str) -> Option<BadPath> {
+    Path::parse(alloc, text).err()
+}
+
+/// The path of a text.
+fn path_of(rt: &impl Abort, alloc: Global, text: &str) -> Path {
+    Path::parse(alloc, text).expect(rt, "a path")
 }
 
 #[test]
-fn paths_have_at_most_1024_bytes(rt: HostRuntime) -> Result<(), Fail> {
-    let mut long = repeated(rt.alloc(), "", LONG_NAME, 4)?;
-    expect_eq(&rt, long.len(), 1024);
-    expect_eq(
-        &rt,
-        Path::parse(rt.alloc(), long.as_str())?.names().len(),
-        4,
-    );
-    long.push('/')?;
-    let fault = Path::parse(rt.alloc(), long.as_str()).err();
+fn paths_are_refused_by_the_first_fault(rt: HostRuntime) {
+    for (text, fault) in REFUSED_PATHS {
+        expect_eq(&rt, fault_of(rt.alloc(), text), Some(fault));
+    }
+    let name = repeated(&rt, rt.alloc(), "/", "b", 256);
+    let fault = BadPath::Name(1, BadName::Long);
+    expect_eq(&rt, fault_of(rt.alloc(), name.as_str()), Some(fault));
+}
+
+#[test]
+fn paths_have_at_most_1024_bytes(rt: HostRuntime) {
+    let mut long = repeated(&rt, rt.alloc(), "", LONG_NAME, 4);
+    let count = path_of(&rt, rt.alloc(), long.as_str()).names().len();
+    expect_eq(&rt, [long.len(), count], [1024, 4]);
+    long.push('/').expect(&rt, "memory");
+    let fault = fault_of(rt.alloc(), long.as_str());
     expect_eq(&rt, fault, Some(BadPath::Long));
-    Ok(())
 }
 
 /// Names, each behind a slash.
-fn spelled(alloc: Global, names: &[Name]) -> Result<Vec<u8>, AllocError> {
+fn spelled(rt: &impl Abort, alloc: Global, names: &[Name]) -> Vec<u8> {
     let mut text = Vec::new(alloc);
     for name in names {
-        text.push(b'/')?;
-        text.extend_from_slice(name.as_bytes())?;
+        text.push(b'/').expect(rt, "memory");
+        text.extend_from_slice(name.as_bytes()).expect(rt, "memory");
     }
-    Ok(text)
+    text
 }
 
 #[test]
-fn paths_have_their_names_in_order(rt: HostRuntime) -> Result<(), Fail> {
+fn paths_have_their_names_in_order(rt: HostRuntime) {
     for (text, names) in [("/", ""), ("/a", "/a"), ("/one/2/three", "/one/2/three")] {
-        let path = Path::parse(rt.alloc(), text)?;
-        let seen = spelled(rt.alloc(), path.names())?;
+        let path = path_of(&rt, rt.alloc(), text);
+        let seen = spelled(&rt, rt.alloc(), path.names());
         expect_eq(&rt, seen.as_slice(), names.as_bytes());
     }
-    Ok(())
 }
 
-/// Whether a copy of the first path is equal to the second.
-fn is_copy_equal(alloc: Global, first: &str, second: &str) -> Result<bool, Fail> {
-    let path = Path::parse(alloc, first)?;
-    let copy = path.try_clone(alloc)?;
-    Ok(copy == Path::parse(alloc, second)?)
+/// Asserts whether a copy of `/one/2/three` is equal to this path.
+fn expect_copy(rt: &impl Abort, alloc: Global, other: &Path, equal: bool) {
+    let path = path_of(rt, alloc, "/one/2/three");
+    let copy = path.try_clone(alloc).expect(rt, "memory");
+    expect_eq(rt, copy == *other, equal);
 }
 
 #[test]
-fn copied_paths_are_equal_to_their_own_alone(rt: HostRuntime) -> Result<(), Fail> {
+fn copied_paths_are_equal_to_their_own_alone(rt: HostRuntime) {
     for (other, equal) in [("/one/2/three", true), ("/a", false), ("/", false)] {
-        let found = is_copy_equal(rt.alloc(), "/one/2/three", other)?;
-        expect_eq(&rt, found, equal);
+        expect_copy(&rt, rt.alloc(), &path_of(&rt, rt.alloc(), other), equal);
     }
-    Ok(())
+}
+
+/// Asserts that a copy of a name is equal to it.
+fn expect_copied(rt: &impl Abort, alloc: Global, name: &Name) {
+    expect_eq(rt, &name.try_clone(alloc).expect(rt, "memory"), name);
 }
 
 #[test]
-fn copied_names_are_equal(rt: HostRuntime) -> Result<(), Fail> {
-    let path = Path::parse(rt.alloc(), "/a/bc")?;
+fn copied_names_are_equal(rt: HostRuntime) {
+    let path = path_of(&rt, rt.alloc(), "/a/bc");
     for name in path.names() {
-        expect_eq(&rt, &name.try_clone(rt.alloc())?, name);
+        expect_copied(&rt, rt.alloc(), name);
     }
-    let copies = clone_names(rt.alloc(), path.names())?;
+    let copies = clone_names(rt.alloc(), path.names()).expect(&rt, "memory");
     expect_eq(&rt, copies.as_slice(), path.names());
-    Ok(())
 }

@@ -7,21 +7,35 @@ use lfs_text::split::SplitFault;
 use lfs_types::cred::Cred;
 use lfs_types::request::Request;
 use lfs_types::script::Script;
-use std::alloc::{AllocError, Global};
+use std::alloc::Global;
 use std::process::Abort;
-use std::test::Fail;
+
+/// The plan of a script that has no fault.
+fn plan_of(rt: &impl Abort, alloc: Global, script: &[u8]) -> Plan {
+    assert!(rt; script.len() <= 65_536);
+    parse_script(alloc, script).expect(rt, "a script")
+}
+
+/// A user of these groups.
+fn user(rt: &impl Abort, uid: u32, groups: &[u32], init: bool) -> Cred {
+    Cred::new(uid, groups, init).expect(rt, "a credential")
+}
+
+/// Asserts that the steps of a plan are of these callers.
+fn expect_callers(rt: &impl Abort, steps: &[Step], callers: &[Cred]) {
+    expect_eq(rt, steps.len(), callers.len());
+    for (step, caller) in steps.iter().zip(callers) {
+        expect_eq(rt, &step.cred, caller);
+    }
+}
 
 #[test]
-fn sixteen_groups(rt: HostRuntime) -> Result<(), Fail> {
-    let alloc = rt.alloc();
-    let script = "stat /\nas 0 1,2,3,4,5,6,7,8,9,10,11,12,13,14,15,00016 init\nstat /a\n";
+fn sixteen_groups(rt: HostRuntime) {
+    let script = b"stat /\nas 0 1,2,3,4,5,6,7,8,9,10,11,12,13,14,15,00016 init\nstat /a\n";
     let groups = [1, 2, 3, 4, 5, 6, 7, 8, 9, 10, 11, 12, 13, 14, 15, 16];
-    let plan = parse_script(alloc, script.as_bytes())?;
-    let steps = plan.steps();
-    assert_eq!(rt; steps.len(), 2);
-    expect_eq(&rt, &steps[0].cred, &Cred::new(0, &[0], false)?);
-    expect_eq(&rt, &steps[1].cred, &Cred::new(0, &groups, true)?);
-    Ok(())
+    let callers = [user(&rt, 0, &[0], false), user(&rt, 0, &groups, true)];
+    let plan = plan_of(&rt, rt.alloc(), script);
+    expect_callers(&rt, plan.steps(), &callers);
 }
 
 /// A script with users' calls.
@@ -107,32 +121,33 @@ BlockInfo { ino: 4, version: 1, lbn: 4294967295, addr: 66 }] }) })
 2 7 Pass
 ";
 
-/// What the lines of a plan ask for, each with its session and its user.
-fn said(alloc: Global, plan: &Plan) -> Result<String, AllocError> {
+/// Adds what a step asks for, with its session and its user, as a line.
+fn say(rt: &impl Abort, said: &mut String, step: &Step) {
+    let Step { session, cred, act } = step;
+    let uid = cred.uid();
+    writeln!(said, "{session} {uid} {act:?}").expect(rt, "memory");
+}
+
+/// Asserts what the lines of a plan ask for, each with its session and its user.
+fn expect_said(rt: &impl Abort, alloc: Global, plan: &Plan, wanted: &str) {
     let mut said = String::new(alloc);
     for step in plan.steps() {
-        let Step { session, cred, act } = step;
-        let uid = cred.uid();
-        writeln!(said, "{session} {uid} {act:?}")?;
+        say(rt, &mut said, step);
     }
-    Ok(said)
+    expect_eq(rt, said.as_str(), wanted);
 }
 
 #[test]
-fn each_call_as_it_is_written(rt: HostRuntime) -> Result<(), Fail> {
-    let plan = parse_script(rt.alloc(), CALLS)?;
-    let said = said(rt.alloc(), &plan)?;
-    expect_eq(&rt, said.as_str(), ASKED);
-    Ok(())
+fn each_call_as_it_is_written(rt: HostRuntime) {
+    let plan = plan_of(&rt, rt.alloc(), CALLS);
+    expect_said(&rt, rt.alloc(), &plan, ASKED);
 }
 
 #[test]
-fn cleaner_calls_as_they_are_written(rt: HostRuntime) -> Result<(), Fail> {
-    let plan = parse_script(rt.alloc(), CLEANER_LINES)?;
+fn cleaner_calls_as_they_are_written(rt: HostRuntime) {
+    let plan = plan_of(&rt, rt.alloc(), CLEANER_LINES);
     expect_eq(&rt, plan.sessions(), 8);
-    let said = said(rt.alloc(), &plan)?;
-    expect_eq(&rt, said.as_str(), CLEANER_CALLS);
-    Ok(())
+    expect_said(&rt, rt.alloc(), &plan, CLEANER_CALLS);
 }
 
 /// Asserts that a script is Syncs, by these callers.
@@ -145,25 +160,40 @@ fn expect_syncs(rt: &impl Abort, script: &Script, callers: &[Cred]) {
     }
 }
 
-#[test]
-fn a_script_for_each_session(rt: HostRuntime) -> Result<(), Fail> {
-    let root = Cred::new(0, &[0], false)?;
-    let user = Cred::new(7, &[8], false)?;
-    let script = b"sync\nsession 2\nas 7 8\nsync\nsession 0\nsync\nsession 3\nsession 2\nsync\n";
-    let (setup, scripts) = parse_script(rt.alloc(), script)?.split(rt.alloc())?;
-    expect_syncs(&rt, &setup, &[root, user]);
-    let [first, second, third] = scripts.as_slice() else {
-        return Err(Fail::from("three scripts"));
+/// A script with three sessions, of which the second alone has lines of its own.
+const SESSIONS: &[u8] = b"\
+sync
+session 2
+as 7 8
+sync
+session 0
+sync
+session 3
+session 2
+sync
+";
+
+/// Asserts that three scripts are Syncs: of the first and the third none, of the second two by this caller.
+fn expect_sessions(rt: &impl Abort, scripts: &[Script], caller: Cred) {
+    let [first, second, third] = scripts else {
+        panic!(rt; "three scripts")
     };
-    expect_syncs(&rt, first, &[]);
-    expect_syncs(&rt, second, &[user, user]);
-    expect_syncs(&rt, third, &[]);
-    Ok(())
+    expect_syncs(rt, first, &[]);
+    expect_syncs(rt, second, &[caller, caller]);
+    expect_syncs(rt, third, &[]);
 }
 
 #[test]
-fn cleaner_lines_have_no_session(rt: HostRuntime) -> Result<(), Fail> {
-    let alloc = rt.alloc();
+fn a_script_for_each_session(rt: HostRuntime) {
+    let (root, caller) = (user(&rt, 0, &[0], false), user(&rt, 7, &[8], false));
+    let plan = plan_of(&rt, rt.alloc(), SESSIONS);
+    let (setup, scripts) = plan.split(rt.alloc()).expect(&rt, "scripts");
+    expect_syncs(&rt, &setup, &[root, caller]);
+    expect_sessions(&rt, scripts.as_slice(), caller);
+}
+
+#[test]
+fn cleaner_lines_have_no_session(rt: HostRuntime) {
     for line in [
         "ifile\n",
         "infos 0\n",
@@ -172,8 +202,8 @@ fn cleaner_lines_have_no_session(rt: HostRuntime) -> Result<(), Fail> {
         "segclean 1\n",
         "pass\n",
     ] {
-        let plan = parse_script(alloc, line.as_bytes())?;
-        expect_eq(&rt, plan.split(alloc).err(), Some(SplitFault::CleanerLine));
+        let plan = plan_of(&rt, rt.alloc(), line.as_bytes());
+        let fault = plan.split(rt.alloc()).err();
+        expect_eq(&rt, fault, Some(SplitFault::CleanerLine));
     }
-    Ok(())
 }

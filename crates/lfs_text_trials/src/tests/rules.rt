@@ -2,7 +2,6 @@
 
 use super::expect_eq;
 use lfs_types::rule::{Errno, Rule};
-use std::test::Fail;
 
 #[test]
 fn rules_have_their_code_and_error(rt: HostRuntime) {
@@ -34,7 +33,7 @@ fn rules_have_their_code_and_error(rt: HostRuntime) {
 }
 
 #[test]
-fn errors_print_their_name(rt: HostRuntime) -> Result<(), Fail> {
+fn errors_print_their_name(rt: HostRuntime) {
     for (error, name) in [
         (Errno::EPERM, b"EPERM".as_slice()),
         (Errno::ENOENT, b"ENOENT"),
@@ -47,8 +46,8 @@ fn errors_print_their_name(rt: HostRuntime) -> Result<(), Fail> {
         (Errno::EFBIG, b"EFBIG"),
         (Errno::ENOTEMPTY, b"ENOTEMPTY"),
     ] {
-        expect_eq(&rt, &error.name().as_bytes(), &name);
-        expect_eq(&rt, &format!(in rt.alloc(); "{error}")?.as_bytes(), &name);
+        let printed = format!(in rt.alloc(); "{error}").expect(&rt, "memory");
+        expect_eq(&rt, error.name().as_bytes(), name);
+        expect_eq(&rt, printed.as_bytes(), name);
     }
-    Ok(())
 }

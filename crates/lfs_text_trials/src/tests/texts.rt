@@ -16,70 +16,74 @@ use lfs_types::request::Request;
 use lfs_types::rule::{Denial, Rule};
 use std::alloc::Global;
 use std::process::Abort;
-use std::test::Fail;
+
+/// Asserts that an answer to a session has this line.
+fn expect_answer(rt: &impl Abort, alloc: Global, session: u8, answer: &Answer, line: &str) {
+    let printed = print_answer(alloc, session, answer).expect(rt, "memory");
+    expect_eq(rt, printed.as_slice(), line.as_bytes());
+}
 
 /// Asserts that an answer to session 0 has this line.
-fn expect_line(rt: &impl Abort, alloc: Global, answer: &Answer, line: &str) -> Result<(), Fail> {
-    expect_eq(
-        rt,
-        print_answer(alloc, 0, answer)?.as_slice(),
-        line.as_bytes(),
-    );
-    Ok(())
+fn expect_line(rt: &impl Abort, alloc: Global, answer: &Answer, line: &str) {
+    expect_answer(rt, alloc, 0, answer, line);
 }
 
 /// Asserts the same of what was served.
-fn expect_served(rt: &impl Abort, alloc: Global, served: Served, line: &str) -> Result<(), Fail> {
-    expect_line(rt, alloc, &Answer::Served(served), line)
+fn expect_served(rt: &impl Abort, alloc: Global, served: Served, line: &str) {
+    expect_line(rt, alloc, &Answer::Served(served), line);
+}
+
+/// Attributes of this kind, user, group, mode, flags and size.
+fn attrs(
+    rt: &impl Abort,
+    kind: Kind,
+    (uid, gid): (u32, u32),
+    (mode, flags): (u16, u32),
+    size: u64,
+) -> Attrs {
+    Attrs {
+        kind,
+        uid,
+        gid,
+        mode: Mode::new(mode).expect(rt, "a mode"),
+        flags: FileFlags::new(flags).expect(rt, "flags"),
+        size,
+    }
 }
 
 #[test]
-fn attributes(rt: HostRuntime) -> Result<(), Fail> {
-    let alloc = rt.alloc();
-    let file = Attrs {
-        kind: Kind::File,
-        uid: 7,
-        gid: 8,
-        mode: Mode::new(0o6644).ok_or("mode")?,
-        flags: FileFlags::new(0x60000).ok_or("flags")?,
-        size: 71_680,
-    };
+fn attributes(rt: HostRuntime) {
+    let file = attrs(&rt, Kind::File, (7, 8), (0o6644, 0x60000), 71_680);
     let line = "0 stat 4 file 7 8 6644 00060000 71680\n";
-    expect_served(&rt, alloc, Served::Stat(4, file), line)?;
-    let root = Attrs {
-        kind: Kind::Directory,
-        uid: 0,
-        gid: 4_294_967_295,
-        mode: Mode::new(0o7).ok_or("mode")?,
-        flags: FileFlags::none(),
-        size: 0,
-    };
+    expect_served(&rt, rt.alloc(), Served::Stat(4, file), line);
+    let root = attrs(&rt, Kind::Directory, (0, 4_294_967_295), (0o7, 0), 0);
     let line = "0 stat 2 dir 0 4294967295 0007 00000000 0\n";
-    expect_served(&rt, alloc, Served::Stat(2, root), line)
+    expect_served(&rt, rt.alloc(), Served::Stat(2, root), line);
+}
+
+/// Asserts the line of a Read that serves these bytes.
+fn expect_bytes(rt: &impl Abort, alloc: Global, bytes: &[u8], line: &str) {
+    let bytes = Bytes::from(Vec::from_slice(alloc, bytes).expect(rt, "memory"));
+    expect_served(rt, alloc, Served::Bytes(bytes), line);
 }
 
 #[test]
-fn answers(rt: HostRuntime) -> Result<(), Fail> {
-    let alloc = rt.alloc();
-    let bytes = Bytes::from(vec![in alloc; 0, 10, 255]?);
-    expect_served(&rt, alloc, Served::Bytes(bytes), "0 bytes 000aff\n")?;
-    let none = Bytes::from(Vec::new(alloc));
-    expect_served(&rt, alloc, Served::Bytes(none), "0 bytes -\n")?;
-    expect_served(&rt, alloc, Served::Done, "0 ok\n")?;
-    let denial = Denial {
+fn answers(rt: HostRuntime) {
+    expect_bytes(&rt, rt.alloc(), &[0, 10, 255], "0 bytes 000aff\n");
+    expect_bytes(&rt, rt.alloc(), &[], "0 bytes -\n");
+    expect_served(&rt, rt.alloc(), Served::Done, "0 ok\n");
+    let denial = Answer::Denied(Denial {
         rule: Rule::IsNotBeneathItself,
         path: 1,
         at: 12,
-    };
-    let line = "0 denied K4 EINVAL 1 12\n";
-    expect_line(&rt, alloc, &Answer::Denied(denial), line)?;
-    let line = print_answer(alloc, 8, &Answer::Served(Served::Done))?;
-    expect_eq(&rt, line.as_slice(), b"8 ok\n".as_slice());
-    Ok(())
+    });
+    expect_line(&rt, rt.alloc(), &denial, "0 denied K4 EINVAL 1 12\n");
+    let done = Answer::Served(Served::Done);
+    expect_answer(&rt, rt.alloc(), 8, &done, "8 ok\n");
 }
 
 #[test]
-fn refusals(rt: HostRuntime) -> Result<(), Fail> {
+fn refusals(rt: HostRuntime) {
     for (resource, line) in [
         (Resource::NoMemory, "0 refused NoMemory\n"),
         (Resource::NoSpace, "0 refused NoSpace\n"),
@@ -87,9 +91,8 @@ fn refusals(rt: HostRuntime) -> Result<(), Fail> {
         (Resource::DirectoryFull, "0 refused DirectoryFull\n"),
         (Resource::JournalFull, "0 refused JournalFull\n"),
     ] {
-        expect_line(&rt, rt.alloc(), &Answer::Refused(resource), line)?;
+        expect_line(&rt, rt.alloc(), &Answer::Refused(resource), line);
     }
-    Ok(())
 }
 
 /// Names, and the line of a List that serves them.
@@ -104,21 +107,21 @@ const NAMES: [(&[&[u8]], &str); 4] = [
 ];
 
 /// The list of these names.
-fn listed(alloc: Global, names: &[&[u8]]) -> Result<Names, Fail> {
+fn listed(rt: &impl Abort, alloc: Global, names: &[&[u8]]) -> Names {
     let mut listed = Vec::new(alloc);
     for name in names {
-        listed.push(Name::parse(alloc, name)?)?;
+        let name = Name::parse(alloc, name).expect(rt, "a name");
+        listed.push(name).expect(rt, "memory");
     }
-    Ok(Names::from(listed))
+    Names::from(listed)
 }
 
 #[test]
-fn names(rt: HostRuntime) -> Result<(), Fail> {
+fn names(rt: HostRuntime) {
     for (names, line) in NAMES {
-        let served = Served::Names(listed(rt.alloc(), names)?);
-        expect_served(&rt, rt.alloc(), served, line)?;
+        let served = Served::Names(listed(&rt, rt.alloc(), names));
+        expect_served(&rt, rt.alloc(), served, line);
     }
-    Ok(())
 }
 
 /// Asserts that an answer to a cleaner's call of session 0 has this line.
@@ -126,100 +129,89 @@ fn expect_cleaner(
     rt: &impl Abort,
     alloc: Global,
     kind: CleanerKind,
-    answer: &CleanerAnswer,
+    answer: CleanerAnswer,
     line: &str,
-) -> Result<(), Fail> {
-    let printed = print_cleaner(alloc, 0, kind, answer)?;
+) {
+    let printed = print_cleaner(alloc, 0, kind, &answer).expect(rt, "memory");
     expect_eq(rt, printed.as_slice(), line.as_bytes());
-    Ok(())
 }
 
 #[test]
-fn cleaner_lists(rt: HostRuntime) -> Result<(), Fail> {
-    let alloc = rt.alloc();
-    let infos = InfoList::new(&[BlockInfo::default(), BlockInfo::default()]).ok_or("infos")?;
-    let answer = CleanerAnswer::Infos(infos);
+fn cleaner_lists(rt: HostRuntime) {
+    let infos = InfoList::new(&[BlockInfo::default(); 2]).expect(&rt, "infos");
     let line = "0 cleaner infos ok 2\n";
-    expect_cleaner(&rt, alloc, CleanerKind::Infos, &answer, line)?;
-    let answer = CleanerAnswer::Bmapv(InfoList::empty());
+    let answer = CleanerAnswer::Infos(infos);
+    expect_cleaner(&rt, rt.alloc(), CleanerKind::Infos, answer, line);
     let line = "0 cleaner bmapv ok 0\n";
-    expect_cleaner(&rt, alloc, CleanerKind::Bmapv, &answer, line)
+    let answer = CleanerAnswer::Bmapv(InfoList::empty());
+    expect_cleaner(&rt, rt.alloc(), CleanerKind::Bmapv, answer, line);
+}
+
+/// So many zeros, as the bytes of an ifile.
+fn zeros(rt: &impl Abort, alloc: Global, count: usize) -> Bytes {
+    Bytes::from(vec![in alloc; 0; count].expect(rt, "memory"))
 }
 
 #[test]
-fn cleaner_answers(rt: HostRuntime) -> Result<(), Fail> {
+fn cleaner_answers(rt: HostRuntime) {
     let alloc = rt.alloc();
-    let answer = CleanerAnswer::Ifile(Bytes::from(vec![in alloc; 0; 252]?));
+    let answer = CleanerAnswer::Ifile(zeros(&rt, alloc, 252));
     let line = "0 cleaner ifile ok 252\n";
-    expect_cleaner(&rt, alloc, CleanerKind::Ifile, &answer, line)?;
+    expect_cleaner(&rt, alloc, CleanerKind::Ifile, answer, line);
     let line = "0 cleaner markv ok 8\n";
-    expect_cleaner(
-        &rt,
-        alloc,
-        CleanerKind::Markv,
-        &CleanerAnswer::Marked(8),
-        line,
-    )?;
+    let answer = CleanerAnswer::Marked(8);
+    expect_cleaner(&rt, alloc, CleanerKind::Markv, answer, line);
     let line = "0 cleaner segclean ok 0\n";
-    expect_cleaner(
-        &rt,
-        alloc,
-        CleanerKind::Segclean,
-        &CleanerAnswer::Cleaned,
-        line,
-    )?;
-    let denial = Denial {
+    let answer = CleanerAnswer::Cleaned;
+    expect_cleaner(&rt, alloc, CleanerKind::Segclean, answer, line);
+    let line = "0 cleaner bmapv denied U1\n";
+    let answer = CleanerAnswer::Denied(Denial {
         rule: Rule::IsSuperuser,
         path: 0,
         at: 0,
-    };
-    let line = "0 cleaner bmapv denied U1\n";
-    expect_cleaner(
-        &rt,
-        alloc,
-        CleanerKind::Bmapv,
-        &CleanerAnswer::Denied(denial),
-        line,
-    )
+    });
+    expect_cleaner(&rt, alloc, CleanerKind::Bmapv, answer, line);
 }
 
-#[test]
-fn cleaner_faults(rt: HostRuntime) -> Result<(), Fail> {
-    let (infos, segclean, markv) = (
+/// Calls of the cleaner with their faults, and the lines of these.
+const FAULTS: [(CleanerKind, CleanFault, &str); 5] = [
+    (
         CleanerKind::Infos,
+        CleanFault::NoSuchSegment,
+        "0 cleaner infos fault NoSuchSegment\n",
+    ),
+    (
+        CleanerKind::Infos,
+        CleanFault::Active,
+        "0 cleaner infos fault Active\n",
+    ),
+    (
         CleanerKind::Segclean,
+        CleanFault::NotDirty,
+        "0 cleaner segclean fault NotDirty\n",
+    ),
+    (
+        CleanerKind::Segclean,
+        CleanFault::Live(32_768),
+        "0 cleaner segclean fault Live 32768\n",
+    ),
+    (
         CleanerKind::Markv,
-    );
-    for (kind, fault, line) in [
-        (
-            infos,
-            CleanFault::NoSuchSegment,
-            "0 cleaner infos fault NoSuchSegment\n",
-        ),
-        (infos, CleanFault::Active, "0 cleaner infos fault Active\n"),
-        (
-            segclean,
-            CleanFault::NotDirty,
-            "0 cleaner segclean fault NotDirty\n",
-        ),
-        (
-            segclean,
-            CleanFault::Live(32_768),
-            "0 cleaner segclean fault Live 32768\n",
-        ),
-        (
-            markv,
-            CleanFault::NoSpace,
-            "0 cleaner markv fault NoSpace\n",
-        ),
-    ] {
-        expect_cleaner(&rt, rt.alloc(), kind, &CleanerAnswer::Fault(fault), line)?;
+        CleanFault::NoSpace,
+        "0 cleaner markv fault NoSpace\n",
+    ),
+];
+
+#[test]
+fn cleaner_faults(rt: HostRuntime) {
+    for (kind, fault, line) in FAULTS {
+        let answer = CleanerAnswer::Fault(fault);
+        expect_cleaner(&rt, rt.alloc(), kind, answer, line);
     }
-    Ok(())
 }
 
 #[test]
-fn cleaner_refusals(rt: HostRuntime) -> Result<(), Fail> {
+fn cleaner_refusals(rt: HostRuntime) {
     for (resource, line) in [
         (Resource::NoMemory, "0 cleaner ifile refused NoMemory\n"),
         (
@@ -228,9 +220,8 @@ fn cleaner_refusals(rt: HostRuntime) -> Result<(), Fail> {
         ),
     ] {
         let answer = CleanerAnswer::Refused(resource);
-        expect_cleaner(&rt, rt.alloc(), CleanerKind::Ifile, &answer, line)?;
+        expect_cleaner(&rt, rt.alloc(), CleanerKind::Ifile, answer, line);
     }
-    Ok(())
 }
 
 /// How many entries there are below.
@@ -258,21 +249,31 @@ const DENIAL: Denial = Denial {
     at: 1,
 };
 
-#[test]
-fn reports(rt: HostRuntime) -> Result<(), Fail> {
-    let empty = "entries 0\nserved 0\ndenied 0\nrefused 0\ncleaner 0\n";
-    expect_eq(&rt, report(rt.alloc(), &[])?.as_slice(), empty.as_bytes());
-    let cred = Cred::new(0, &[0], false)?;
-    let mut entries = Vec::new(rt.alloc());
+/// Asserts the lines of the report of these entries.
+fn expect_report(rt: &impl Abort, alloc: Global, entries: &[Entry], wanted: &str) {
+    let lines = report(alloc, entries).expect(rt, "memory");
+    expect_eq(rt, lines.as_slice(), wanted.as_bytes());
+}
+
+/// The entries.
+fn entries(rt: &impl Abort, alloc: Global) -> Vec<Entry> {
+    let cred = Cred::new(0, &[0], false).expect(rt, "a credential");
+    let mut entries = Vec::new(alloc);
     for number in 0..ENTRIES {
-        entries.push(Entry {
+        let entry = Entry {
             session: 0,
             cred,
             event: event(number),
-        })?;
+        };
+        entries.push(entry).expect(rt, "memory");
     }
+    entries
+}
+
+#[test]
+fn reports(rt: HostRuntime) {
+    let empty = "entries 0\nserved 0\ndenied 0\nrefused 0\ncleaner 0\n";
+    expect_report(&rt, rt.alloc(), &[], empty);
     let text = "entries 7\nserved 2\ndenied 1\nrefused 1\ncleaner 3\nrule U1 1\nrule Z1 1\n";
-    let lines = report(rt.alloc(), entries.as_slice())?;
-    expect_eq(&rt, lines.as_slice(), text.as_bytes());
-    Ok(())
+    expect_report(&rt, rt.alloc(), &entries(&rt, rt.alloc()), text);
 }
