@@ -11,8 +11,9 @@ mod status;
 mod texts;
 mod volume;
 
-use lfs_audit::fault::RunFault;
+use lfs_audit::fault::{RunFault, ThreadsFault};
 use lfs_audit::scripts::run_script;
+use lfs_audit::tell::tell;
 use lfs_types::store::Params;
 use std::alloc::Global;
 use std::fmt::Debug;
@@ -24,12 +25,32 @@ fn expect_eq<T: PartialEq + Debug + Drop>(rt: &impl Abort, found: T, wanted: T) 
     assert_eq!(rt; found, wanted);
 }
 
+/// Asserts what is told of a fault, and that the status is 1.
+fn expect_told(rt: &impl Abort, alloc: Global, fault: ThreadsFault, text: &[u8]) {
+    let mut writer = Vec::new(alloc);
+    expect_eq(rt, tell(&mut writer, &fault), 1);
+    expect_eq(rt, writer.as_slice(), text);
+}
+
 /// What a run of this script writes.
 fn output_with(alloc: Global, script: &str, params: Params) -> Result<Vec<u8>, RunFault> {
     let mut reader = script.as_bytes();
     let mut writer = Vec::new(alloc);
     run_script(alloc, &mut reader, &mut writer, params)?;
     Ok(writer)
+}
+
+/// The text that a run of this script writes.
+fn text_with(alloc: Global, script: &str, params: Params) -> Result<String, Fail> {
+    let written = output_with(alloc, script, params)?;
+    Ok(String::from_utf8(written)?)
+}
+
+/// Asserts that a text has each of these parts.
+fn expect_parts(rt: &impl Abort, text: &str, parts: &[&str]) {
+    for part in parts {
+        assert!(rt; text.contains(*part));
+    }
 }
 
 /// Asserts that a run of this script with these parameters writes these lines, and then a report.

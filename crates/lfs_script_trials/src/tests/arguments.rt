@@ -1,6 +1,7 @@
 //! The program's arguments.
 
-use super::expect_eq;
+use super::{expect_eq, expect_parts};
+use clap::Error;
 use clap::error::ErrorKind;
 use lfs_options::{DEFAULTS, Options, options_of};
 use lfs_types::store::Params;
@@ -89,64 +90,69 @@ const REFUSED: [&[&str]; 18] = [
     &["lfsd", "--frames", "1025"],
 ];
 
-#[test]
-fn usage_faults(rt: HostRuntime) {
-    for words in REFUSED {
-        let code = options_of(rt.alloc(), words).map_err(|error| error.exit_code());
-        expect_eq(&rt, &code, &Err(2));
+/// The fault of words that are refused, or a call for help.
+fn fault_of(alloc: Global, words: &[&str]) -> Result<Error, Fail> {
+    match options_of(alloc, words) {
+        Ok(_) => Err(Fail::from("no fault")),
+        Err(error) => Ok(error),
     }
 }
 
 #[test]
-fn help(rt: HostRuntime) -> Result<(), Fail> {
-    let Err(error) = options_of(rt.alloc(), &["lfsd", "--help"]) else {
-        return Err(Fail::from("no help"));
-    };
-    expect_eq(&rt, error.kind(), ErrorKind::DisplayHelp);
-    expect_eq(&rt, error.exit_code(), 0);
-    assert!(rt; !error.use_stderr());
-    let text = format!(in rt.alloc(); "{error}")?;
-    for told in [
-        "--threads",
-        "--segments",
-        "6 to 1024",
-        "--frames",
-        "32 to 1024",
-        "--inodes",
-        "16 to 4096",
-        "--journal",
-        "1 to 100000",
-        "Example: ",
-        "docs/FORMATS.md",
-    ] {
-        assert!(rt; text.contains(told));
+fn usage_faults(rt: HostRuntime) -> Result<(), Fail> {
+    for words in REFUSED {
+        expect_eq(&rt, fault_of(rt.alloc(), words)?.exit_code(), 2);
     }
     Ok(())
 }
 
-/// What is told of a word that is refused.
-fn fault_text(alloc: Global, word: &str) -> Result<String, Fail> {
-    match options_of(alloc, &["lfsd", word]) {
-        Ok(_) => Err(Fail::from("no fault")),
-        Err(error) => Ok(format!(in alloc; "{error}")?),
-    }
+/// What the help tells of, among others.
+const HELP: &[&str] = &[
+    "--threads",
+    "--segments",
+    "6 to 1024",
+    "--frames",
+    "32 to 1024",
+    "--inodes",
+    "16 to 4096",
+    "--journal",
+    "1 to 100000",
+    "Example: ",
+    "docs/FORMATS.md",
+];
+
+#[test]
+fn help(rt: HostRuntime) -> Result<(), Fail> {
+    let error = fault_of(rt.alloc(), &["lfsd", "--help"])?;
+    expect_eq(&rt, error.kind(), ErrorKind::DisplayHelp);
+    expect_eq(&rt, error.exit_code(), 0);
+    expect_eq(&rt, error.use_stderr(), false);
+    expect_parts(&rt, text_of(rt.alloc(), error)?.as_str(), HELP);
+    Ok(())
 }
+
+/// What is told of a fault.
+fn text_of(alloc: Global, error: Error) -> Result<String, Fail> {
+    Ok(format!(in alloc; "{error}")?)
+}
+
+/// Words that are refused, and how the range is told.
+const RANGES: [(&str, &str); 8] = [
+    ("--inodes=15", "16..=4096"),
+    ("--inodes=4097", "16..=4096"),
+    ("--segments=5", "6..=1024"),
+    ("--frames=31", "32..=1024"),
+    ("--frames=+32", "from 32 to 1024"),
+    ("--journal=0", "1..=100000"),
+    ("--inodes=+16", "from 16 to 4096"),
+    ("--journal=+1", "from 1 to 100000"),
+];
 
 #[test]
 fn usage_fault_names_the_range(rt: HostRuntime) -> Result<(), Fail> {
-    let cases = [
-        ("--inodes=15", "16..=4096"),
-        ("--inodes=4097", "16..=4096"),
-        ("--segments=5", "6..=1024"),
-        ("--frames=31", "32..=1024"),
-        ("--frames=+32", "from 32 to 1024"),
-        ("--journal=0", "1..=100000"),
-        ("--inodes=+16", "from 16 to 4096"),
-        ("--journal=+1", "from 1 to 100000"),
-    ];
-    for (word, range) in cases {
-        let text = fault_text(rt.alloc(), word)?;
-        assert!(rt; text.contains(range));
+    for (word, range) in RANGES {
+        let error = fault_of(rt.alloc(), &["lfsd", word])?;
+        expect_parts(&rt, text_of(rt.alloc(), error)?.as_str(), &[range]);
     }
     Ok(())
 }

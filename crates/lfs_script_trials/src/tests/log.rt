@@ -1,6 +1,6 @@
 //! Scripts that go to the edges of the log and of its files: a volume written full, files cut and grown.
 
-use super::{expect_with, output_with};
+use super::{expect_with, text_with};
 use lfs_options::DEFAULTS;
 use lfs_types::store::Params;
 use std::alloc::{AllocError, Global};
@@ -26,46 +26,81 @@ pub fn push_byte(to: &mut String, byte: usize, times: usize) -> Result<(), Alloc
     Ok(())
 }
 
+/// Appends a number between two texts.
+fn push_number(
+    to: &mut String,
+    before: &str,
+    number: usize,
+    after: &str,
+) -> Result<(), AllocError> {
+    write!(to, "{before}{number}{after}")
+}
+
 /// A script that makes the files, and writes them in turn, each time 512 bytes of another value at the end.
 fn filling(alloc: Global) -> Result<String, AllocError> {
     let mut script = String::new(alloc);
     for file in 0..FILES {
-        writeln!(script, "create /f{file} 0644")?;
+        push_number(&mut script, "create /f", file, " 0644\n")?;
     }
     for write in 0..WRITES {
-        write!(script, "write /f{} end ", write % FILES)?;
+        push_number(&mut script, "write /f", write % FILES, " end ")?;
         push_byte(&mut script, write, 512)?;
-        script.push('\n')?;
+        script.push_str("\n")?;
     }
     Ok(script)
 }
 
-/// Which of the Writes were served, by the lines of the answers.
-fn served_writes(alloc: Global, text: &[u8]) -> Result<Vec<usize>, AllocError> {
-    let mut served = Vec::new(alloc);
-    let mut number = 0usize;
-    for line in text.split(|byte| *byte == b'\n') {
-        if number >= FILES && line == b"0 ok".as_slice() {
-            served.push(number.saturating_sub(FILES))?;
+/// The Writes that were served.
+type Served = [bool; WRITES];
+
+/// The answer to a call that was served.
+const OK: &str = "0 ok\n";
+
+/// The answer to a Write for which there was no room.
+const NO_SPACE: &str = "0 refused NoSpace\n";
+
+/// Which of the Writes were served, by the lines that a run of `filling` prints.
+fn served_writes(lines: &str) -> Result<Served, Fail> {
+    let mut rest = lines;
+    for _ in 0..FILES {
+        let Some(behind) = rest.strip_prefix(OK) else {
+            return Err(Fail::from("a Create"));
+        };
+        rest = behind;
+    }
+    let mut served = [false; WRITES];
+    for write in 0..WRITES {
+        if let Some(behind) = rest.strip_prefix(OK) {
+            served[write] = true;
+            rest = behind;
+        } else if let Some(behind) = rest.strip_prefix(NO_SPACE) {
+            rest = behind;
+        } else {
+            return Err(Fail::from("a Write"));
         }
-        number = number.saturating_add(1);
     }
     Ok(served)
 }
 
-/// Appends the answers to the calls that fill a volume.
-fn push_filled(to: &mut String, served: &[usize]) -> Result<(), AllocError> {
+/// How many Writes were served.
+fn count(served: &Served) -> usize {
+    let mut count = 0usize;
+    for is_served in served {
+        count = count.saturating_add(usize::from(*is_served));
+    }
+    count
+}
+
+/// What the script prints that fills a volume.
+fn answers_to_filling(alloc: Global, served: &Served) -> Result<String, AllocError> {
+    let mut answers = String::new(alloc);
     for _ in 0..FILES {
-        to.push_str("0 ok\n")?;
+        answers.push_str(OK)?;
     }
-    for write in 0..WRITES {
-        to.push_str(if served.contains(&write) {
-            "0 ok\n"
-        } else {
-            "0 refused NoSpace\n"
-        })?;
+    for is_served in served {
+        answers.push_str(if *is_served { OK } else { NO_SPACE })?;
     }
-    Ok(())
+    Ok(answers)
 }
 
 /// Appends, for one file, a Read of each block that was written and one behind the last, and what they serve.
@@ -73,20 +108,26 @@ fn push_reads(
     script: &mut String,
     expected: &mut String,
     file: usize,
-    served: &[usize],
+    served: &Served,
 ) -> Result<(), AllocError> {
     let mut place = 0usize;
-    for write in served {
-        if *write % FILES == file {
-            writeln!(script, "read /f{file} {place} 512")?;
+    for write in 0..WRITES {
+        if write % FILES == file && served[write] {
+            push_read(script, file, place)?;
             expected.push_str("0 bytes ")?;
-            push_byte(expected, *write, 512)?;
-            expected.push('\n')?;
+            push_byte(expected, write, 512)?;
+            expected.push_str("\n")?;
             place = place.saturating_add(512);
         }
     }
-    writeln!(script, "read /f{file} {place} 512")?;
+    push_read(script, file, place)?;
     expected.push_str("0 bytes -\n")
+}
+
+/// Appends a Read of 512 bytes.
+fn push_read(script: &mut String, file: usize, place: usize) -> Result<(), AllocError> {
+    push_number(script, "read /f", file, " ")?;
+    push_number(script, "", place, " 512\n")
 }
 
 // A user's call opens a segment only where more than two are clean: so four segments are written, the first behind
@@ -95,18 +136,16 @@ fn push_reads(
 fn full_volume_keeps_all_that_was_served(rt: HostRuntime) -> Result<(), Fail> {
     let alloc = rt.alloc();
     let mut script = filling(alloc)?;
-    let filled = output_with(alloc, script.as_str(), SIX_SEGMENTS)?;
-    let served = served_writes(alloc, filled.as_slice())?;
-    assert!(rt; served.len() >= 50);
-    assert!(rt; served.len() < WRITES);
-    let mut expected = String::new(alloc);
-    push_filled(&mut expected, served.as_slice())?;
+    let served = served_writes(text_with(alloc, script.as_str(), SIX_SEGMENTS)?.as_str())?;
+    let count = count(&served);
+    assert!(rt; 50 <= count && count < WRITES);
+    let mut expected = answers_to_filling(alloc, &served)?;
     for file in 0..FILES {
-        push_reads(&mut script, &mut expected, file, served.as_slice())?;
+        push_reads(&mut script, &mut expected, file, &served)?;
     }
     script.push_str("unlink /f0\nstat /f0\n")?;
     expected.push_str("0 ok\n0 denied N2 ENOENT 0 1\n")?;
-    push_reads(&mut script, &mut expected, 1, served.as_slice())?;
+    push_reads(&mut script, &mut expected, 1, &served)?;
     expect_with(&rt, alloc, script.as_str(), SIX_SEGMENTS, expected.as_str())
 }
 
@@ -125,10 +164,10 @@ fn byte_at(place: usize) -> usize {
 fn push_whole(script: &mut String, expected: &mut String) -> Result<(), AllocError> {
     for part in 0..18 {
         let place = part * 4_096;
-        write!(script, "write /f at {place} ")?;
+        push_number(script, "write /f at ", place, " ")?;
         push_byte(script, byte_at(place), (LENGTH_LIMIT - place).min(4_096))?;
-        script.push('\n')?;
-        expected.push_str("0 ok\n")?;
+        script.push_str("\n")?;
+        expected.push_str(OK)?;
     }
     Ok(())
 }
@@ -142,24 +181,24 @@ fn push_edge(
     cut: usize,
 ) -> Result<(), AllocError> {
     let first = place.saturating_sub(2);
-    writeln!(script, "read /f {first} 4")?;
+    push_number(script, "read /f ", first, " 4\n")?;
     expected.push_str("0 bytes ")?;
     for byte in first..place.saturating_add(2).min(LENGTH_LIMIT) {
         push_byte(expected, if byte < cut { byte_at(byte) } else { 0 }, 1)?;
     }
-    expected.push('\n')
+    expected.push_str("\n")
 }
 
 /// Appends a cut of `/f`, its growth to the limit, and Reads around the cut and the edges, and the answers.
 fn push_cut(script: &mut String, expected: &mut String, cut: usize) -> Result<(), AllocError> {
     push_whole(script, expected)?;
-    writeln!(script, "length /f {cut}\nstat /f\nread /f {cut} 4")?;
-    writeln!(
-        expected,
-        "0 ok\n0 stat 4 file 0 0 0644 00000000 {cut}\n0 bytes -"
-    )?;
-    writeln!(script, "length /f {LENGTH_LIMIT}")?;
-    expected.push_str("0 ok\n")?;
+    push_number(script, "length /f ", cut, "\nstat /f\n")?;
+    push_number(script, "read /f ", cut, " 4\n")?;
+    expected.push_str(OK)?;
+    push_number(expected, "0 stat 4 file 0 0 0644 00000000 ", cut, "\n")?;
+    expected.push_str("0 bytes -\n")?;
+    push_number(script, "length /f ", LENGTH_LIMIT, "\n")?;
+    expected.push_str(OK)?;
     push_edge(script, expected, cut, cut)?;
     push_edge(script, expected, LENGTH_LIMIT, cut)?;
     for edge in EDGES {
@@ -174,7 +213,7 @@ fn cut_file_keeps_its_bytes_and_grows_by_zeros(rt: HostRuntime) -> Result<(), Fa
     let mut script = String::new(alloc);
     let mut expected = String::new(alloc);
     script.push_str("create /f 0644\n")?;
-    expected.push_str("0 ok\n")?;
+    expected.push_str(OK)?;
     for cut in [5_632, 6_144, 6_145, 6_656, 71_168, 71_679] {
         push_cut(&mut script, &mut expected, cut)?;
     }

@@ -7,18 +7,23 @@ use lfs_audit::tell::{end, tell};
 use lfs_options::DEFAULTS;
 use lfs_text::fault::{FaultKind, ScriptFault};
 
+/// How runs end, and the status and the text of each.
+const ENDS: [(Result<(), ThreadsFault>, u8, &[u8]); 2] = [
+    (Ok(()), 0, b""),
+    (
+        Err(ThreadsFault::Run(RunFault::Write)),
+        1,
+        b"lfsd: write failed\n",
+    ),
+];
+
 #[test]
 fn status_of_a_run(rt: HostRuntime) {
-    let mut told = Vec::new(rt.alloc());
-    let done: Result<(), ThreadsFault> = Ok(());
-    expect_eq(&rt, end(&mut told, done), 0);
-    assert!(rt; told.is_empty());
-    expect_eq(
-        &rt,
-        end(&mut told, Err(ThreadsFault::Run(RunFault::Write))),
-        1,
-    );
-    expect_eq(&rt, told.as_slice(), b"lfsd: write failed\n".as_slice());
+    for (outcome, status, text) in ENDS {
+        let mut told = Vec::new(rt.alloc());
+        expect_eq(&rt, end(&mut told, outcome), status);
+        expect_eq(&rt, told.as_slice(), text);
+    }
 }
 
 #[test]

@@ -1,8 +1,7 @@
 //! The texts of faults.
 
-use super::expect_eq;
+use super::expect_told;
 use lfs_audit::fault::{RunFault, ThreadsFault};
-use lfs_audit::tell::tell;
 use lfs_text::fault::{FaultKind, ScriptFault};
 use lfs_types::cred::BadCred;
 use lfs_types::fault::FormatFault;
@@ -39,9 +38,7 @@ const FAULTS: [(ThreadsFault, &[u8]); 8] = [
 #[test]
 fn faults(rt: HostRuntime) {
     for (fault, text) in FAULTS {
-        let mut writer = Vec::new(rt.alloc());
-        expect_eq(&rt, tell(&mut writer, &fault), 1);
-        expect_eq(&rt, writer.as_slice(), text);
+        expect_told(&rt, rt.alloc(), fault, text);
     }
 }
 
@@ -70,8 +67,6 @@ fn script_faults(rt: HostRuntime) {
     for (kind, text) in LINE_FAULTS {
         let line = 1_048_576;
         let fault = ThreadsFault::Run(RunFault::Script(ScriptFault { line, kind }));
-        let mut writer = Vec::new(rt.alloc());
-        expect_eq(&rt, tell(&mut writer, &fault), 1);
-        expect_eq(&rt, writer.as_slice(), text);
+        expect_told(&rt, rt.alloc(), fault, text);
     }
 }

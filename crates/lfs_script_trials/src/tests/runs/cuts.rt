@@ -1,32 +1,31 @@
 //! A script that is cut after each of its bytes.
 
-use super::fakes::Shut;
-use super::{PARAMS, expect_eq, expect_with};
+use super::{PARAMS, expect_unwritten, expect_with};
 use lfs_audit::fault::RunFault;
-use lfs_audit::scripts::run_script;
 use lfs_text::fault::{FaultKind, ScriptFault};
 use std::alloc::{AllocError, Global};
 use std::test::Fail;
 
-/// The lines of a script, and what each prints.
+/// The lines of a script, and what it prints where it is cut behind each.
 const LINES: [(&str, &str); 6] = [
     ("as 0 0\n", ""),
     ("create /a 0644\n", "0 ok\n"),
-    ("write /a at 0 616263\n", "0 ok\n"),
-    ("as 5 5\n", ""),
-    ("read /a 0 10\n", "0 bytes 616263\n"),
-    ("write /a at 0 64\n", "0 denied M2 EACCES 0 1\n"),
+    ("write /a at 0 616263\n", "0 ok\n0 ok\n"),
+    ("as 5 5\n", "0 ok\n0 ok\n"),
+    ("read /a 0 10\n", "0 ok\n0 ok\n0 bytes 616263\n"),
+    (
+        "write /a at 0 64\n",
+        "0 ok\n0 ok\n0 bytes 616263\n0 denied M2 EACCES 0 1\n",
+    ),
 ];
 
 #[test]
 fn script_cut_behind_each_line(rt: HostRuntime) -> Result<(), Fail> {
     let alloc = rt.alloc();
     let mut script = String::new(alloc);
-    let mut answers = String::new(alloc);
-    for (line, answer) in LINES {
+    for (line, answers) in LINES {
         script.push_str(line)?;
-        answers.push_str(answer)?;
-        expect_with(&rt, alloc, script.as_str(), PARAMS, answers.as_str())?;
+        expect_with(&rt, alloc, script.as_str(), PARAMS, answers)?;
     }
     Ok(())
 }
@@ -52,11 +51,8 @@ fn script_cut_within_each_line(rt: HostRuntime) -> Result<(), Fail> {
             continue;
         }
         let kind = FaultKind::Cut;
-        let mut writer = Shut { is_asked: false };
-        let result = run_script(alloc, &mut &*cut, &mut writer, PARAMS);
         let fault = RunFault::Script(ScriptFault { line, kind });
-        expect_eq(&rt, &result, &Err(fault));
-        assert!(rt; !writer.is_asked);
+        expect_unwritten(&rt, alloc, &mut &*cut, PARAMS, fault);
     }
     Ok(())
 }

@@ -1,39 +1,36 @@
 //! Scripts run over readers and writers that fail, never end or take little.
 
-use super::fakes::{Endless, Failing, Full, Shut, Slow};
-use super::{LONG_READS, PARAMS, expect_eq};
+use super::fakes::{Endless, Failing, Full, Slow};
+use super::{LONG_READS, PARAMS, WRITERS, expect_end, expect_eq, expect_unwritten};
 use lfs_audit::fault::RunFault;
-use lfs_audit::scripts::run_script;
 use lfs_text::fault::{FaultKind, ScriptFault};
+use std::alloc::{AllocError, Global};
 use std::io::ErrorKind;
 use std::test::Fail;
 
 const SCRIPT: &[u8] = b"create /a 0644\nwrite /a at 0 616263\nread /a 0 10\nstat /a\n";
 
+/// The script, in a reader that fails once so many reads are done.
+fn failing(reads: usize, kind: ErrorKind) -> Failing<'static> {
+    Failing {
+        rest: SCRIPT,
+        reads,
+        kind,
+    }
+}
+
 #[test]
 fn reader_that_fails_at_each_read(rt: HostRuntime) {
-    let kinds = [ErrorKind::Interrupted, ErrorKind::Other];
+    let alloc = rt.alloc();
     for reads in 0..=SCRIPT.len() {
-        for kind in kinds {
-            let mut reader = Failing {
-                rest: SCRIPT,
-                reads,
-                kind,
-            };
-            let mut writer = Shut { is_asked: false };
-            let result = run_script(rt.alloc(), &mut reader, &mut writer, PARAMS);
-            expect_eq(&rt, &result, &Err(RunFault::Read));
-            assert!(rt; !writer.is_asked);
+        for kind in [ErrorKind::Interrupted, ErrorKind::Other] {
+            let mut reader = failing(reads, kind);
+            expect_unwritten(&rt, alloc, &mut reader, PARAMS, RunFault::Read);
         }
     }
-    let mut reader = Failing {
-        rest: SCRIPT,
-        reads: SCRIPT.len() + 1,
-        kind: ErrorKind::Other,
-    };
-    let mut writer = Vec::new(rt.alloc());
-    let result = run_script(rt.alloc(), &mut reader, &mut writer, PARAMS);
-    expect_eq(&rt, &result, &Ok(()));
+    let mut reader = failing(SCRIPT.len() + 1, ErrorKind::Other);
+    let mut writer = Vec::new(alloc);
+    expect_end(&rt, alloc, &mut reader, &mut writer, Ok(()));
 }
 
 #[test]
@@ -42,37 +39,36 @@ fn reader_that_never_ends(rt: HostRuntime) {
         byte: b'x',
         reads: 0,
     };
-    let mut writer = Vec::new(rt.alloc());
-    let result = run_script(rt.alloc(), &mut reader, &mut writer, PARAMS);
-    expect_eq(&rt, &result, &Err(RunFault::TooLong));
+    expect_unwritten(&rt, rt.alloc(), &mut reader, PARAMS, RunFault::TooLong);
     expect_eq(&rt, reader.reads, 1_048_577);
-    assert!(rt; writer.is_empty());
+}
+
+/// A script of 1,048,576 bytes, each line a comment.
+fn comments(alloc: Global) -> Result<Vec<u8>, AllocError> {
+    let mut script = Vec::new(alloc);
+    for _ in 0..524_288 {
+        script.extend_from_slice(b"#\n")?;
+    }
+    Ok(script)
 }
 
 #[test]
 fn longest_script(rt: HostRuntime) -> Result<(), Fail> {
     let alloc = rt.alloc();
-    let mut script = Vec::new(alloc);
-    for _ in 0..524_288 {
-        script.extend_from_slice(b"#\n")?;
-    }
+    let mut script = comments(alloc)?;
     let mut writer = Vec::new(alloc);
-    let result = run_script(alloc, &mut script.as_slice(), &mut writer, PARAMS);
-    expect_eq(&rt, &result, &Ok(()));
+    expect_end(&rt, alloc, &mut script.as_slice(), &mut writer, Ok(()));
     let report = b"entries 0\nserved 0\ndenied 0\nrefused 0\ncleaner 0\n";
     expect_eq(&rt, writer.as_slice(), report.as_slice());
-    writer.clear();
+    drop(writer);
     script.push(b'x')?;
-    let result = run_script(alloc, &mut script.as_slice(), &mut writer, PARAMS);
-    expect_eq(&rt, &result, &Err(RunFault::TooLong));
-    script.pop();
-    script.pop();
+    let fault = RunFault::TooLong;
+    expect_unwritten(&rt, alloc, &mut script.as_slice(), PARAMS, fault);
+    script.truncate(1_048_575);
     let line = 524_288;
     let kind = FaultKind::Cut;
     let fault = RunFault::Script(ScriptFault { line, kind });
-    let result = run_script(alloc, &mut script.as_slice(), &mut writer, PARAMS);
-    expect_eq(&rt, &result, &Err(fault));
-    assert!(rt; writer.is_empty());
+    expect_unwritten(&rt, alloc, &mut script.as_slice(), PARAMS, fault);
     Ok(())
 }
 
@@ -80,27 +76,25 @@ fn longest_script(rt: HostRuntime) -> Result<(), Fail> {
 fn writer_that_fails_at_each_write(rt: HostRuntime) {
     // Without their first line they are lines of session 0.
     let script = LONG_READS.trim_start_matches("session 1\n");
-    for (writes, flushes, wanted) in [
-        (0, true, Err(RunFault::Write)),
-        (1, true, Err(RunFault::Write)),
-        (2, true, Err(RunFault::Write)),
-        (3, true, Ok(())),
-        (3, false, Err(RunFault::Write)),
-    ] {
+    for (writes, flushes, is_done) in WRITERS {
         let mut writer = Full { writes, flushes };
-        let result = run_script(rt.alloc(), &mut script.as_bytes(), &mut writer, PARAMS);
-        expect_eq(&rt, &result, &wanted);
+        let end = if is_done {
+            Ok(())
+        } else {
+            Err(RunFault::Write)
+        };
+        expect_end(&rt, rt.alloc(), &mut script.as_bytes(), &mut writer, end);
         expect_eq(&rt, writer.writes, 0);
     }
 }
 
 #[test]
-fn writer_that_takes_a_byte_at_a_time(rt: HostRuntime) -> Result<(), Fail> {
+fn writer_that_takes_a_byte_at_a_time(rt: HostRuntime) {
+    let alloc = rt.alloc();
     let mut writer = Slow {
-        taken: Vec::new(rt.alloc()),
+        taken: Vec::new(alloc),
     };
-    let result = run_script(rt.alloc(), &mut &*SCRIPT, &mut writer, PARAMS);
-    expect_eq(&rt, &result, &Ok(()));
+    expect_end(&rt, alloc, &mut &*SCRIPT, &mut writer, Ok(()));
     let expected = b"\
 0 ok
 0 ok
@@ -113,5 +107,4 @@ refused 0
 cleaner 0
 ";
     expect_eq(&rt, writer.taken.as_slice(), expected.as_slice());
-    Ok(())
 }

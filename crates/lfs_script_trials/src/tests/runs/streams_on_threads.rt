@@ -1,37 +1,34 @@
 //! Scripts run on threads over readers and writers that fail, never end or take little.
 
-use super::fakes::{Endless, Failing, Full, Shut, Slow};
-use super::{LONG_READS, PARAMS, expect_eq};
+use super::fakes::{Endless, Failing, Full, Slow};
+use super::{LONG_READS, PARAMS, WRITERS, expect_eq, expect_threads_end, expect_threads_unwritten};
 use lfs_audit::fault::{RunFault, ThreadsFault};
-use lfs_audit::threaded::run_threads;
 use std::io::ErrorKind;
 
 const SCRIPT: &[u8] = b"create /a 0666\nsession 1\nas 7 7\nwrite /a at 0 616263\nread /a 0 10\n";
 
+/// The script, in a reader that fails once so many reads are done.
+fn failing(reads: usize, kind: ErrorKind) -> Failing<'static> {
+    Failing {
+        rest: SCRIPT,
+        reads,
+        kind,
+    }
+}
+
 #[test]
 fn reader_on_threads_that_fails_at_each_read(rt: HostRuntime) {
-    let kinds = [ErrorKind::Interrupted, ErrorKind::Other];
+    let alloc = rt.alloc();
+    let fault = ThreadsFault::Run(RunFault::Read);
     for reads in 0..=SCRIPT.len() {
-        for kind in kinds {
-            let mut reader = Failing {
-                rest: SCRIPT,
-                reads,
-                kind,
-            };
-            let mut writer = Shut { is_asked: false };
-            let result = run_threads(&rt, rt.alloc(), &mut reader, &mut writer, PARAMS);
-            expect_eq(&rt, &result, &Err(ThreadsFault::Run(RunFault::Read)));
-            assert!(rt; !writer.is_asked);
+        for kind in [ErrorKind::Interrupted, ErrorKind::Other] {
+            let mut reader = failing(reads, kind);
+            expect_threads_unwritten(&rt, alloc, &mut reader, PARAMS, fault);
         }
     }
-    let mut reader = Failing {
-        rest: SCRIPT,
-        reads: SCRIPT.len() + 1,
-        kind: ErrorKind::Other,
-    };
-    let mut writer = Vec::new(rt.alloc());
-    let result = run_threads(&rt, rt.alloc(), &mut reader, &mut writer, PARAMS);
-    expect_eq(&rt, &result, &Ok(()));
+    let mut reader = failing(SCRIPT.len() + 1, ErrorKind::Other);
+    let mut writer = Vec::new(alloc);
+    expect_threads_end(&rt, alloc, &mut reader, &mut writer, Ok(()));
 }
 
 #[test]
@@ -40,38 +37,34 @@ fn reader_on_threads_that_never_ends(rt: HostRuntime) {
         byte: b'\n',
         reads: 0,
     };
-    let mut writer = Shut { is_asked: false };
-    let result = run_threads(&rt, rt.alloc(), &mut reader, &mut writer, PARAMS);
-    expect_eq(&rt, &result, &Err(ThreadsFault::Run(RunFault::TooLong)));
+    let fault = ThreadsFault::Run(RunFault::TooLong);
+    expect_threads_unwritten(&rt, rt.alloc(), &mut reader, PARAMS, fault);
     expect_eq(&rt, reader.reads, 1_048_577);
-    assert!(rt; !writer.is_asked);
 }
 
 #[test]
 fn writer_on_threads_that_fails_at_each_write(rt: HostRuntime) {
-    let fault = ThreadsFault::Run(RunFault::Write);
-    for (writes, flushes, wanted) in [
-        (0, true, Err(fault)),
-        (1, true, Err(fault)),
-        (2, true, Err(fault)),
-        (3, true, Ok(())),
-        (3, false, Err(fault)),
-    ] {
+    let alloc = rt.alloc();
+    for (writes, flushes, is_done) in WRITERS {
         let mut script = LONG_READS.as_bytes();
         let mut writer = Full { writes, flushes };
-        let result = run_threads(&rt, rt.alloc(), &mut script, &mut writer, PARAMS);
-        expect_eq(&rt, &result, &wanted);
+        let end = if is_done {
+            Ok(())
+        } else {
+            Err(ThreadsFault::Run(RunFault::Write))
+        };
+        expect_threads_end(&rt, alloc, &mut script, &mut writer, end);
         expect_eq(&rt, writer.writes, 0);
     }
 }
 
 #[test]
 fn writer_on_threads_that_takes_a_byte_at_a_time(rt: HostRuntime) {
+    let alloc = rt.alloc();
     let mut writer = Slow {
-        taken: Vec::new(rt.alloc()),
+        taken: Vec::new(alloc),
     };
-    let result = run_threads(&rt, rt.alloc(), &mut &*SCRIPT, &mut writer, PARAMS);
-    expect_eq(&rt, &result, &Ok(()));
+    expect_threads_end(&rt, alloc, &mut &*SCRIPT, &mut writer, Ok(()));
     let written = writer.taken.as_slice();
     assert!(rt; written.starts_with(b"0 ok\n1 ok\n1 bytes 616263\nentries "));
     // No session's call runs out of anything, so of the report only the cleaner's calls and the sum vary.
