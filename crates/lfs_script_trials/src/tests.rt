@@ -40,10 +40,12 @@ fn output_with(alloc: Global, script: &str, params: Params) -> Result<Vec<u8>, R
     Ok(writer)
 }
 
-/// The text that a run of this script writes.
-fn text_with(alloc: Global, script: &str, params: Params) -> Result<String, Fail> {
-    let written = output_with(alloc, script, params)?;
-    Ok(String::from_utf8(written)?)
+/// What was written, as text.
+fn text_of(written: &[u8]) -> Result<&str, Fail> {
+    match str::from_utf8(written) {
+        Ok(text) => Ok(text),
+        Err(_) => Err(Fail::from("no text")),
+    }
 }
 
 /// Asserts that a text has each of these parts.

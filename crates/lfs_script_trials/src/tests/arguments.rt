@@ -6,6 +6,7 @@ use clap::error::ErrorKind;
 use lfs_options::{DEFAULTS, Options, options_of};
 use lfs_types::store::Params;
 use std::alloc::Global;
+use std::process::Abort;
 use std::test::Fail;
 
 /// Words of a command line, and what they ask for.
@@ -98,10 +99,23 @@ fn fault_of(alloc: Global, words: &[&str]) -> Result<Error, Fail> {
     }
 }
 
+/// The status with which the program ends at these words.
+fn status_of(alloc: Global, words: &[&str]) -> Result<i32, Fail> {
+    Ok(fault_of(alloc, words)?.exit_code())
+}
+
+/// Asserts that what is told at these words has each of these parts.
+fn expect_told(rt: &impl Abort, alloc: Global, words: &[&str], parts: &[&str]) -> Result<(), Fail> {
+    let error = fault_of(alloc, words)?;
+    let text = format!(in alloc; "{error}")?;
+    expect_parts(rt, text.as_str(), parts);
+    Ok(())
+}
+
 #[test]
 fn usage_faults(rt: HostRuntime) -> Result<(), Fail> {
     for words in REFUSED {
-        expect_eq(&rt, fault_of(rt.alloc(), words)?.exit_code(), 2);
+        expect_eq(&rt, status_of(rt.alloc(), words)?, 2);
     }
     Ok(())
 }
@@ -127,13 +141,8 @@ fn help(rt: HostRuntime) -> Result<(), Fail> {
     expect_eq(&rt, error.kind(), ErrorKind::DisplayHelp);
     expect_eq(&rt, error.exit_code(), 0);
     expect_eq(&rt, error.use_stderr(), false);
-    expect_parts(&rt, text_of(rt.alloc(), error)?.as_str(), HELP);
-    Ok(())
-}
-
-/// What is told of a fault.
-fn text_of(alloc: Global, error: Error) -> Result<String, Fail> {
-    Ok(format!(in alloc; "{error}")?)
+    drop(error);
+    expect_told(&rt, rt.alloc(), &["lfsd", "--help"], HELP)
 }
 
 /// Words that are refused, and how the range is told.
@@ -151,8 +160,7 @@ const RANGES: [(&str, &str); 8] = [
 #[test]
 fn usage_fault_names_the_range(rt: HostRuntime) -> Result<(), Fail> {
     for (word, range) in RANGES {
-        let error = fault_of(rt.alloc(), &["lfsd", word])?;
-        expect_parts(&rt, text_of(rt.alloc(), error)?.as_str(), &[range]);
+        expect_told(&rt, rt.alloc(), &["lfsd", word], &[range])?;
     }
     Ok(())
 }

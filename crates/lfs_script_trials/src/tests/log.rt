@@ -1,6 +1,7 @@
 //! Scripts that go to the edges of the log and of its files: a volume written full, files cut and grown.
 
-use super::{expect_with, text_with};
+use super::{expect_with, output_with, text_of};
+use itoa::Buffer;
 use lfs_options::DEFAULTS;
 use lfs_types::store::Params;
 use std::alloc::{AllocError, Global};
@@ -18,10 +19,16 @@ const FILES: usize = 4;
 /// How many Writes of 512 bytes are asked for there.
 const WRITES: usize = 128;
 
+/// The hexadecimal digits.
+const DIGITS: &[u8; 16] = b"0123456789abcdef";
+
 /// Appends the hexadecimal digits of a byte so many times.
 pub fn push_byte(to: &mut String, byte: usize, times: usize) -> Result<(), AllocError> {
+    let high = char::from(DIGITS[byte / 16 % 16]);
+    let low = char::from(DIGITS[byte % 16]);
     for _ in 0..times {
-        write!(to, "{byte:02x}")?;
+        to.push(high)?;
+        to.push(low)?;
     }
     Ok(())
 }
@@ -33,7 +40,9 @@ fn push_number(
     number: usize,
     after: &str,
 ) -> Result<(), AllocError> {
-    write!(to, "{before}{number}{after}")
+    to.push_str(before)?;
+    to.push_str(Buffer::new().format(number))?;
+    to.push_str(after)
 }
 
 /// A script that makes the files, and writes them in turn, each time 512 bytes of another value at the end.
@@ -80,6 +89,12 @@ fn served_writes(lines: &str) -> Result<Served, Fail> {
         }
     }
     Ok(served)
+}
+
+/// Which of the Writes a run of this script serves.
+fn served_on(alloc: Global, script: &str) -> Result<Served, Fail> {
+    let written = output_with(alloc, script, SIX_SEGMENTS)?;
+    served_writes(text_of(written.as_slice())?)
 }
 
 /// How many Writes were served.
@@ -136,7 +151,7 @@ fn push_read(script: &mut String, file: usize, place: usize) -> Result<(), Alloc
 fn full_volume_keeps_all_that_was_served(rt: HostRuntime) -> Result<(), Fail> {
     let alloc = rt.alloc();
     let mut script = filling(alloc)?;
-    let served = served_writes(text_with(alloc, script.as_str(), SIX_SEGMENTS)?.as_str())?;
+    let served = served_on(alloc, script.as_str())?;
     let count = count(&served);
     assert!(rt; 50 <= count && count < WRITES);
     let mut expected = answers_to_filling(alloc, &served)?;

@@ -1,7 +1,7 @@
 //! Full volumes and passes of the cleaner.
 
 use super::log::{SIX_SEGMENTS, push_byte};
-use super::{expect_parts, text_with};
+use super::{expect_parts, output_with, text_of};
 use std::alloc::{AllocError, Global};
 use std::test::Fail;
 
@@ -34,11 +34,13 @@ fn filling_and_pass(alloc: Global) -> Result<String, AllocError> {
 #[test]
 fn pass_makes_room_in_a_full_volume(rt: HostRuntime) -> Result<(), Fail> {
     let script = filling_and_pass(rt.alloc())?;
-    let text = text_with(rt.alloc(), script.as_str(), SIX_SEGMENTS)?;
+    let written = output_with(rt.alloc(), script.as_str(), SIX_SEGMENTS)?;
+    drop(script);
+    let text = text_of(written.as_slice())?;
     assert!(rt; text.starts_with("0 ok\n0 ok\n"));
     expect_parts(
         &rt,
-        text.as_str(),
+        text,
         &[
             "\n0 refused NoSpace\n",
             "\n0 cleaner segclean ok 0\n",
@@ -61,10 +63,12 @@ fn filling_and_denials(alloc: Global) -> Result<String, AllocError> {
 #[test]
 fn full_volume_hides_no_rule(rt: HostRuntime) -> Result<(), Fail> {
     let script = filling_and_denials(rt.alloc())?;
-    let text = text_with(rt.alloc(), script.as_str(), SIX_SEGMENTS)?;
+    let written = output_with(rt.alloc(), script.as_str(), SIX_SEGMENTS)?;
+    drop(script);
+    let text = text_of(written.as_slice())?;
     expect_parts(
         &rt,
-        text.as_str(),
+        text,
         &[
             "\n0 refused NoSpace\n",
             "\n0 denied M2 EACCES 0 1\n",

@@ -24,12 +24,19 @@ struct Listing {
     lack: &'static str,
 }
 
+/// Appends a name.
+fn push_name(to: &mut String, listing: Listing, number: u32) -> Result<(), AllocError> {
+    let Listing { stem, digits, .. } = listing;
+    write!(to, "{stem}{number:0digits$}")
+}
+
 /// The script that makes the names, lists them and asks for another.
 fn script_of(alloc: Global, listing: Listing) -> Result<String, AllocError> {
-    let Listing { stem, digits, .. } = listing;
     let mut script = String::new(alloc);
     for number in 0..listing.count {
-        writeln!(script, "create /{stem}{number:0digits$} 0600")?;
+        script.push_str("create /")?;
+        push_name(&mut script, listing, number)?;
+        script.push_str(" 0600\n")?;
     }
     script.push_str("list /\ncreate /x 0600\n")?;
     Ok(script)
@@ -37,17 +44,18 @@ fn script_of(alloc: Global, listing: Listing) -> Result<String, AllocError> {
 
 /// What it prints up to the report.
 fn lines_of(alloc: Global, listing: Listing) -> Result<String, AllocError> {
-    let Listing { stem, digits, .. } = listing;
     let mut lines = String::new(alloc);
     for _ in 0..listing.count {
         lines.push_str("0 ok\n")?;
     }
     lines.push_str("0 names")?;
     for number in 0..listing.count {
-        write!(lines, " {stem}{number:0digits$}")?;
+        lines.push_str(" ")?;
+        push_name(&mut lines, listing, number)?;
     }
-    let lack = listing.lack;
-    writeln!(lines, "\n0 refused {lack}")?;
+    lines.push_str("\n0 refused ")?;
+    lines.push_str(listing.lack)?;
+    lines.push_str("\n")?;
     Ok(lines)
 }
 

@@ -11,6 +11,7 @@ use lfs_volume::flat_files::FlatFiles;
 use lfs_volume::journal::{Call, Entry, Event};
 use lfs_volume::volume::Volume;
 use std::alloc::{AllocError, Global};
+use std::process::Abort;
 use std::test::Fail;
 
 /// The superuser makes `/a` and writes it. User 5 reads it and would write it.
@@ -55,31 +56,57 @@ fn lines_of(alloc: Global, answers: &[Answer]) -> Result<Vec<u8>, AllocError> {
     Ok(lines)
 }
 
-#[test]
-fn run_answers_each_call_and_enters_it(rt: HostRuntime) -> Result<(), Fail> {
-    let alloc = rt.alloc();
+/// A volume over a plain store. It lies in memory of its own, since a function that holds a value of so many parts takes
+/// the prover seconds.
+fn fresh(alloc: Global) -> Result<Box<Volume<FlatFiles>>, Fail> {
+    let volume = Volume::new(alloc, FlatFiles::new(alloc, 256)?, 4)?;
+    Ok(Box::new(alloc, volume)?)
+}
+
+/// Asserts what a run of the calls answers.
+fn expect_answers(
+    rt: &impl Abort,
+    alloc: Global,
+    volume: &mut Volume<FlatFiles>,
+) -> Result<(), Fail> {
     let calls = calls_of(alloc, &parse_script(alloc, CALLS)?)?;
-    let mut volume = Volume::new(alloc, FlatFiles::new(alloc, 256)?, 4)?;
     let lines = lines_of(alloc, volume.run(calls)?.as_slice())?;
-    expect_eq(&rt, lines.as_slice(), ANSWERS);
-    expect_eq(&rt, volume.journal().len(), 4);
-    expect_eq(&rt, volume.journal_limit(), 4);
-    expect_eq(&rt, volume.level(), Level::Insecure);
-    expect_eq(&rt, volume.clean_segments(), 1024);
+    expect_eq(rt, lines.as_slice(), ANSWERS);
     Ok(())
 }
 
-/// That a test of the path of the call fails at component 1.
-fn denied(rule: Rule) -> Answer {
-    Answer::Denied(Denial {
-        rule,
-        path: 0,
-        at: 1,
-    })
+/// Asserts what the volume shows behind the run.
+fn expect_entered(rt: &impl Abort, volume: &Volume<FlatFiles>) {
+    expect_eq(rt, volume.journal().len(), 4);
+    expect_eq(rt, volume.journal_limit(), 4);
+    expect_eq(rt, volume.level(), Level::Insecure);
+    expect_eq(rt, volume.clean_segments(), 1024);
+}
+
+#[test]
+fn run_answers_each_call_and_enters_it(rt: HostRuntime) -> Result<(), Fail> {
+    let mut volume = fresh(rt.alloc())?;
+    expect_answers(&rt, rt.alloc(), &mut *volume)?;
+    expect_entered(&rt, &*volume);
+    Ok(())
 }
 
 /// User 5 reads `/a`.
 const READ: &[u8] = b"session 2\nas 5 5\nread /a 0 10\n";
+
+/// That the name isn't there, at component 1 of the path.
+const NOT_THERE: Denial = Denial {
+    rule: Rule::NameThere,
+    path: 0,
+    at: 1,
+};
+
+/// That the mode doesn't grant reading, at component 1 of the path.
+const NOT_GRANTED: Denial = Denial {
+    rule: Rule::GrantsRead,
+    path: 0,
+    at: 1,
+};
 
 /// The entry of a call that was denied, as the name isn't there.
 fn entry(alloc: Global, call: &Call) -> Result<Entry, AllocError> {
@@ -87,13 +114,28 @@ fn entry(alloc: Global, call: &Call) -> Result<Entry, AllocError> {
     Ok(Entry {
         session: call.session,
         cred: call.cred,
-        event: Event::User(request, denied(Rule::NameThere)),
+        event: Event::User(request, Answer::Denied(NOT_THERE)),
     })
 }
 
-/// Whether it is the entry of this call in this session, denied by this rule.
-fn is_denied(entry: &Entry, session: u8, call: &Call, rule: Rule) -> bool {
-    entry.is_call(session, &call.cred, &call.request, &denied(rule))
+/// Sessions and denials, and whether the entry is that of the call in this session, denied so.
+const CASES: [(u8, Denial, bool); 3] = [
+    (2, NOT_THERE, true),
+    (3, NOT_THERE, false),
+    (2, NOT_GRANTED, false),
+];
+
+/// Whether it is the entry of this call in this session, denied so.
+fn is_denied(entry: &Entry, session: u8, call: &Call, denial: Denial) -> bool {
+    let answer = Answer::Denied(denial);
+    entry.is_call(session, &call.cred, &call.request, &answer)
+}
+
+/// Asserts of each case whether the entry is that of the call.
+fn expect_cases(rt: &impl Abort, entry: &Entry, call: &Call) {
+    for (session, denial, is_call) in CASES {
+        expect_eq(rt, is_denied(entry, session, call, denial), is_call);
+    }
 }
 
 #[test]
@@ -103,13 +145,6 @@ fn entry_tells_whether_it_is_a_call(rt: HostRuntime) -> Result<(), Fail> {
         return Err(Fail::from("one call"));
     };
     let entry = entry(rt.alloc(), call)?;
-    for (session, rule, is_call) in [
-        (2, Rule::NameThere, true),
-        (3, Rule::NameThere, false),
-        (2, Rule::GrantsRead, false),
-    ] {
-        let found = is_denied(&entry, session, call, rule);
-        expect_eq(&rt, found, is_call);
-    }
+    expect_cases(&rt, &entry, call);
     Ok(())
 }
