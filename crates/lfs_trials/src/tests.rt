@@ -63,6 +63,14 @@ fn calls(alloc: Global, script: &str) -> Result<Vec<Call>, Fail> {
     Ok(calls)
 }
 
+/// Appends these pieces of a text. `write!` takes the prover many times as long.
+fn push_all(text: &mut String, pieces: &[&str]) -> Result<(), AllocError> {
+    for piece in pieces {
+        text.push_str(piece)?;
+    }
+    Ok(())
+}
+
 /// Appends the lines of answers to a session.
 fn append_answers(text: &mut Vec<u8>, session: u8, answers: &[Answer]) -> Result<(), AllocError> {
     for answer in answers {

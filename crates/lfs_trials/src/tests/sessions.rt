@@ -13,8 +13,9 @@ use lfs_server::gate::Gate;
 use lfs_server::serve::serve;
 use lfs_server::serving::{Closed, ServeFault, serve_over};
 use lfs_server::settle::{Unsettled, settle};
-use lfs_types::answer::Answer;
+use lfs_types::answer::{Answer, Served};
 use lfs_types::cleaned::CleanedStore;
+use lfs_types::payload::Bytes;
 use lfs_types::script::Script;
 use lfs_types::store::{FileStore, Params};
 use lfs_volume::volume::Volume;
@@ -86,19 +87,37 @@ fn lines_of(alloc: Global, transcripts: &[Vec<Answer>]) -> Result<Vec<u8>, Alloc
     Ok(text)
 }
 
-/// What settling says of a script of at most eight sessions and of the answers to it.
-fn settled<F: FileStore + Drop>(
+/// The answer to a Read that gives these bytes.
+fn bytes_read(alloc: Global, bytes: &[u8]) -> Result<Answer, AllocError> {
+    let bytes = Vec::from_slice(alloc, bytes)?;
+    Ok(Answer::Served(Served::Bytes(Bytes::from(bytes))))
+}
+
+/// Asserts that settling says this of a script of at most eight sessions, and of these answers to its setup and to them.
+fn expect_settled<F: FileStore + Drop>(
+    rt: &impl Abort,
     alloc: Global,
     volume: &Volume<F>,
     script: &str,
-    answers: &[Answer],
-    transcripts: &[Vec<Answer>],
-) -> Result<Result<(), Unsettled>, Fail> {
+    (answers, transcripts): (&[Answer], &[Vec<Answer>]),
+    wanted: Result<(), Unsettled>,
+) -> Result<(), Fail> {
     let (setup, scripts) = split(alloc, script)?;
     let scripts = scripts.as_slice();
-    if scripts.len() > 8 || transcripts.len() > 8 {
-        Err(Fail::from("more than eight sessions"))
-    } else {
-        Ok(settle(volume, &setup, answers, scripts, transcripts))
-    }
+    assert!(rt; scripts.len() <= 8 && transcripts.len() <= 8);
+    let result = settle(volume, &setup, answers, scripts, transcripts);
+    expect_eq(rt, result, wanted);
+    Ok(())
+}
+
+/// Asserts that settling says this of a run of a script.
+fn expect_run_settled<F: FileStore + Drop>(
+    rt: &impl Abort,
+    alloc: Global,
+    closed: &Closed<F>,
+    script: &str,
+    wanted: Result<(), Unsettled>,
+) -> Result<(), Fail> {
+    let answers = (closed.setup.as_slice(), closed.transcripts.as_slice());
+    expect_settled(rt, alloc, &closed.volume, script, answers, wanted)
 }

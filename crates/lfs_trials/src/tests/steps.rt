@@ -7,9 +7,9 @@ mod threads;
 use crate::tests::{expect_lines, fresh, plan_of};
 use lfs_logstore::LogStore;
 use lfs_text::plan;
-use lfs_text::print::append_answer;
+use lfs_text::print::{append_answer, append_cleaner};
 use lfs_types::store::Params;
-use lfs_volume::journal::CleanerAnswer;
+use lfs_volume::journal::{CleanerAnswer, CleanerKind};
 use lfs_volume::steps::{Act, Step, StepAnswer};
 use lfs_volume::volume::Volume;
 use std::alloc::Global;
@@ -47,8 +47,8 @@ fn append_told(text: &mut Vec<u8>, answers: &[StepAnswer]) -> Result<(), Fail> {
     for answer in answers {
         match answer {
             StepAnswer::User(answer) => append_answer(text, 3, answer)?,
-            StepAnswer::Cleaner(CleanerAnswer::Ifile(bytes)) => {
-                writeln!(text, "3 Ifile of {} bytes", bytes.as_slice().len())?
+            StepAnswer::Cleaner(answer @ CleanerAnswer::Ifile(_)) => {
+                append_cleaner(text, 3, CleanerKind::Ifile, answer)?
             }
             StepAnswer::Cleaner(answer) => writeln!(text, "3 {answer:?}")?,
         }

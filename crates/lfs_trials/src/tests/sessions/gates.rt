@@ -2,7 +2,7 @@
 
 use super::CLEANER;
 use super::log::{BOTH, FIRST, WRITES, assert_answers, assert_served, serve_users};
-use super::watch::{Awaited, Watch};
+use super::watch::Watch;
 use lfs_logstore::LogStore;
 use lfs_server::gate::Gate;
 use lfs_server::serving::Closed;
@@ -17,7 +17,10 @@ use std::thread::Threads;
 /// made.
 #[derive(Drop)]
 struct Meeting<'a, R: Wait> {
-    watch: Watch<'a, R>,
+    /// The first calls that are begun.
+    begun: Watch<'a, R>,
+    /// The first calls that are made.
+    made: Watch<'a, R>,
 }
 
 impl<'a, R: Wait + Sync> Gate for Meeting<'a, R> {
@@ -28,16 +31,16 @@ impl<'a, R: Wait + Sync> Gate for Meeting<'a, R> {
             _ => return,
         };
         if index == 0 {
-            self.watch.note(Awaited::Begun(session, 0));
-            self.watch.wait_for(Awaited::Begun(other, 0));
+            self.begun.note(session, 0);
+            self.begun.wait_for(other, 0);
         } else if index == 1 {
-            self.watch.wait_for(Awaited::Made(other, 0));
+            self.made.wait_for(other, 0);
         }
     }
 
     fn after(&self, session: u8, index: u32) {
         if index == 0 && (session == 1 || session == 2) {
-            self.watch.note(Awaited::Made(session, 0));
+            self.made.note(session, 0);
         }
     }
 }
@@ -54,14 +57,16 @@ fn serve_at_meeting<R: Abort + Threads + Wait + Sync>(
     gate: &Meeting<'_, R>,
 ) -> Result<(), Fail> {
     let closed = serve_users(rt, alloc, WRITES, BOTH, gate)?;
-    assert_unfailed(rt, &gate.watch);
+    assert_unfailed(rt, &gate.begun);
+    assert_unfailed(rt, &gate.made);
     assert_served(rt, alloc, &closed)
 }
 
 #[test]
 fn two_sessions_meet(rt: HostRuntime) -> Result<(), Fail> {
     let gate = Meeting {
-        watch: Watch::new(&rt, rt.alloc()),
+        begun: Watch::new(&rt, rt.alloc()),
+        made: Watch::new(&rt, rt.alloc()),
     };
     serve_at_meeting(&rt, rt.alloc(), &gate)
 }
@@ -78,16 +83,16 @@ struct Between<'a, R: Wait> {
 impl<'a, R: Wait + Sync> Gate for Between<'a, R> {
     fn before(&self, session: u8, index: u32) {
         if session == 1 && index == 0 {
-            self.watch.wait_for(Awaited::Made(CLEANER, BMAPV));
+            self.watch.wait_for(CLEANER, BMAPV);
         }
     }
 
     fn after(&self, session: u8, index: u32) {
         if session == 1 && index == 0 {
-            self.watch.note(Awaited::Made(1, 0));
+            self.watch.note(1, 0);
         } else if session == CLEANER && index == BMAPV {
-            self.watch.note(Awaited::Made(CLEANER, BMAPV));
-            self.watch.wait_for(Awaited::Made(1, 0));
+            self.watch.note(CLEANER, BMAPV);
+            self.watch.wait_for(1, 0);
         }
     }
 }

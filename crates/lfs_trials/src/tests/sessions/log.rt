@@ -1,13 +1,11 @@
 //! Runs of two users' sessions over the log store.
 
-use super::{assert_no_run, lines_of, serve_log, settled};
-use crate::tests::{SMALL, expect_eq, expect_lines, fresh};
+use super::{assert_no_run, expect_run_settled, expect_settled, lines_of, serve_log};
+use crate::tests::{SMALL, expect_lines, fresh};
 use lfs_logstore::LogStore;
 use lfs_server::gate::Gate;
 use lfs_server::serving::Closed;
 use lfs_server::settle::Unsettled;
-use lfs_types::answer::{Answer, Served};
-use lfs_types::payload::Bytes;
 use std::alloc::{AllocError, Global};
 use std::process::Abort;
 use std::sync::Wait;
@@ -84,14 +82,6 @@ pub fn serve_users<R: Threads + Wait + Sync, G: Gate>(
 /// How often the file is written before the sessions of both.
 pub const WRITES: u32 = 40;
 
-/// What settling says of a run of both.
-fn run_settled(alloc: Global, closed: &Closed<LogStore>) -> Result<Result<(), Unsettled>, Fail> {
-    let script = script(alloc, WRITES, BOTH)?;
-    let answers = closed.setup.as_slice();
-    let transcripts = closed.transcripts.as_slice();
-    settled(alloc, &closed.volume, script.as_str(), answers, transcripts)
-}
-
 /// Asserts that sessions were answered so.
 pub fn assert_answers(
     rt: &impl Abort,
@@ -111,37 +101,44 @@ pub fn assert_served(
     closed: &Closed<LogStore>,
 ) -> Result<(), Fail> {
     assert_answers(rt, alloc, closed, ANSWERS)?;
-    expect_eq(rt, run_settled(alloc, closed)?, Ok(()));
-    Ok(())
+    let script = script(alloc, WRITES, BOTH)?;
+    expect_run_settled(rt, alloc, closed, script.as_str(), Ok(()))
 }
 
-/// Puts other bytes for those that user 7 read.
-fn put_other_bytes(alloc: Global, transcripts: &mut [Vec<Answer>]) -> Result<(), AllocError> {
-    if let [first, ..] = transcripts {
-        if let [_, _, answer, ..] = first.as_mut_slice() {
-            let bytes = Vec::from_slice(alloc, b"ho")?;
-            *answer = Answer::Served(Served::Bytes(Bytes::from(bytes)));
-        }
-    }
-    Ok(())
-}
+/// Both again, where user 7 writes other bytes, and so reads others.
+const OTHERWISE: &str = "\
+session 1
+as 7 7
+create /x/a 0644
+write /x/a end 686f
+read /x/a 0 9
+list /x
+session 2
+as 8 8
+create /y/b 0600
+write /y/b end 6f
+read /y/b 0 1
+write /w at 0 62
+";
 
-/// Asserts that both were served so, and that other answers don't settle.
-fn assert_only_so_served(
-    rt: &impl Abort,
+/// Asserts that a run of both was served so, and that it doesn't settle with the answers to those who write otherwise.
+fn assert_only_so_served<R: Abort + Threads + Wait + Sync>(
+    rt: &R,
     alloc: Global,
-    closed: &mut Closed<LogStore>,
+    closed: &Closed<LogStore>,
 ) -> Result<(), Fail> {
     assert_served(rt, alloc, closed)?;
-    put_other_bytes(alloc, closed.transcripts.as_mut_slice())?;
-    expect_eq(rt, run_settled(alloc, closed)?, Err(Unsettled(1)));
-    Ok(())
+    let other = serve_users(rt, alloc, WRITES, OTHERWISE, &())?;
+    let script = script(alloc, WRITES, BOTH)?;
+    let answers = (closed.setup.as_slice(), other.transcripts.as_slice());
+    let wanted = Err(Unsettled(1));
+    expect_settled(rt, alloc, &closed.volume, script.as_str(), answers, wanted)
 }
 
 #[test]
 fn two_sessions_run_over_a_log(rt: HostRuntime) -> Result<(), Fail> {
-    let mut closed = serve_users(&rt, rt.alloc(), WRITES, BOTH, &())?;
-    assert_only_so_served(&rt, rt.alloc(), &mut closed)
+    let closed = serve_users(&rt, rt.alloc(), WRITES, BOTH, &())?;
+    assert_only_so_served(&rt, rt.alloc(), &closed)
 }
 
 #[test]

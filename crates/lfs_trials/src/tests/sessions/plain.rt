@@ -1,8 +1,8 @@
 //! What no clause says of a run on threads: that it ends, and is handed out.
 
-use super::watch::{Awaited, Watch};
-use super::{BOTH_FILES, BOTH_USERS, CLEANER, assert_no_run, settled, split};
-use crate::tests::expect_eq;
+use super::watch::Watch;
+use super::{BOTH_FILES, BOTH_USERS, CLEANER, assert_no_run, expect_run_settled, lines_of, split};
+use crate::tests::{expect_eq, expect_lines};
 use lfs_flatfiles::flat_files::FlatFiles;
 use lfs_server::gate::Gate;
 use lfs_server::serving::{Closed, serve_over};
@@ -132,7 +132,7 @@ struct Cleanings<'a, R: Wait> {
 impl<'a, R: Wait + Sync> Gate for Cleanings<'a, R> {
     fn before(&self, session: u8, index: u32) {
         if session == CLEANER {
-            self.watch.note(Awaited::Begun(CLEANER, index));
+            self.watch.note(CLEANER, index);
         }
     }
 
@@ -142,22 +142,22 @@ impl<'a, R: Wait + Sync> Gate for Cleanings<'a, R> {
 /// Asserts that the cleaner made one call. It makes one for each ring here, since it is told no ifile: so the ring after
 /// the setup was the only one.
 fn assert_one_call(rt: &impl Abort, watch: &Watch<'_, impl Wait>) {
-    assert!(rt; !watch.has_failed());
-    assert!(rt; watch.has(Awaited::Begun(CLEANER, 0)));
-    assert!(rt; !watch.has(Awaited::Begun(CLEANER, 1)));
+    let found = [
+        watch.has_failed(),
+        watch.has(CLEANER, 0),
+        watch.has(CLEANER, 1),
+    ];
+    expect_eq(rt, found, [false, true, false]);
 }
 
 /// One session makes both files.
 const ONE_SESSION: &str = "session 1\ncreate /x 0666\ncreate /y 0666\n";
 
-/// Asserts that one session was answered, twice, and that this settles.
+/// Asserts that one session was answered, twice, each time that the file is made, and that this settles.
 fn assert_one_session(rt: &impl Abort, alloc: Global, closed: &Closed<Plain>) -> Result<(), Fail> {
-    let transcripts = closed.transcripts.as_slice();
-    let answers = closed.setup.as_slice();
-    assert!(rt; transcripts.len() == 1 && transcripts[0].len() == 2);
-    let result = settled(alloc, &closed.volume, ONE_SESSION, answers, transcripts)?;
-    expect_eq(rt, result, Ok(()));
-    Ok(())
+    let lines = lines_of(alloc, closed.transcripts.as_slice())?;
+    expect_lines(rt, lines.as_slice(), "1 ok\n1 ok\n");
+    expect_run_settled(rt, alloc, closed, ONE_SESSION, Ok(()))
 }
 
 #[test]

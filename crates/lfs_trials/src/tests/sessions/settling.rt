@@ -1,11 +1,10 @@
 //! What no clause says of settling: that a run that was really made settles.
 
-use super::{BOTH_USERS, settled};
-use crate::tests::{calls, expect_eq};
+use super::{BOTH_USERS, bytes_read, expect_settled};
+use crate::tests::calls;
 use lfs_flatfiles::flat_files::FlatFiles;
 use lfs_server::settle::Unsettled;
 use lfs_types::answer::{Answer, Served};
-use lfs_types::payload::Bytes;
 use lfs_volume::volume::Volume;
 use std::alloc::{AllocError, Global};
 use std::process::Abort;
@@ -78,9 +77,8 @@ fn transcripts(alloc: Global, reads: &[&[u8]]) -> Result<Vec<Vec<Answer>>, Alloc
 
 /// The transcript of such a session.
 fn transcript(alloc: Global, bytes: &[u8]) -> Result<Vec<Answer>, AllocError> {
-    let bytes = Bytes::from(Vec::from_slice(alloc, bytes)?);
     let mut answers = dones(alloc, 1)?;
-    answers.push(Answer::Served(Served::Bytes(bytes)))?;
+    answers.push(bytes_read(alloc, bytes)?)?;
     Ok(answers)
 }
 
@@ -93,15 +91,8 @@ fn settle_as(
 ) -> Result<(), Fail> {
     let answers = dones(alloc, told.answers)?;
     let transcripts = transcripts(alloc, told.reads)?;
-    let result = settled(
-        alloc,
-        volume,
-        told.script,
-        answers.as_slice(),
-        transcripts.as_slice(),
-    )?;
-    expect_eq(rt, result, told.want);
-    Ok(())
+    let answers = (answers.as_slice(), transcripts.as_slice());
+    expect_settled(rt, alloc, volume, told.script, answers, told.want)
 }
 
 /// Makes the run, and asserts of each case that settling says what it must.
@@ -200,16 +191,17 @@ fn eight_transcripts(alloc: Global) -> Result<Vec<Vec<Answer>>, AllocError> {
     Ok(transcripts)
 }
 
-/// Makes the calls of eight sessions in turn, so that a journal has 100,000 entries, and gives what settling says.
-fn long_run_settled(alloc: Global) -> Result<Result<(), Unsettled>, Fail> {
+/// Makes the calls of eight sessions in turn, so that a journal has 100,000 entries, and asserts that this settles.
+fn settle_long_run(rt: &impl Abort, alloc: Global) -> Result<(), Fail> {
     let script = ROUND.repeat(alloc, CALLS)?;
     let transcripts = eight_transcripts(alloc)?;
     let volume = run(alloc, script.as_str(), 100_000)?;
-    settled(alloc, &volume, script.as_str(), &[], transcripts.as_slice())
+    let none: &[Answer] = &[];
+    let answers = (none, transcripts.as_slice());
+    expect_settled(rt, alloc, &volume, script.as_str(), answers, Ok(()))
 }
 
 #[test]
 fn hundred_thousand_entries_settle(rt: HostRuntime) -> Result<(), Fail> {
-    expect_eq(&rt, long_run_settled(rt.alloc())?, Ok(()));
-    Ok(())
+    settle_long_run(&rt, rt.alloc())
 }

@@ -1,15 +1,13 @@
 //! Eight sessions on shared and own files of a volume over the log store, with the cleaner at work.
 
 use super::gates::assert_unfailed;
-use super::watch::{Awaited, Watch};
-use super::{CLEANER, serve_log, settled};
-use crate::tests::{SMALL, calls, expect_eq};
+use super::watch::Watch;
+use super::{CLEANER, expect_run_settled, serve_log};
+use crate::tests::{SMALL, append_answers, calls, expect_eq, expect_lines, push_all};
 use lfs_logstore::LogStore;
 use lfs_server::gate::Gate;
 use lfs_server::serving::Closed;
 use lfs_types::answer::{Answer, Served};
-use lfs_types::path::Path;
-use lfs_types::request::Request;
 use lfs_types::store::Params;
 use lfs_volume::journal::{CleanerKind, CleanerOutcome, Entry, Event};
 use std::alloc::{AllocError, Global};
@@ -17,11 +15,13 @@ use std::process::Abort;
 use std::sync::Wait;
 use std::test::Fail;
 
-/// How many sessions a soak has.
-const SESSIONS: usize = 8;
+/// The numbers of the sessions of a soak.
+const NUMBERS: [&str; 8] = ["1", "2", "3", "4", "5", "6", "7", "8"];
 
-/// How often each session of a soak writes each of its two files.
-const ROUNDS: u8 = 12;
+/// The rounds in which each session of a soak writes each of its two files, by the byte that it writes.
+const ROUNDS: [&str; 12] = [
+    "00", "01", "02", "03", "04", "05", "06", "07", "08", "09", "0a", "0b",
+];
 
 /// The superuser makes a file for all, and one for each session.
 const SETUP: &str = "\
@@ -36,19 +36,22 @@ create /o7 0666
 create /o8 0666
 ";
 
-/// A session writes two bytes, its number and a round's, into its own file and that for all, and reads and lists between.
-fn push_round(script: &mut String, session: u8, round: u8) -> Result<(), AllocError> {
-    writeln!(script, "write /o{session} at 0 {session:02x}{round:02x}")?;
-    writeln!(script, "read /o{session} 0 9")?;
-    writeln!(script, "write /all at 0 {session:02x}{round:02x}")?;
-    script.push_str("read /all 0 9\nlist /\n")
+/// Appends what a session asks in a round: it writes two bytes, its number and the round's, into its own file and that
+/// for all, and reads and lists between.
+fn push_round(script: &mut String, number: &str, round: &str) -> Result<(), AllocError> {
+    push_all(script, &["write /o", number, " at 0 0", number, round])?;
+    push_all(script, &["\nread /o", number, " 0 9\nwrite /all at 0 0"])?;
+    push_all(script, &[number, round, "\nread /all 0 9\nlist /\n"])
 }
 
-/// The lines of a session.
-fn push_session(script: &mut String, session: u8) -> Result<(), AllocError> {
-    writeln!(script, "session {session}\nas {session} {session}")?;
-    for round in 0..ROUNDS {
-        push_round(script, session, round)?;
+/// Appends the lines of a session.
+fn push_session(script: &mut String, number: &str) -> Result<(), AllocError> {
+    push_all(
+        script,
+        &["session ", number, "\nas ", number, " ", number, "\n"],
+    )?;
+    for round in &ROUNDS {
+        push_round(script, number, round)?;
     }
     Ok(())
 }
@@ -57,14 +60,14 @@ fn push_session(script: &mut String, session: u8) -> Result<(), AllocError> {
 fn script(alloc: Global) -> Result<String, AllocError> {
     let mut script = String::new(alloc);
     script.push_str(SETUP)?;
-    for session in 1..=8 {
-        push_session(&mut script, session)?;
+    for number in &NUMBERS {
+        push_session(&mut script, number)?;
     }
     Ok(script)
 }
 
-/// The numbers of the volume: without the cleaner its log has room for more than half of the Writes.
-const NUMBERS: Params = Params {
+/// The sizes of the volume: without the cleaner its log has room for more than half of the Writes.
+const SIZES: Params = Params {
     segments: 8,
     ..SMALL
 };
@@ -87,28 +90,40 @@ struct Holding<'a, R: Wait> {
 impl<'a, R: Wait + Sync> Gate for Holding<'a, R> {
     fn before(&self, session: u8, index: u32) {
         if session != 0 && session != CLEANER && index == HELD {
-            self.watch.wait_for(Awaited::Made(CLEANER, CLEANED));
+            self.watch.wait_for(CLEANER, CLEANED);
         }
     }
 
     fn after(&self, session: u8, index: u32) {
         if session == CLEANER && index == CLEANED {
-            self.watch.note(Awaited::Made(CLEANER, CLEANED));
+            self.watch.note(CLEANER, CLEANED);
         }
     }
 }
 
-/// How many Writes users asked for, and how many of them were served.
-fn writes_of(journal: &[Entry]) -> (u32, u32) {
-    let mut asked = 0u32;
-    let mut served = 0u32;
-    for entry in journal {
-        if let Event::User(Request::Write { .. }, answer) = &entry.event {
-            asked = asked.saturating_add(1);
-            if matches!(answer, Answer::Served(Served::Done)) {
-                served = served.saturating_add(1);
-            }
+/// How many Writes a session asked for, and how many of them were served: its other calls show bytes or names.
+fn writes_of(transcript: &[Answer]) -> (usize, usize) {
+    let mut asked = 0usize;
+    let mut served = 0usize;
+    for answer in transcript {
+        match answer {
+            Answer::Served(Served::Bytes(_) | Served::Names(_)) => continue,
+            Answer::Served(_) => served = served.saturating_add(1),
+            Answer::Denied(_) | Answer::Refused(_) => {}
         }
+        asked = asked.saturating_add(1);
+    }
+    (asked, served)
+}
+
+/// How many Writes all sessions asked for, and how many of them were served.
+fn all_writes(transcripts: &[Vec<Answer>]) -> (usize, usize) {
+    let mut asked = 0usize;
+    let mut served = 0usize;
+    for transcript in transcripts {
+        let writes = writes_of(transcript.as_slice());
+        asked = asked.saturating_add(writes.0);
+        served = served.saturating_add(writes.1);
     }
     (asked, served)
 }
@@ -128,14 +143,12 @@ fn is_cleaned_between(journal: &[Entry]) -> bool {
     false
 }
 
-/// The bytes of the last Write of a file that was served; none where there is none.
-fn last_bytes<'a>(journal: &'a [Entry], file: &Path) -> &'a [u8] {
-    let mut last: &'a [u8] = &[];
-    for entry in journal {
-        if let Event::User(Request::Write { path, bytes, .. }, Answer::Served(_)) = &entry.event {
-            if path == file {
-                last = bytes.as_slice();
-            }
+/// The round of the last Write of its own file that a session was served.
+fn last_round(transcript: &[Answer]) -> Option<&'static str> {
+    let mut last = None;
+    for (answers, round) in transcript.chunks(5).zip(&ROUNDS) {
+        if let [Answer::Served(_), ..] = answers {
+            last = Some(*round);
         }
     }
     last
@@ -153,26 +166,36 @@ read /o7 0 9
 read /o8 0 9
 ";
 
-/// How many of these Reads gave the bytes of the last Write of the file that was served.
-fn reads_of_last(journal: &[Entry]) -> usize {
-    let mut count = 0usize;
-    for entry in journal {
-        if let Event::User(
-            Request::Read { path, .. },
-            Answer::Served(Served::Bytes(bytes)),
-        ) = &entry.event
-        {
-            if entry.session == 0 && bytes.as_slice() == last_bytes(journal, path) {
-                count = count.saturating_add(1);
-            }
-        }
+/// Appends the answer to a Read of a session's file that was last written in this round; none where it never was.
+fn push_read(answers: &mut String, number: &str, last: Option<&str>) -> Result<(), AllocError> {
+    match last {
+        Some(round) => push_all(answers, &["0 bytes 0", number, round, "\n"]),
+        None => answers.push_str("0 bytes -\n"),
     }
-    count
+}
+
+/// The answers to these Reads where each file has what was last written.
+fn last_answers(alloc: Global, transcripts: &[Vec<Answer>]) -> Result<String, AllocError> {
+    let mut answers = String::new(alloc);
+    for (number, transcript) in NUMBERS.iter().zip(transcripts) {
+        push_read(&mut answers, number, last_round(transcript.as_slice()))?;
+    }
+    Ok(answers)
+}
+
+/// Has the superuser read each session's file, and asserts that it has what was last written.
+fn assert_kept(rt: &impl Abort, alloc: Global, closed: &mut Closed<LogStore>) -> Result<(), Fail> {
+    let answers = closed.volume.run(calls(alloc, READS)?)?;
+    let mut text = Vec::new(alloc);
+    append_answers(&mut text, 0, answers.as_slice())?;
+    let wanted = last_answers(alloc, closed.transcripts.as_slice())?;
+    expect_lines(rt, text.as_slice(), wanted.as_str());
+    Ok(())
 }
 
 /// Asserts that the journal is not at its limit, that the cleaner was at work, and that all was asked and half of it served.
-fn assert_worked(rt: &impl Abort, journal: &[Entry]) {
-    let (asked, served) = writes_of(journal);
+fn assert_worked(rt: &impl Abort, journal: &[Entry], transcripts: &[Vec<Answer>]) {
+    let (asked, served) = all_writes(transcripts);
     assert!(rt; journal.len() < 4000 && is_cleaned_between(journal));
     assert!(rt; asked == 192 && served >= 96);
 }
@@ -184,15 +207,10 @@ fn assert_soaked(
     script: &str,
     closed: &mut Closed<LogStore>,
 ) -> Result<(), Fail> {
-    let transcripts = closed.transcripts.as_slice();
-    let answers = closed.setup.as_slice();
-    expect_eq(rt, transcripts.len(), SESSIONS);
-    let result = settled(alloc, &closed.volume, script, answers, transcripts)?;
-    expect_eq(rt, result, Ok(()));
-    assert_worked(rt, closed.volume.journal());
-    closed.volume.run(calls(alloc, READS)?)?;
-    expect_eq(rt, reads_of_last(closed.volume.journal()), SESSIONS);
-    Ok(())
+    expect_eq(rt, closed.transcripts.len(), NUMBERS.len());
+    expect_run_settled(rt, alloc, closed, script, Ok(()))?;
+    assert_worked(rt, closed.volume.journal(), closed.transcripts.as_slice());
+    assert_kept(rt, alloc, closed)
 }
 
 #[test]
@@ -202,7 +220,7 @@ fn eight_sessions_soak(rt: HostRuntime) -> Result<(), Fail> {
     let gate = Holding {
         watch: Watch::new(&rt, alloc),
     };
-    let mut closed = serve_log(&rt, alloc, NUMBERS, script.as_str(), &gate)?;
+    let mut closed = serve_log(&rt, alloc, SIZES, script.as_str(), &gate)?;
     assert_unfailed(&rt, &gate.watch);
     assert_soaked(&rt, alloc, script.as_str(), &mut closed)
 }

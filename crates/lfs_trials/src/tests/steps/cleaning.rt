@@ -1,7 +1,7 @@
 //! Dirty segments that are emptied and cleaned by a cleaner's calls alone.
 
 use super::run;
-use crate::tests::{expect_eq, fresh};
+use crate::tests::{expect_eq, fresh, push_all};
 use lfs_logstore::LogStore;
 use lfs_types::cleaner::{BlockInfo, CleanFault, CleanerCall, MarkList};
 use lfs_types::cred::Cred;
@@ -20,38 +20,43 @@ const ROOMY: Params = Params {
     journal: 4096,
 };
 
-/// How often the files are written.
-const ROUNDS: u32 = 48;
+/// The rounds in which the files are written, by the byte that is written in each.
+const ROUNDS: [&str; 48] = [
+    "00", "01", "02", "03", "04", "05", "06", "07", "08", "09", "0a", "0b", "0c", "0d", "0e", "0f",
+    "10", "11", "12", "13", "14", "15", "16", "17", "18", "19", "1a", "1b", "1c", "1d", "1e", "1f",
+    "20", "21", "22", "23", "24", "25", "26", "27", "28", "29", "2a", "2b", "2c", "2d", "2e", "2f",
+];
 
-/// Appends words, and a block of which each byte has this value.
-fn push_block(text: &mut String, words: &str, byte: u32) -> Result<(), AllocError> {
-    text.push_str(words)?;
-    for _ in 0..512 {
-        write!(text, "{byte:02x}")?;
-    }
-    text.push('\n')
-}
+/// The places of sixteen blocks.
+const PLACES: [&str; 16] = [
+    "0", "512", "1024", "1536", "2048", "2560", "3072", "3584", "4096", "4608", "5120", "5632",
+    "6144", "6656", "7168", "7680",
+];
 
-/// Appends the Writes of a block of each file in turn, with the round's number in all its bytes. `/b` has blocks behind
-/// the twelfth, and every sixth round makes a file that is never written again.
-fn push_round(script: &mut String, round: u32) -> Result<(), AllocError> {
-    write!(script, "write /a at {}", round % 3 * 512)?;
-    push_block(script, " ", round)?;
-    write!(script, "write /b at {}", round % 16 * 512)?;
-    push_block(script, " ", round)?;
+/// Appends the Writes of a block of each file in turn, with the round's byte throughout. `/b` has blocks behind the
+/// twelfth, and every sixth round makes a file, named after its byte, that is never written again.
+fn push_round(
+    script: &mut String,
+    round: usize,
+    byte: &str,
+    block: &str,
+) -> Result<(), AllocError> {
+    push_all(script, &["write /a at ", PLACES[round % 3], " ", block])?;
+    push_all(script, &["\nwrite /b at ", PLACES[round % 16], " ", block])?;
     if round % 6 == 0 {
-        write!(script, "create /k{round} 0644\nwrite /k{round} at 0")?;
-        push_block(script, " ", round)?;
+        push_all(script, &["\ncreate /k", byte, " 0644\nwrite /k", byte])?;
+        push_all(script, &[" at 0 ", block])?;
     }
-    Ok(())
+    script.push_str("\n")
 }
 
 /// The files that are written over and over are made, and written.
 fn writes(alloc: Global) -> Result<String, AllocError> {
     let mut script = String::new(alloc);
     script.push_str("session 3\ncreate /a 0644\ncreate /b 0644\n")?;
-    for round in 0..ROUNDS {
-        push_round(&mut script, round)?;
+    for (round, byte) in ROUNDS.iter().enumerate() {
+        let block = byte.repeat(alloc, 512)?;
+        push_round(&mut script, round, byte, block.as_str())?;
     }
     Ok(script)
 }
@@ -63,53 +68,58 @@ fn write_files(rt: &impl Abort, alloc: Global, volume: &mut Volume<LogStore>) ->
     run(rt, alloc, volume, script.as_str(), answers.as_str())
 }
 
-/// Which blocks of which files are read, and the round that wrote each last.
-const READS: [(&str, u32, u32); 27] = [
-    ("/b", 0, 32),
-    ("/b", 512, 33),
-    ("/b", 1024, 34),
-    ("/b", 1536, 35),
-    ("/b", 2048, 36),
-    ("/b", 2560, 37),
-    ("/b", 3072, 38),
-    ("/b", 3584, 39),
-    ("/b", 4096, 40),
-    ("/b", 4608, 41),
-    ("/b", 5120, 42),
-    ("/b", 5632, 43),
-    ("/b", 6144, 44),
-    ("/b", 6656, 45),
-    ("/a", 0, 45),
-    ("/b", 7168, 46),
-    ("/a", 512, 46),
-    ("/b", 7680, 47),
-    ("/a", 1024, 47),
-    ("/k0", 0, 0),
-    ("/k6", 0, 6),
-    ("/k12", 0, 12),
-    ("/k18", 0, 18),
-    ("/k24", 0, 24),
-    ("/k30", 0, 30),
-    ("/k36", 0, 36),
-    ("/k42", 0, 42),
+/// The Reads of blocks of files.
+const READS: &str = "\
+session 3
+read /b 0 512
+read /b 512 512
+read /b 1024 512
+read /b 1536 512
+read /b 2048 512
+read /b 2560 512
+read /b 3072 512
+read /b 3584 512
+read /b 4096 512
+read /b 4608 512
+read /b 5120 512
+read /b 5632 512
+read /b 6144 512
+read /b 6656 512
+read /a 0 512
+read /b 7168 512
+read /a 512 512
+read /b 7680 512
+read /a 1024 512
+read /k00 0 512
+read /k06 0 512
+read /k0c 0 512
+read /k12 0 512
+read /k18 0 512
+read /k1e 0 512
+read /k24 0 512
+read /k2a 0 512
+";
+
+/// The bytes of these blocks: for each the round that wrote it last.
+const LAST: [&str; 27] = [
+    "20", "21", "22", "23", "24", "25", "26", "27", "28", "29", "2a", "2b", "2c", "2d", "2d", "2e",
+    "2e", "2f", "2f", "00", "06", "0c", "12", "18", "1e", "24", "2a",
 ];
 
-/// Appends the Reads of these blocks, and the answers.
-fn push_reads(script: &mut String, answers: &mut String) -> Result<(), AllocError> {
-    script.push_str("session 3\n")?;
-    for (path, place, round) in &READS {
-        writeln!(script, "read {path} {place} 512")?;
-        push_block(answers, "3 bytes ", *round)?;
+/// The answers to these Reads.
+fn last_answers(alloc: Global) -> Result<String, AllocError> {
+    let mut answers = String::new(alloc);
+    for byte in &LAST {
+        let block = byte.repeat(alloc, 512)?;
+        push_all(&mut answers, &["3 bytes ", block.as_str(), "\n"])?;
     }
-    Ok(())
+    Ok(answers)
 }
 
 /// Reads each block, and asserts that it has what was last written.
 fn read_files(rt: &impl Abort, alloc: Global, volume: &mut Volume<LogStore>) -> Result<(), Fail> {
-    let mut script = String::new(alloc);
-    let mut answers = String::new(alloc);
-    push_reads(&mut script, &mut answers)?;
-    run(rt, alloc, volume, script.as_str(), answers.as_str())
+    let answers = last_answers(alloc)?;
+    run(rt, alloc, volume, READS, answers.as_str())
 }
 
 /// The segments that are dirty.
@@ -149,27 +159,35 @@ fn mark(volume: &mut Volume<LogStore>, root: &Cred, infos: &[BlockInfo]) -> Resu
     }
 }
 
-/// Whether a segment becomes clean, and is then counted as one.
-fn becomes_clean(volume: &mut Volume<LogStore>, root: &Cred, segment: u32) -> bool {
-    let before = volume.clean_segments();
-    let answer = volume.clean(255, root, CleanerCall::Segclean(segment));
-    matches!(answer, CleanerAnswer::Cleaned) && volume.clean_segments() == before.saturating_add(1)
+/// What came of a Segclean.
+#[derive(Clone, Copy, PartialEq)]
+enum Tried {
+    /// The segment is clean.
+    Cleaned,
+    /// It has live bytes.
+    Live,
+    Otherwise,
 }
 
-/// Whether a segment has live bytes, and so may not become clean.
-fn is_live(volume: &mut Volume<LogStore>, root: &Cred, segment: u32) -> bool {
+/// What comes of a Segclean, and how many more segments are then counted as clean.
+fn try_to_clean(volume: &mut Volume<LogStore>, root: &Cred, segment: u32) -> (Tried, u32) {
     let before = volume.clean_segments();
-    let answer = volume.clean(255, root, CleanerCall::Segclean(segment));
-    matches!(answer, CleanerAnswer::Fault(CleanFault::Live(_))) && volume.clean_segments() == before
+    let tried = match volume.clean(255, root, CleanerCall::Segclean(segment)) {
+        CleanerAnswer::Cleaned => Tried::Cleaned,
+        CleanerAnswer::Fault(CleanFault::Live(_)) => Tried::Live,
+        _ => Tried::Otherwise,
+    };
+    (tried, volume.clean_segments().wrapping_sub(before))
 }
 
 /// How many of these segments have live bytes, and become clean once their blocks were written again.
 fn clean_each(volume: &mut Volume<LogStore>, root: &Cred, dirty: &[u32]) -> Result<usize, Fail> {
     let mut count = 0usize;
     for segment in dirty {
-        let was_live = is_live(volume, root, *segment);
+        let first = try_to_clean(volume, root, *segment);
         let moved = empty_segment(volume, root, *segment)?;
-        if becomes_clean(volume, root, *segment) && was_live && moved > 0 {
+        let then = try_to_clean(volume, root, *segment);
+        if first == (Tried::Live, 0) && moved > 0 && then == (Tried::Cleaned, 1) {
             count = count.saturating_add(1);
         }
     }

@@ -1,7 +1,7 @@
 //! Worked cases as runs of steps, with every answer compared.
 
 use super::{DEFAULTS, run, run_fresh};
-use crate::tests::{SMALL, append_answers, calls, expect_eq, expect_lines, fresh};
+use crate::tests::{SMALL, append_answers, calls, expect_eq, expect_lines, fresh, push_all};
 use lfs_logstore::LogStore;
 use lfs_types::cleaner::CleanerCall;
 use lfs_types::cred::Cred;
@@ -105,6 +105,21 @@ create /b 0644
 /// The other is written.
 const FURTHER_WRITE: &str = "session 3\nwrite /b at 0 62\nsync\n";
 
+/// A block's present address is asked for, by the address.
+const BMAPV: &str = "session 3\nbmapv 4:1:0:";
+
+/// The answer up to the address.
+const LOCATED: &str = "3 Bmapv(BlockInfos { items: [BlockInfo { ino: 4, version: 1, lbn: 0, addr: ";
+
+/// The block is overwritten, and then named with that address.
+const OVERWRITE: &str = "\nwrite /a at 0 6e6577\nsync\nmarkv 4:1:0:";
+
+/// It is read.
+const READ: &str = "\nread /a 0 512\n";
+
+/// The answers behind the address: the block isn't written again.
+const OVERWRITTEN: &str = " }] })\n3 ok\n3 ok\n3 Marked(0)\n3 bytes 6e6577\n";
+
 /// Overwrites a block between its Bmapv and its Markv, and asserts that it isn't written again.
 fn overwrite_and_mark(
     rt: &impl Abort,
@@ -112,12 +127,12 @@ fn overwrite_and_mark(
     volume: &mut Volume<LogStore>,
 ) -> Result<(), Fail> {
     let old = address_in_first_segment(volume)?;
-    let script = format!(in alloc;
-        "session 3\nbmapv 4:1:0:{old}\nwrite /a at 0 6e6577\nsync\nmarkv 4:1:0:{old}\nread /a 0 512\n"
-    )?;
-    let wanted = format!(in alloc;
-        "3 Bmapv(BlockInfos {{ items: [BlockInfo {{ ino: 4, version: 1, lbn: 0, addr: {old} }}] }})\n3 ok\n3 ok\n3 Marked(0)\n3 bytes 6e6577\n"
-    )?;
+    let old = format!(in alloc; "{old}")?;
+    let old = old.as_str();
+    let mut script = String::new(alloc);
+    push_all(&mut script, &[BMAPV, old, OVERWRITE, old, READ])?;
+    let mut wanted = String::new(alloc);
+    push_all(&mut wanted, &[LOCATED, old, OVERWRITTEN])?;
     run(rt, alloc, volume, script.as_str(), wanted.as_str())
 }
 
@@ -140,23 +155,32 @@ fn overwritten_block_is_not_written_again(rt: HostRuntime) -> Result<(), Fail> {
     leave_first_segment(&rt, rt.alloc(), &mut volume)
 }
 
-/// Appends a Create of a name of so many letters and a number of three digits.
-fn push_create(script: &mut String, letters: usize, number: u32) -> Result<(), AllocError> {
-    script.push_str("create /")?;
-    for _ in 0..letters {
-        script.push('n')?;
+/// The digits.
+const DIGITS: [&str; 10] = ["0", "1", "2", "3", "4", "5", "6", "7", "8", "9"];
+
+/// The first two digits of the numbers below 140.
+const TENS: [&str; 14] = [
+    "00", "01", "02", "03", "04", "05", "06", "07", "08", "09", "10", "11", "12", "13",
+];
+
+/// Appends a Create for each number of these tens, of a name of letters and the number.
+fn push_ten(script: &mut String, letters: &str, ten: &str) -> Result<(), AllocError> {
+    for digit in &DIGITS {
+        push_all(script, &["create /", letters, ten, digit, " 0644\n"])?;
     }
-    writeln!(script, "{number:03} 0644")
+    Ok(())
 }
 
 /// A file is made of each of 141 names of 255 bytes, and of one of 247.
 fn long_names(alloc: Global) -> Result<String, AllocError> {
-    let mut script = String::new(alloc);
-    script.push_str("session 3\n")?;
-    for number in 0..141 {
-        push_create(&mut script, 252, number)?;
+    let letters = "n".repeat(alloc, 252)?;
+    let mut script = "session 3\n".repeat(alloc, 1)?;
+    for ten in &TENS {
+        push_ten(&mut script, letters.as_str(), ten)?;
     }
-    push_create(&mut script, 244, 141)?;
+    push_all(&mut script, &["create /", letters.as_str(), "140 0644\n"])?;
+    let fewer = "n".repeat(alloc, 244)?;
+    push_all(&mut script, &["create /", fewer.as_str(), "141 0644\n"])?;
     Ok(script)
 }
 
@@ -184,15 +208,12 @@ const CLEANING_DENIED: &str = "\
 3 Denied(Denial { rule: IsSuperuser, path: 0, at: 0 })
 ";
 
-/// Whether a journal has one entry for each of these kinds, in order, each of a call that was denied.
-fn are_denied(journal: &[Entry], kinds: &[CleanerKind]) -> bool {
-    for (entry, kind) in journal.iter().zip(kinds) {
-        match &entry.event {
-            Event::Cleaner(made, CleanerOutcome::Denied) if made == kind => {}
-            _ => return false,
-        }
+/// The kind of a cleaner's call that was denied, where an entry is that of one.
+fn denied_kind(entry: &Entry) -> Option<CleanerKind> {
+    match &entry.event {
+        Event::Cleaner(kind, CleanerOutcome::Denied) => Some(*kind),
+        _ => None,
     }
-    journal.len() == kinds.len()
 }
 
 /// The kinds of these calls.
@@ -209,7 +230,10 @@ fn deny_stranger(
     volume: &mut Volume<LogStore>,
 ) -> Result<(), Fail> {
     run(rt, alloc, volume, STRANGERS_CLEANING, CLEANING_DENIED)?;
-    expect_eq(rt, are_denied(volume.journal(), &KINDS), true);
+    expect_eq(rt, volume.journal().len(), KINDS.len());
+    for (entry, kind) in volume.journal().iter().zip(&KINDS) {
+        expect_eq(rt, denied_kind(entry), Some(*kind));
+    }
     Ok(())
 }
 
@@ -224,7 +248,7 @@ const CLEANING: &str = "session 3\nifile\nsegclean 64\nsegclean 0\nsegclean 1\n"
 
 /// The answers to them.
 const NOTHING_CLEANED: &str = "\
-3 Ifile of 3596 bytes
+3 cleaner ifile ok 3596
 3 Fault(NoSuchSegment)
 3 Fault(Active)
 3 Fault(NotDirty)
