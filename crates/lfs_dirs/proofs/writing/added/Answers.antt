@@ -1,4 +1,5 @@
-use Rattle.std.proofs.Common.{◌≡◌, ◌+◌, true, ap, length, arith}
+use Rattle.std.proofs.Common.{rules, ◌≡◌, ◌+◌, true, ap, length, arith}
+use Rattle.std.proofs.lemmas.Grind.{common_steps}
 use Rattle.std.proofs.lemmas.List.Elements.{All-take}
 use Rattle.lfs_dirs.specs.Reading.{entries_of}
 use Rattle.lfs_dirs.proofs.Adding.{zeros_at_tail}
@@ -17,3 +18,15 @@ returns-then-not-are_zeros-clause-fits c = (
       let some = c.if-not-are_zeros.true in
       cc,
 )
+
+pub returns-then-end-size-clause-fits : goal.returns-then-end-size-clause-fits
+returns-then-end-size-clause-fits c = grind (arith, common_steps)
+
+pub push_entry-requires-clause-entry : goal.push_entry-requires-clause-entry
+push_entry-requires-clause-entry c = search rules
+
+pub returns-clause-block : goal.returns-clause-block
+returns-clause-block c = search rules
+
+pub returns-clause-listed : goal.returns-clause-listed
+returns-clause-listed c = search rules
