@@ -12,7 +12,6 @@ use lfs_types::mode::{Mode, ModeBits};
 
 /// Whether the mode grants the caller this: user 0 everything, the owner what the owner bits say, a member
 /// of the group what the group bits say, and everybody else what the other bits say (4.4BSD's chmod(2)).
-#[tactic(auto, using(crate::proofs::BitTests::owner_test, crate::proofs::BitTests::group_test, crate::proofs::BitTests::other_test))]
 pub fn grants(attrs: &Attrs, cred: &Cred, bit: Bit) -> bool
     ensures { result ≡ grants_of cred.now attrs.now bit }
 {
@@ -36,7 +35,6 @@ pub fn clear_set_id(mode: Mode) -> Mode
 
 /// Whether the sticky bit of a directory keeps the caller from removing or renaming a file in it: he is
 /// neither user 0 nor the owner of the file or of the directory (4.4BSD's sticky(8)).
-#[tactic(auto, using(crate::proofs::BitTests::sticky_test))]
 pub fn sticky_bars(dir: &Attrs, file: &Attrs, cred: &Cred) -> bool
     ensures { result ≡ is_barred cred.now dir.now file.now }
 {

@@ -14,7 +14,6 @@ use lfs_types::rule::Rule;
 const SF_SETTABLE: u32 = 0xffff_0000;
 
 /// Whether the file may not be changed at all, by the user's or the system's flag (4.4BSD's chflags(2)).
-#[tactic(auto, using(crate::proofs::BitTests::user_immutable_test, crate::proofs::BitTests::system_immutable_test))]
 pub fn immutable(attrs: &Attrs) -> bool
     ensures { result ≡ is_immutable attrs.now }
 {
@@ -22,7 +21,6 @@ pub fn immutable(attrs: &Attrs) -> bool
 }
 
 /// Whether the file may only grow at its end, by the user's or the system's flag (4.4BSD's chflags(2)).
-#[tactic(auto, using(crate::proofs::BitTests::user_append_test, crate::proofs::BitTests::system_append_test))]
 pub fn append_only(attrs: &Attrs) -> bool
     ensures { result ≡ is_append_only attrs.now }
 {
