@@ -1,5 +1,6 @@
-//! The cleaner: which segment it takes, and what a pass of it calls.
+//! The cleaner: when a pass of it is wanted, which segment it takes, and what it calls.
 #![tactic(auto)]
 
 mod choosing;
 pub mod pass;
+pub mod wanting;

@@ -1,10 +1,9 @@
 //! The cleaner: a pass for each ring of its doorbell, each call as one holding of the lock on the volume.
 
-ghost use Rattle.std.specs.Prelude.{◌≡◌};
-
 use crate::doorbell::Rings;
 use crate::gate::Gate;
 use lfs_cleaner::pass::Pass;
+use lfs_cleaner::wanting::superuser;
 use lfs_types::cleaned::CleanedStore;
 use lfs_types::cred::Cred;
 use lfs_volume::volume::Volume;
@@ -27,16 +26,6 @@ pub fn run_cleaner<R: Wait, F: CleanedStore + Drop, G: Gate>(
             break;
         }
         index = run_pass(rt, volume, &cred, index, gate);
-    }
-}
-
-/// The credential of user 0.
-fn superuser() -> Cred
-    ensures { result.uid ≡ 0 }
-{
-    match Cred::new(0, &[0], false) {
-        Ok(cred) => cred,
-        Err(_) => unreachable!(),
     }
 }
 

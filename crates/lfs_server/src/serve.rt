@@ -7,7 +7,7 @@ ghost use Rattle.lfs_server.specs.Serving.{IsLayoutFault, IsServeFault};
 ghost use Rattle.lfs_volume.specs.Journals.{IsJournal};
 
 use crate::gate::Gate;
-use crate::serving::{Closed, ServeFault, check_sessions, run};
+use crate::serving::{Closed, ServeFault, check_sessions, serve_over};
 use lfs_logstore::LogStore;
 use lfs_types::fault::FormatFault;
 use lfs_types::script::Script;
@@ -44,7 +44,7 @@ where
 {
     check_sessions(sessions.len())?;
     let volume = fresh_volume(alloc, params)?;
-    run(rt, alloc, volume, &setup, sessions.as_slice(), gate)
+    serve_over(rt, alloc, volume, setup, sessions, gate)
 }
 
 /// A fresh volume over the log store.

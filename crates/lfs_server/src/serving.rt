@@ -13,11 +13,13 @@ use crate::session::{Session, run_session};
 use crate::settle::{Unsettled, settle};
 use lfs_types::answer::Answer;
 use lfs_types::cleaned::CleanedStore;
+use lfs_types::cred::Cred;
 use lfs_types::fault::FormatFault;
+use lfs_types::request::Request;
 use lfs_types::script::Script;
 use lfs_types::store::FileStore;
 use lfs_volume::volume::Volume;
-use std::alloc::{AllocError, Global};
+use std::alloc::{AllocError, AllocFailed, Global};
 use std::sync::{Mutex, Wait};
 use std::thread;
 use std::thread::{JoinHandle, Scope, Threads};
@@ -62,6 +64,14 @@ pub enum ServeFault {
     /// A thread could not be started.
     #[error("serve Thread")]
     Thread,
+}
+
+impl<T: Drop> From<AllocFailed<T>> for ServeFault {
+    ghost from_gives = { λ _ fault. fault ≡ Memory };
+
+    fn from(_error: AllocFailed<T>) -> ServeFault {
+        ServeFault::Memory
+    }
 }
 
 impl From<AllocError> for ServeFault {
@@ -113,7 +123,7 @@ pub(crate) fn check_sessions(count: usize) -> Result<(), ServeFault>
 }
 
 /// Runs the setup and then the sessions, of which there are at most eight, and hands out what they left.
-pub(crate) fn run<R, F, G>(
+fn run<R, F, G>(
     rt: &R,
     alloc: Global,
     mut volume: Volume<F>,
@@ -136,21 +146,31 @@ where
     ensures fault { IfErr result IsRunFault }
 {
     let limit = volume.journal_limit();
-    let (button, rings) = doorbell(alloc)?;
-    let jobs = jobs(alloc, sessions, &button)?;
+    let (jobs, rings) = prepare(rt, alloc, sessions)?;
     let answers = run_setup(alloc, &mut volume, setup, gate)?;
-    let (volume, transcripts) = run_sessions(rt, alloc, volume, jobs, button, &rings, gate)?;
+    let (volume, transcripts) = run_sessions(rt, alloc, volume, jobs, rings, gate)?;
     close(volume, limit, setup, answers, sessions, transcripts)
 }
 
-/// Rings for the cleaner, runs the sessions and the cleaner, and gives the volume back with the answers of each session.
+/// The sessions of these scripts, and the doorbell, which is rung once.
+fn prepare<'a, R: Wait>(
+    rt: &R,
+    alloc: Global,
+    scripts: &'a [Script],
+) -> Result<(Vec<Session<'a>>, Rings), AllocError> {
+    let (button, rings) = doorbell(alloc)?;
+    let jobs = jobs(alloc, scripts, &button)?;
+    button.ring(rt);
+    Ok((jobs, rings))
+}
+
+/// Runs the sessions and the cleaner, and gives the volume back with the answers of each session.
 fn run_sessions<R, F, G>(
     rt: &R,
     alloc: Global,
     volume: Volume<F>,
     jobs: Vec<Session<'_>>,
-    button: Button,
-    rings: &Rings,
+    rings: Rings,
     gate: &G,
 ) -> Result<(Volume<F>, Vec<Vec<Answer>>), ServeFault>
 where
@@ -159,10 +179,8 @@ where
     G: Gate,
     ensures { IfErr result IsRunFault }
 {
-    button.ring(rt);
-    drop(button);
     let shared = Mutex::new(volume);
-    let transcripts = run_threads(rt, alloc, &shared, jobs, rings, gate)?;
+    let transcripts = run_threads(rt, alloc, &shared, jobs, &rings, gate)?;
     Ok((shared.into_inner(), transcripts))
 }
 
@@ -176,13 +194,7 @@ fn jobs<'a>(
     let mut number = 0u8;
     for script in scripts {
         number = number.saturating_add(1);
-        jobs.push(Session {
-            number,
-            alloc,
-            script,
-            button: button.try_clone()?,
-            answers: Vec::with_capacity(alloc, script.as_slice().len())?,
-        })?;
+        jobs.push(Session::new(number, alloc, script, button)?)?;
     }
     Ok(jobs)
 }
@@ -197,14 +209,26 @@ fn run_setup<F: FileStore + Drop, G: Gate>(
     let mut answers = Vec::with_capacity(alloc, setup.as_slice().len())?;
     let mut index = 0u32;
     for (cred, request) in setup.as_slice() {
-        let copy = request.try_clone(alloc)?;
-        gate.before(0, index);
-        let answer = volume.call(0, cred, copy);
-        gate.after(0, index);
-        answers.push(answer)?;
+        answers.push(setup_call(alloc, volume, index, cred, request, gate)?)?;
         index = index.saturating_add(1);
     }
     Ok(answers)
+}
+
+/// Makes a call of the setup, of a copy of what it asks.
+fn setup_call<F: FileStore + Drop, G: Gate>(
+    alloc: Global,
+    volume: &mut Volume<F>,
+    index: u32,
+    cred: &Cred,
+    request: &Request,
+    gate: &G,
+) -> Result<Answer, AllocError> {
+    let copy = request.try_clone(alloc)?;
+    gate.before(0, index);
+    let answer = volume.call(0, cred, copy);
+    gate.after(0, index);
+    Ok(answer)
 }
 
 /// Runs the sessions and the cleaner, each on a thread of its own, and gives the answers of each session once all threads
@@ -257,10 +281,8 @@ where
     G: Gate,
 {
     for session in jobs {
-        match scope.spawn(move || run_session(rt, volume, session, gate)) {
-            Ok(thread) => threads.push(Some(thread))?,
-            Err(_unstarted) => threads.push(None)?,
-        }
+        let thread = scope.spawn(move || run_session(rt, volume, session, gate));
+        threads.push(thread.ok())?;
     }
     Ok(threads)
 }
@@ -275,14 +297,19 @@ fn joined<R: Threads>(
 {
     let mut transcripts = Vec::with_capacity(alloc, threads.len())?;
     for thread in threads {
-        let Some(thread) = thread else {
-            return Err(ServeFault::Thread);
-        };
-        if transcripts.push(thread.join(rt)?).is_err() {
-            return Err(ServeFault::Memory);
-        }
+        transcripts.push(answers_of(rt, thread)?)?;
     }
     Ok(transcripts)
+}
+
+/// What the thread of a session gave, if it was started and didn't lack memory.
+fn answers_of<R: Threads>(rt: &R, thread: SessionThread) -> Result<Vec<Answer>, ServeFault>
+    ensures { IfErr result IsRunFault }
+{
+    match thread {
+        Some(thread) => Ok(thread.join(rt)?),
+        None => Err(ServeFault::Thread),
+    }
 }
 
 /// Hands out what a run left, where its journal is an interleaving of what was asked and answered, and has this limit.

@@ -5,6 +5,7 @@ ghost use Rattle.lfs_model.specs.Runs.{kept_entry};
 
 use crate::doorbell::Button;
 use crate::gate::Gate;
+use lfs_cleaner::wanting::is_wanted;
 use lfs_types::answer::{Answer, Resource};
 use lfs_types::cred::Cred;
 use lfs_types::request::Request;
@@ -13,9 +14,6 @@ use lfs_types::store::FileStore;
 use lfs_volume::volume::Volume;
 use std::alloc::{AllocError, Global};
 use std::sync::{Mutex, Wait};
-
-/// So few clean segments call for the cleaner.
-const FEW_CLEAN: u32 = 3;
 
 /// A session that is to be run.
 #[derive(Drop)]
@@ -30,6 +28,26 @@ pub struct Session<'a> {
     pub button: Button,
     /// Where its answers go.
     pub answers: Vec<Answer>,
+}
+
+impl<'a> Session<'a> {
+    /// A session with a button of its own, and with room for its answers.
+    pub fn new(
+        number: u8,
+        alloc: Global,
+        script: &'a Script,
+        button: &Button,
+    ) -> Result<Session<'a>, AllocError> {
+        let button = button.try_clone()?;
+        let answers = Vec::with_capacity(alloc, script.as_slice().len())?;
+        Ok(Session {
+            number,
+            alloc,
+            script,
+            button,
+            answers,
+        })
+    }
 }
 
 /// Makes the calls of a session, each of a copy of what its script asks, and gives the answers. It ends where a copy finds
@@ -79,14 +97,6 @@ fn call<F: FileStore + Drop>(
 {
     let before = volume.clean_segments();
     let answer = volume.call(session, cred, request);
-    let after = volume.clean_segments();
-    let wants_cleaner = is_no_space(&answer) || (after < before && after <= FEW_CLEAN);
+    let wants_cleaner = is_wanted(&answer, before, volume.clean_segments());
     (answer, wants_cleaner)
-}
-
-/// Whether a call was refused for want of space.
-fn is_no_space(answer: &Answer) -> bool
-    ensures { IsTrue result ↔ (answer.now ≡ Answer.Refused Resource.NoSpace) }
-{
-    matches!(answer, Answer::Refused(Resource::NoSpace))
 }

@@ -1,4 +1,5 @@
 use Rattle.std.proofs.Common.{rules}
+use Rattle.lfs_server.proofs.ServeLemmas.{serve_faults}
 use Rattle.lfs_server.proofs.serve.serve.Goals as goal
 
 pub returns-in_err-check_sessions-clause-fault : goal.returns-in_err-check_sessions-clause-fault
@@ -7,8 +8,11 @@ returns-in_err-check_sessions-clause-fault g c = search rules
 pub returns-in_err-volume-clause-fault : goal.returns-in_err-volume-clause-fault
 returns-in_err-volume-clause-fault g c = search rules
 
+pub returns-clause-fault : goal.returns-clause-fault
+returns-clause-fault g c = serve_faults _ _ _ _ c.serve_over.result c.serve_over.ensures.fault
+
 pub returns-clause-settled : goal.returns-clause-settled
-returns-clause-settled g c = search rules
+returns-clause-settled g c = c.serve_over.ensures.settled
 
 pub returns-clause-legal : goal.returns-clause-legal
-returns-clause-legal g c = search rules
+returns-clause-legal g c = c.serve_over.ensures.legal

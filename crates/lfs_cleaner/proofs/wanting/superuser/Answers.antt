@@ -1,5 +1,5 @@
 use Rattle.std.proofs.Common.{rules}
-use Rattle.lfs_server.proofs.cleaner.superuser.Goals as goal
+use Rattle.lfs_cleaner.proofs.wanting.superuser.Goals as goal
 
 pub returns : goal.returns
 returns c = search rules
