@@ -1,39 +1,52 @@
 #!/bin/sh
-# Lets one allocation of each test fail, the first, the second and so on, in each crate named, and tells what the tests
-# answered. With no names: lfs_recency and lfs_cache. There every test begins with a call of `new`, and only that takes
-# memory. So all tests have to end in AllocError, once for each allocation of `new`, and from then on all have to pass.
-# Anything else is a failure: a fault, a signal, another error, or tests of which some pass. A leak isn't seen.
-# RT names the command to run in place of `rt`.
+# Lets one allocation of each test of lfs_store_trials fail, the first, the second and so on, and tells what the tests of
+# each module named answered. With no names: recency and cache. There every test begins with a call of `new`, and only
+# that takes memory. So all tests have to end in AllocError, once for each allocation of `new`, and from then on all have
+# to pass. Anything else is a failure: a fault, a signal, another error, or tests of which some pass. A leak isn't seen,
+# and what the tests of other modules answer counts for nothing. RT names the command to run in place of `rt`.
 set -u
-cd "$(dirname "$0")/.." || exit 2
+cd "$(dirname "$0")/../crates/lfs_store_trials" || exit 2
 
 # So many allocations in a row have to make no difference, for the last one to be found.
 beyond=3
 limit=40
 
-lines() {
-    printf '%s\n' "$told" | grep -c -- "$1"
+# What was told of the tests where each allocation fails, in a file for each, since it is asked for by each module.
+folder=$(mktemp -d) || exit 2
+trap 'rm -rf "$folder"' EXIT
+
+# Has all tests run, with allocation $1 failing, unless that was done.
+run_tests() {
+    [ -e "$folder/$1" ] || "${RT:-rt}" try --test --fail-alloc "$1" >"$folder/$1" 2>&1
 }
 
-# What the tests answer where allocation $1 fails: 'passed', 'AllocError' or 'other'.
+# What the tests of module $1 answer where allocation $2 fails: 'passed', 'AllocError' or 'other'. Below its name each
+# test that fails has the lines that say why.
 answer() {
-    told=$("${RT:-rt}" try --test --fail-alloc "$1" 2>&1)
-    status=$?
-    failed=$(printf '%s\n' "$told" | sed -n 's/^test result: FAILED\. 0 passed; \([1-9][0-9]*\) failed; .*/\1/p')
-    if [ "$status" -eq 0 ] && [ "$(lines '^test result: ok\. [1-9][0-9]* passed; 0 failed; ')" -eq 1 ]; then
-        echo passed
-    elif [ "$status" -eq 101 ] && [ -n "$failed" ] && [ "$(lines '^run=ended status=101 ')" -eq 1 ] &&
-        [ "$(lines '^    error: AllocError$')" -eq "$failed" ] &&
-        [ "$(lines '^    the test failed: its result gives status 1$')" -eq "$failed" ] &&
-        [ "$(lines '^    the test exited with status 101$')" -eq "$failed" ] &&
-        [ "$(lines '^    ')" -eq $((3 * failed)) ]; then
-        echo AllocError
-    else
-        printf 'other, with status %s:\n%s\n' "$status" "$told"
-    fi
+    run_tests "$2"
+    awk -v "of=test tests::$1::" '
+        /^test / { of_module = index($0, of) == 1 }
+        /^test / && of_module {
+            if ($NF == "ok") passed++
+            else if ($NF == "FAILED") failed++
+            else other++
+        }
+        /^    / && of_module {
+            if ($0 == "    error: AllocError") errors++
+            else if ($0 == "    the test failed: its result gives status 1") results++
+            else if ($0 == "    the test exited with status 101") exits++
+            else other++
+        }
+        /^run=ended status=(0|101) / { ended++ }
+        END {
+            if (ended != 1 || other) print "other"
+            else if (passed && !failed && !errors && !results && !exits) print "passed"
+            else if (failed && !passed && errors == failed && results == failed && exits == failed) print "AllocError"
+            else print "other"
+        }' "$folder/$2"
 }
 
-# Lets each allocation of the tests in the current folder fail. The name of the crate is $1.
+# Lets each allocation of the tests of module $1 fail.
 fail_each() {
     number=1
     denied=0
@@ -43,7 +56,7 @@ fail_each() {
             echo "$1: more than $limit allocations"
             return 1
         fi
-        said=$(answer "$number")
+        said=$(answer "$1" "$number")
         echo "$1, allocation $number: $said"
         case $said in
             passed) passed=$((passed + 1)) ;;
@@ -54,7 +67,10 @@ fail_each() {
                 fi
                 denied=$number
                 ;;
-            *) return 1 ;;
+            *)
+                cat "$folder/$number"
+                return 1
+                ;;
         esac
         number=$((number + 1))
     done
@@ -65,9 +81,9 @@ fail_each() {
     echo "$1: AllocError for each allocation up to $denied, and no difference from then on"
 }
 
-[ $# -gt 0 ] || set -- lfs_recency lfs_cache
+[ $# -gt 0 ] || set -- recency cache
 result=0
-for crate; do
-    (cd "crates/$crate" && fail_each "$crate") || result=1
+for module; do
+    fail_each "$module" || result=1
 done
 exit $result

@@ -5,8 +5,6 @@ mod cache;
 mod index;
 mod key;
 mod names;
-#[cfg(test)]
-mod tests;
 
 pub use cache::{Cache, LOCKED_LIMIT};
 pub use key::Key;

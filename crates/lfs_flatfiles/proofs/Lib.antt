@@ -1,4 +1,3 @@
-pub mod FirstChanges
 pub mod FlatFilesContent
 pub mod FlatFilesReach
 pub mod FlatFilesSplice

@@ -8,8 +8,6 @@ ghost use Rattle.lfs_types.specs.Tree.{attrs_of, fresh_root, file_of};
 ghost use Rattle.lfs_flatfiles.specs.FlatFiles.{content_of, file_in, room_in, end_of, with_attrs, with_bytes, with_length, opening_state, IsInReach, HasRoom, Grows, CanHold, HasFile};
 
 mod place;
-#[cfg(test)]
-mod tests;
 
 use lfs_types::attrs::{Attrs, Kind};
 use lfs_types::fault::FormatFault;

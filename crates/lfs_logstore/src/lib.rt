@@ -5,7 +5,5 @@
 mod cleaning;
 mod files;
 mod store;
-#[cfg(test)]
-mod tests;
 
 pub use store::LogStore;

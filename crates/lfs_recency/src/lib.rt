@@ -5,8 +5,6 @@ mod frame;
 mod frames;
 mod links;
 mod queue;
-#[cfg(test)]
-mod tests;
 
 pub use frames::Frames;
 pub use queue::Queue;

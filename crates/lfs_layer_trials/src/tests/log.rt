@@ -182,13 +182,14 @@ fn opens(rt: &impl Abort, log: &mut Log, segment: u32, clean: u32) {
     );
 }
 
-/// Makes segment 3 clean, and asserts that it had no live bytes.
+/// Makes segment 3 clean, and asserts that it names nothing and had no live bytes.
 fn third_is_reclaimed(rt: &impl Abort, log: &mut Log) {
     let dirty = SegUse {
         live: 0,
         state: SegState::Dirty,
     };
     is_small(rt, log);
+    expect_eq(rt, log.infos(3).items().is_empty(), true);
     assert_eq!(rt; log.usage(3), dirty);
     log.reclaim(3);
 }

@@ -1,13 +1,16 @@
-//! Which blocks are still held after writes and fills.
+//! Which blocks are still held after writes and fills. Each test begins with the one call that takes memory, and hands
+//! its error on.
+
 ghost use Rattle.std.specs.Prelude.{◌≡◌, IsTrue};
 ghost use Rattle.lfs_cache.specs.Contents.{IsLocked};
+ghost use Rattle.lfs_cache.specs.Keys.{same_key};
 
-use crate::key::same;
-use crate::{Cache, Key, LOCKED_LIMIT};
+use super::expect_eq;
+use lfs_cache::{Cache, Key, LOCKED_LIMIT};
 use lfs_types::block::Block;
 use std::alloc::{AllocError, Global};
 use std::process::Abort;
-use std::test::*;
+use std::test::Fail;
 use std::thread;
 
 fn key(lbn: u32) -> Key {
@@ -33,6 +36,13 @@ fn write_new(cache: &mut Cache, lbn: u32) {
     if cache.locked_count() < LOCKED_LIMIT {
         cache.write(key(lbn), &block(lbn));
     }
+}
+
+/// Whether two keys are the same.
+fn same(a: Key, b: Key) -> bool
+    ensures { result ≡ same_key a b }
+{
+    a == b
 }
 
 fn is_locked(cache: &Cache, key: Key) -> bool
@@ -77,10 +87,9 @@ fn fill_range(cache: &mut Cache, from: u32, to: u32) {
     }
 }
 
-/// Asserts that the block of a key is held, or that it is not. An assertion takes the prover a second or more, a call of
-/// this less.
+/// Asserts that the block of a key is held, or that it is not.
 fn expect_held(rt: &impl Abort, cache: &mut Cache, lbn: u32, held: bool) {
-    assert_eq!(rt; holds(cache, lbn), held, "at {lbn}");
+    expect_eq(rt, (lbn, holds(cache, lbn)), (lbn, held));
 }
 
 /// Asserts that the blocks of the keys of a range are held.
@@ -92,7 +101,7 @@ fn expect_range(rt: &impl Abort, cache: &mut Cache, from: u32, to: u32) {
 
 /// Asserts how many keys are locked.
 fn expect_locked(rt: &impl Abort, cache: &Cache, count: usize) {
-    assert_eq!(rt; cache.locked_count(), count);
+    expect_eq(rt, cache.locked_count(), count);
 }
 
 /// Asserts that a look finds the block of a key, or that it finds none.
@@ -105,7 +114,7 @@ fn expect_peek(rt: &impl Abort, cache: &Cache, lbn: u32, held: bool) {
 #[test]
 fn new_cache_holds_nothing(rt: HostRuntime) -> Result<(), Fail> {
     let mut cache = Cache::new(rt.alloc(), 32)?;
-    assert!(rt; cache.get(key(0)).is_none());
+    expect_held(&rt, &mut cache, 0, false);
     expect_locked(&rt, &cache, 0);
     Ok(())
 }

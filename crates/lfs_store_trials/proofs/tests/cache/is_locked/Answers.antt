@@ -3,7 +3,7 @@ use Rattle.lfs_cache.specs.declared.key.Key.{Key}
 use Rattle.lfs_cache.specs.Keys.{same_key}
 use Rattle.lfs_cache.specs.Contents.{keys_of}
 use Rattle.lfs_cache.proofs.CallerLemmas.{listed_has_block}
-use Rattle.lfs_cache.proofs.tests.is_locked.Goals as goal
+use Rattle.lfs_store_trials.proofs.tests.cache.is_locked.Goals as goal
 
 pub returns-then-same : goal.returns-then-same
 returns-then-same c =

@@ -1,8 +1,8 @@
 use Rattle.std.proofs.Common.{ap, ◌∙◌, arith}
 use Rattle.std.specs.FinMap as map
-use Rattle.lfs_flatfiles.proofs.FirstChanges.{numbers_of, contents_of}
+use Rattle.lfs_store_trials.proofs.FirstChanges.{numbers_of, contents_of}
 use Rattle.lfs_flatfiles.proofs.FlatFilesReach.{free_at_opening}
-use Rattle.lfs_flatfiles.proofs.flat_files.tests.knows_the_least_free_number.Goals as goal
+use Rattle.lfs_store_trials.proofs.tests.flatfiles.knows_the_least_free_number.Goals as goal
 
 pub apply-requires : goal.apply-requires
 apply-requires g c = record {

@@ -7,9 +7,9 @@ use Rattle.lfs_types.specs.declared.attrs.Attrs.{Attrs}
 use Rattle.lfs_types.specs.declared.attrs.Kind.TheVariants.{File as Regular}
 use Rattle.lfs_types.specs.declared.store.Change.TheVariants.{Make, SetAttrs, Put}
 use Rattle.lfs_flatfiles.specs.FlatFiles.{content_of, with_bytes}
-use Rattle.lfs_flatfiles.proofs.FirstChanges.{numbers_of, contents_of}
-use Rattle.lfs_flatfiles.proofs.FirstChanges.{at_file, after, first_file, with_first, made_and_put}
-use Rattle.lfs_flatfiles.proofs.flat_files.tests.applies_changes_in_order.Goals as goal
+use Rattle.lfs_store_trials.proofs.FirstChanges.{numbers_of, contents_of}
+use Rattle.lfs_store_trials.proofs.FirstChanges.{at_file, after, first_file, with_first, made_and_put}
+use Rattle.lfs_store_trials.proofs.tests.flatfiles.applies_changes_in_order.Goals as goal
 
 asked : (n : ℕ) (c : Content) (a b : Attrs) (p q : Bor (List ℕ)) → n ≡ 16 → c ≡ opening_content → a.kind ≡ Regular → b.kind ≡ Regular → p.now ≡ 97 ∷ 98 ∷ 99 ∷ [] → q.now ≡ 120 ∷ 121 ∷ [] → CanApply n (Make 4 a ∷ Put 4 0 p ∷ Put 4 5 q ∷ SetAttrs 4 b ∷ []) c
 asked n c a b p q is_n is_c is_a is_b is_p is_q =

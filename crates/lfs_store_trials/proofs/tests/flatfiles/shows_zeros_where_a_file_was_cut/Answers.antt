@@ -5,9 +5,9 @@ use Rattle.lfs_types.specs.declared.attrs.Attrs.{Attrs}
 use Rattle.lfs_types.specs.declared.attrs.Kind.TheVariants.{File as Regular}
 use Rattle.lfs_types.specs.declared.store.Change.TheVariants.{Make, Put, SetLength}
 use Rattle.lfs_flatfiles.specs.FlatFiles.{content_of}
-use Rattle.lfs_flatfiles.proofs.FirstChanges.{numbers_of, contents_of}
-use Rattle.lfs_flatfiles.proofs.FirstChanges.{at_file, first_file, made_and_put}
-use Rattle.lfs_flatfiles.proofs.flat_files.tests.shows_zeros_where_a_file_was_cut.Goals as goal
+use Rattle.lfs_store_trials.proofs.FirstChanges.{numbers_of, contents_of}
+use Rattle.lfs_store_trials.proofs.FirstChanges.{at_file, first_file, made_and_put}
+use Rattle.lfs_store_trials.proofs.tests.flatfiles.shows_zeros_where_a_file_was_cut.Goals as goal
 
 asked : (n : ℕ) (c : Content) (a : Attrs) (p : Bor (List ℕ)) → n ≡ 16 → c ≡ opening_content → a.kind ≡ Regular → p.now ≡ 97 ∷ 98 ∷ 99 ∷ 100 ∷ [] → CanApply n (Make 4 a ∷ Put 4 0 p ∷ SetLength 4 1 ∷ []) c
 asked n c a p is_n is_c is_a is_p =
