@@ -1,6 +1,7 @@
 //! What no clause says of the plain store: that its calls succeed, with values worked out by hand.
 
 ghost use Rattle.std.specs.Prelude.{◌≡◌};
+ghost use Rattle.lfs_flatfiles.specs.FlatFiles.{opening_state};
 
 use super::expect_eq;
 use lfs_flatfiles::flat_files::FlatFiles;
@@ -25,6 +26,16 @@ fn takes_16_to_4096_inode_numbers(rt: HostRuntime) {
     expect_eq(&rt, fault_of(rt.alloc(), 4097), Some(FormatFault::TooMany));
 }
 
+/// A new store with 16 inode numbers.
+fn fresh(rt: &impl Abort, alloc: Global) -> FlatFiles
+    ensures { ⟦<FlatFiles as FileStore>⟧.state result ≡ opening_state 16 }
+{
+    match FlatFiles::new(alloc, 16) {
+        Ok(store) => store,
+        Err(_) => panic!(rt; "no store"),
+    }
+}
+
 /// The root directory of a new store.
 fn root_attrs(rt: &impl Abort) -> Attrs {
     Attrs {
@@ -40,7 +51,7 @@ fn root_attrs(rt: &impl Abort) -> Attrs {
 #[test]
 fn a_new_store_has_the_root_alone(rt: HostRuntime) {
     let root = root_attrs(&rt);
-    let store = FlatFiles::new(rt.alloc(), 16).expect(&rt, "a store");
+    let store = fresh(&rt, rt.alloc());
     expect_eq(&rt, store.attrs(2), Some(root));
     expect_eq(&rt, store.attrs(3), None);
     expect_eq(&rt, store.attrs(16), None);
@@ -50,7 +61,7 @@ fn a_new_store_has_the_root_alone(rt: HostRuntime) {
 
 #[test]
 fn sync_succeeds(rt: HostRuntime) {
-    let mut store = FlatFiles::new(rt.alloc(), 16).expect(&rt, "a store");
+    let mut store = fresh(&rt, rt.alloc());
     expect_eq(&rt, store.sync(), Ok(()));
     expect_eq(&rt, store.least_free(), Some(4));
 }
@@ -77,7 +88,7 @@ fn expect_read(rt: &impl Abort, store: &mut FlatFiles, off: u64, into: &mut [u8]
 
 #[test]
 fn applies_changes_in_order(rt: HostRuntime) {
-    let mut store = FlatFiles::new(rt.alloc(), 16).expect(&rt, "a store");
+    let mut store = fresh(&rt, rt.alloc());
     let made = attrs_of(&rt, 0o600);
     let set = attrs_of(&rt, 0o644);
     let changes = [
@@ -115,24 +126,19 @@ fn applies_changes_in_order(rt: HostRuntime) {
 
 #[test]
 fn knows_the_least_free_number(rt: HostRuntime) {
-    let mut store = FlatFiles::new(rt.alloc(), 16).expect(&rt, "a store");
-    let first = [Change::Make {
-        ino: 5,
-        attrs: attrs_of(&rt, 0o600),
-    }];
+    let mut store = fresh(&rt, rt.alloc());
+    let attrs = attrs_of(&rt, 0o600);
+    let first = [Change::Make { ino: 5, attrs }];
     store.apply(&first).expect(&rt, "room");
     assert_eq!(rt; store.least_free(), Some(4));
-    let second = [Change::Make {
-        ino: 4,
-        attrs: attrs_of(&rt, 0o600),
-    }];
+    let second = [Change::Make { ino: 4, attrs }];
     store.apply(&second).expect(&rt, "room");
     expect_eq(&rt, store.least_free(), Some(6));
 }
 
 #[test]
 fn shows_zeros_where_a_file_was_cut(rt: HostRuntime) {
-    let mut store = FlatFiles::new(rt.alloc(), 16).expect(&rt, "a store");
+    let mut store = fresh(&rt, rt.alloc());
     let made = attrs_of(&rt, 0o600);
     let cut = [
         Change::Make {
@@ -161,7 +167,7 @@ fn shows_zeros_where_a_file_was_cut(rt: HostRuntime) {
 
 #[test]
 fn gives_out_a_removed_number(rt: HostRuntime) {
-    let mut store = FlatFiles::new(rt.alloc(), 16).expect(&rt, "a store");
+    let mut store = fresh(&rt, rt.alloc());
     let made = attrs_of(&rt, 0o600);
     let first = [
         Change::Make {

@@ -35,7 +35,16 @@ fn fault_of(alloc: Global, segments: u32, inodes: u32, frames: u32) -> Option<Fo
 fn fresh(rt: &impl Abort, alloc: Global) -> LogStore
     ensures { ⟦<LogStore as FileStore>⟧.state result ≡ opening_state 6 16 }
 {
-    LogStore::format(alloc, params(6, 16, 32)).expect(rt, "a store")
+    let small = Params {
+        segments: 6,
+        inodes: 16,
+        frames: 32,
+        journal: 1,
+    };
+    match LogStore::format(alloc, small) {
+        Ok(store) => store,
+        Err(_) => panic!(rt; "no store"),
+    }
 }
 
 /// What is asked of a block or a record, with its address.

@@ -31,5 +31,5 @@ asked n c a b p q is_n is_c is_a is_b is_p is_q =
 
 pub apply-requires : goal.apply-requires
 apply-requires g c =
-    let store = c.in_ok-store.store in
-    asked (vec_len store.places) (content_of store.places.items) c.in_ok-made.made c.in_ok-set.set _ _ (ap numbers_of c.in_ok-store.ensures.opening) (ap contents_of c.in_ok-store.ensures.opening) c.in_ok-made.ensures c.in_ok-set.ensures refl refl
+    let store = c.fresh-store.result in
+    asked (vec_len store.places) (content_of store.places.items) c.attrs_of-made.result c.attrs_of-set.result _ _ (ap numbers_of c.fresh-store.ensures) (ap contents_of c.fresh-store.ensures) c.attrs_of-made.ensures c.attrs_of-set.ensures refl refl

@@ -20,5 +20,5 @@ asked n c a p is_n is_c is_a is_p = record {
 
 pub apply-requires : goal.apply-requires
 apply-requires g c =
-    let store = c.in_ok-store.store in
-    asked (vec_len store.places) (content_of store.places.items) c.in_ok-made.made _ (ap numbers_of c.in_ok-store.ensures.opening) (ap contents_of c.in_ok-store.ensures.opening) c.in_ok-made.ensures refl
+    let store = c.fresh-store.result in
+    asked (vec_len store.places) (content_of store.places.items) c.attrs_of-made.result _ (ap numbers_of c.fresh-store.ensures) (ap contents_of c.fresh-store.ensures) c.attrs_of-made.ensures refl
