@@ -127,11 +127,16 @@ fn applies_changes_in_order(rt: HostRuntime) {
 #[test]
 fn knows_the_least_free_number(rt: HostRuntime) {
     let mut store = fresh(&rt, rt.alloc());
-    let attrs = attrs_of(&rt, 0o600);
-    let first = [Change::Make { ino: 5, attrs }];
+    let first = [Change::Make {
+        ino: 5,
+        attrs: attrs_of(&rt, 0o600),
+    }];
     store.apply(&first).expect(&rt, "room");
     assert_eq!(rt; store.least_free(), Some(4));
-    let second = [Change::Make { ino: 4, attrs }];
+    let second = [Change::Make {
+        ino: 4,
+        attrs: attrs_of(&rt, 0o600),
+    }];
     store.apply(&second).expect(&rt, "room");
     expect_eq(&rt, store.least_free(), Some(6));
 }
