@@ -81,7 +81,9 @@ fn attrs_of(rt: &impl Abort, mode: u16) -> Attrs
 }
 
 /// Reads file 4 from a place on, and asserts how many bytes there were.
-fn expect_read(rt: &impl Abort, store: &mut FlatFiles, off: u64, into: &mut [u8], count: usize) {
+fn expect_read(rt: &impl Abort, store: &mut FlatFiles, off: u64, into: &mut [u8], count: usize)
+    ensures { ⟦<FlatFiles as FileStore>⟧.state store.new ≡ ⟦<FlatFiles as FileStore>⟧.state store.old }
+{
     assert!(rt; store.attrs(4).is_some());
     expect_eq(rt, store.read(4, off, into), count);
 }
