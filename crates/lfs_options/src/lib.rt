@@ -86,11 +86,31 @@ pub struct Options {
 /// want of memory.
 pub fn options_of<'a, S: AsStr>(alloc: Global, words: &'a [S]) -> Result<Options, Error> {
     let mut command = command(alloc)?;
-    let matches = command.try_get_matches_from_mut(words)?;
-    if let Some(message) = sign_in(&matches) {
-        return Err(command.error(ErrorKind::ValueValidation, message)?);
+    options_by(&mut command, words)
+}
+
+/// The options that a command finds in the words.
+fn options_by<'a, S: AsStr>(command: &mut Command<'a>, words: &'a [S]) -> Result<Options, Error> {
+    match command.try_get_matches_from_mut(words) {
+        Ok(matches) => without_signs(command, &matches),
+        Err(error) => Err(error),
     }
-    Ok(options_in(&matches))
+}
+
+/// The options that the matches hold, where no number begins with a sign.
+fn without_signs(command: &mut Command<'_>, matches: &ArgMatches<'_>) -> Result<Options, Error> {
+    match sign_in(matches) {
+        None => Ok(options_in(matches)),
+        Some(message) => Err(sign_error(command, message)),
+    }
+}
+
+/// The error of a number that begins with a sign, or want of memory.
+fn sign_error(command: &mut Command<'_>, message: &str) -> Error {
+    match command.error(ErrorKind::ValueValidation, message) {
+        Ok(error) => error,
+        Err(error) => Error::from(error),
+    }
 }
 
 /// The options that the matches hold.
@@ -112,7 +132,7 @@ fn number(matches: &ArgMatches<'_>, id: &str, default: u32) -> u32 {
 
 /// What is told of the first number that begins with a sign, if there is one.
 fn sign_in(matches: &ArgMatches<'_>) -> Option<&'static str> {
-    for number in NUMBERS {
+    for number in &NUMBERS {
         if has_sign(matches, number.name) {
             return Some(number.sign);
         }
@@ -130,16 +150,17 @@ fn has_sign(matches: &ArgMatches<'_>, id: &str) -> bool {
 
 /// The program's options.
 fn command<'a>(alloc: Global) -> Result<Command<'a>, AllocError> {
-    let mut command = Command::new(alloc, "lfsd")
+    let [segments, inodes, frames, journal] = NUMBERS;
+    Command::new(alloc, "lfsd")
         .about(
             "Runs a script of calls, read from standard input, on a volume in memory and prints the answers and a report",
         )
         .after_help(MORE)
-        .arg(threads(alloc))?;
-    for number in NUMBERS {
-        command = command.arg(number.arg(alloc))?;
-    }
-    Ok(command)
+        .arg(threads(alloc))?
+        .arg(segments.arg(alloc))?
+        .arg(inodes.arg(alloc))?
+        .arg(frames.arg(alloc))?
+        .arg(journal.arg(alloc))
 }
 
 /// The option for threads.
@@ -155,11 +176,13 @@ fn threads<'a>(alloc: Global) -> Arg<'a> {
 impl NumberOption {
     /// The option for the command line.
     fn arg<'a>(self, alloc: Global) -> Arg<'a> {
-        Arg::new(alloc, self.name)
-            .long(self.name)
-            .value_name("N")
-            .action(ArgAction::Set)
+        taking_number(alloc, self.name)
             .value_parser(ValueParser::Unsigned(self.least, self.most))
             .help(self.help)
     }
+}
+
+/// An option of this name that takes a number.
+fn taking_number<'a>(alloc: Global, name: &'a str) -> Arg<'a> {
+    Arg::new(alloc, name).long(name).value_name("N")
 }
