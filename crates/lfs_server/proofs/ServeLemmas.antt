@@ -1,5 +1,5 @@
 -- Faults of a run on a volume that was laid out for it.
-use Rattle.std.proofs.Common.{◌≡◌, ℕ, Result, Ok, Err, IfErr}
+use Rattle.std.proofs.Common.{ℕ, Result, Ok, Err, IfErr}
 use Rattle.lfs_server.specs.Serving.{IsFaultOf, IsServeFault}
 use Rattle.lfs_server.specs.declared.serving.ServeFault.{ServeFault}
 use Rattle.lfs_server.specs.declared.serving.ServeFault.TheVariants.{Sessions, Format, Memory, Unsettled, Thread}
