@@ -6,7 +6,6 @@ mod fakes;
 mod log;
 mod passes;
 mod runs;
-mod sizes;
 mod status;
 mod texts;
 mod volume;
