@@ -10,14 +10,13 @@ mod status;
 mod texts;
 mod volume;
 
-use lfs_audit::fault::{RunFault, ThreadsFault};
+use lfs_audit::fault::ThreadsFault;
 use lfs_audit::scripts::run_script;
 use lfs_audit::tell::tell;
 use lfs_types::store::Params;
 use std::alloc::Global;
 use std::fmt::Debug;
 use std::process::Abort;
-use std::test::Fail;
 
 /// Asserts that what was found is what is wanted. An assertion takes the prover a second or more, a call of this less.
 fn expect_eq<T: PartialEq + Debug + Drop>(rt: &impl Abort, found: T, wanted: T) {
@@ -32,19 +31,29 @@ fn expect_told(rt: &impl Abort, alloc: Global, fault: ThreadsFault, text: &[u8])
 }
 
 /// What a run of this script writes.
-fn output_with(alloc: Global, script: &str, params: Params) -> Result<Vec<u8>, RunFault> {
+fn output_with(rt: &impl Abort, alloc: Global, script: &str, params: Params) -> Vec<u8> {
     let mut reader = script.as_bytes();
     let mut writer = Vec::new(alloc);
-    run_script(alloc, &mut reader, &mut writer, params)?;
-    Ok(writer)
+    run_script(alloc, &mut reader, &mut writer, params).expect(rt, "a run");
+    writer
+}
+
+/// Asserts that what was written are these lines, and then a report.
+fn expect_lines(rt: &impl Abort, written: &[u8], lines: &str) {
+    let report = written.strip_prefix(lines.as_bytes());
+    let report = report.expect(rt, "these lines");
+    assert!(rt; report.starts_with(b"entries "));
+}
+
+/// Asserts that a run of this script with these parameters writes these lines, and then a report.
+fn expect_with(rt: &impl Abort, alloc: Global, script: &str, params: Params, lines: &str) {
+    let written = output_with(rt, alloc, script, params);
+    expect_lines(rt, written.as_slice(), lines);
 }
 
 /// What was written, as text.
-fn text_of(written: &[u8]) -> Result<&str, Fail> {
-    match str::from_utf8(written) {
-        Ok(text) => Ok(text),
-        Err(_) => Err(Fail::from("no text")),
-    }
+fn text_of<'a>(rt: &impl Abort, written: &'a [u8]) -> &'a str {
+    str::from_utf8(written).expect(rt, "a text")
 }
 
 /// Asserts that a text has each of these parts.
@@ -54,18 +63,7 @@ fn expect_parts(rt: &impl Abort, text: &str, parts: &[&str]) {
     }
 }
 
-/// Asserts that a run of this script with these parameters writes these lines, and then a report.
-fn expect_with(
-    rt: &impl Abort,
-    alloc: Global,
-    script: &str,
-    params: Params,
-    expected: &str,
-) -> Result<(), Fail> {
-    let written = output_with(alloc, script, params)?;
-    let Some(report) = written.as_slice().strip_prefix(expected.as_bytes()) else {
-        return Err(Fail::from("other lines"));
-    };
-    assert!(rt; report.starts_with(b"entries "));
-    Ok(())
+/// Appends a text.
+fn push(rt: &impl Abort, to: &mut String, text: &str) {
+    to.push_str(text).expect(rt, "memory");
 }

@@ -12,10 +12,9 @@ use lfs_types::answer::Answer;
 use lfs_types::store::Params;
 use lfs_volume::journal::Call;
 use lfs_volume::volume::Volume;
-use std::alloc::{AllocError, Global};
+use std::alloc::Global;
 use std::fmt::Debug;
 use std::process::Abort;
-use std::test::Fail;
 
 /// The numbers of a small volume.
 const SMALL: Params = Params {
@@ -27,56 +26,67 @@ const SMALL: Params = Params {
 
 /// A fresh volume over a log, with these numbers. It lies in memory of its own, since a function that holds a value of so
 /// many parts takes the prover seconds.
-fn fresh(alloc: Global, params: Params) -> Result<Box<Volume<LogStore>>, Fail> {
-    let store = LogStore::format(alloc, params)?;
-    let volume = Volume::new(alloc, store, params.journal)?;
-    Ok(Box::new(alloc, volume)?)
+fn fresh(rt: &impl Abort, alloc: Global, params: Params) -> Box<Volume<LogStore>> {
+    let store = LogStore::format(alloc, params).expect(rt, "a store");
+    let volume = Volume::new(alloc, store, params.journal).expect(rt, "a volume");
+    Box::new(alloc, volume).expect(rt, "memory")
 }
 
 /// The most bytes of a script here: one of 100,000 calls is longer than a script that is read may be.
 const SCRIPT_MAX: usize = 2_097_152;
 
 /// What a script asks.
-fn plan_of(alloc: Global, script: &str) -> Result<Plan, Fail> {
-    if script.len() > SCRIPT_MAX {
-        return Err(Fail::from("a long script"));
-    }
-    Ok(parse_script(alloc, script.as_bytes())?)
+fn plan_of(rt: &impl Abort, alloc: Global, script: &str) -> Plan {
+    assert!(rt; script.len() <= SCRIPT_MAX);
+    parse_script(alloc, script.as_bytes()).expect(rt, "a script")
 }
 
 /// The users' calls of a script.
-fn calls(alloc: Global, script: &str) -> Result<Vec<Call>, Fail> {
-    let lines = plan_of(alloc, script)?.into_steps();
+fn calls(rt: &impl Abort, alloc: Global, script: &str) -> Vec<Call> {
     let mut calls = Vec::new(alloc);
-    for line in lines {
+    for line in plan_of(rt, alloc, script).into_steps() {
         let Step { session, cred, act } = line;
-        let request = match act {
-            Act::User(request) => request,
-            Act::Cleaner(_) | Act::Pass => continue,
-        };
-        calls.push(Call {
-            session,
-            cred,
-            request,
-        })?;
+        if let Act::User(request) = act {
+            let call = Call {
+                session,
+                cred,
+                request,
+            };
+            calls.push(call).expect(rt, "memory");
+        }
     }
-    Ok(calls)
+    calls
+}
+
+/// Appends a text.
+fn push(rt: &impl Abort, to: &mut String, text: &str) {
+    to.push_str(text).expect(rt, "memory");
 }
 
 /// Appends these pieces of a text. `write!` takes the prover many times as long.
-fn push_all(text: &mut String, pieces: &[&str]) -> Result<(), AllocError> {
+fn push_all(rt: &impl Abort, text: &mut String, pieces: &[&str]) {
     for piece in pieces {
-        text.push_str(piece)?;
+        push(rt, text, piece);
     }
-    Ok(())
+}
+
+/// A text so many times.
+fn repeated(rt: &impl Abort, alloc: Global, text: &str, times: usize) -> String {
+    text.repeat(alloc, times).expect(rt, "memory")
 }
 
 /// Appends the lines of answers to a session.
-fn append_answers(text: &mut Vec<u8>, session: u8, answers: &[Answer]) -> Result<(), AllocError> {
+fn append_answers(rt: &impl Abort, text: &mut Vec<u8>, session: u8, answers: &[Answer]) {
     for answer in answers {
-        append_answer(text, session, answer)?;
+        append_answer(text, session, answer).expect(rt, "memory");
     }
-    Ok(())
+}
+
+/// Asserts that answers to a session have these lines.
+fn expect_answers(rt: &impl Abort, alloc: Global, session: u8, answers: &[Answer], wanted: &str) {
+    let mut text = Vec::new(alloc);
+    append_answers(rt, &mut text, session, answers);
+    expect_lines(rt, text.as_slice(), wanted);
 }
 
 /// Asserts that lines are as they must be.

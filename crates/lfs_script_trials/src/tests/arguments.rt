@@ -7,7 +7,6 @@ use lfs_options::{DEFAULTS, Options, options_of};
 use lfs_types::store::Params;
 use std::alloc::Global;
 use std::process::Abort;
-use std::test::Fail;
 
 /// Words of a command line, and what they ask for.
 const TAKEN: [(&[&str], Options); 3] = [
@@ -62,11 +61,11 @@ const TAKEN: [(&[&str], Options); 3] = [
 ];
 
 #[test]
-fn parameters(rt: HostRuntime) -> Result<(), Fail> {
+fn parameters(rt: HostRuntime) {
     for (words, options) in TAKEN {
-        expect_eq(&rt, options_of(rt.alloc(), words)?, options);
+        let found = options_of(rt.alloc(), words).expect(&rt, "options");
+        expect_eq(&rt, found, options);
     }
-    Ok(())
 }
 
 /// Words of command lines that are refused.
@@ -92,32 +91,26 @@ const REFUSED: [&[&str]; 18] = [
 ];
 
 /// The fault of words that are refused, or a call for help.
-fn fault_of(alloc: Global, words: &[&str]) -> Result<Error, Fail> {
-    match options_of(alloc, words) {
-        Ok(_) => Err(Fail::from("no fault")),
-        Err(error) => Ok(error),
-    }
+fn fault_of(rt: &impl Abort, alloc: Global, words: &[&str]) -> Error {
+    options_of(alloc, words).err().expect(rt, "a fault")
 }
 
-/// The status with which the program ends at these words.
-fn status_of(alloc: Global, words: &[&str]) -> Result<i32, Fail> {
-    Ok(fault_of(alloc, words)?.exit_code())
+/// Asserts that the program ends with status 2 at these words.
+fn expect_refused(rt: &impl Abort, alloc: Global, words: &[&str]) {
+    expect_eq(rt, fault_of(rt, alloc, words).exit_code(), 2);
 }
 
-/// Asserts that what is told at these words has each of these parts.
-fn expect_told(rt: &impl Abort, alloc: Global, words: &[&str], parts: &[&str]) -> Result<(), Fail> {
-    let error = fault_of(alloc, words)?;
-    let text = format!(in alloc; "{error}")?;
+/// Asserts that what is told of a fault has each of these parts.
+fn expect_told(rt: &impl Abort, alloc: Global, error: &Error, parts: &[&str]) {
+    let text = format!(in alloc; "{error}").expect(rt, "memory");
     expect_parts(rt, text.as_str(), parts);
-    Ok(())
 }
 
 #[test]
-fn usage_faults(rt: HostRuntime) -> Result<(), Fail> {
+fn usage_faults(rt: HostRuntime) {
     for words in REFUSED {
-        expect_eq(&rt, status_of(rt.alloc(), words)?, 2);
+        expect_refused(&rt, rt.alloc(), words);
     }
-    Ok(())
 }
 
 /// What the help tells of, among others.
@@ -135,14 +128,18 @@ const HELP: &[&str] = &[
     "docs/FORMATS.md",
 ];
 
+/// Asserts that this is a call for help, which is told on standard output.
+fn expect_help(rt: &impl Abort, error: &Error) {
+    expect_eq(rt, error.kind(), ErrorKind::DisplayHelp);
+    expect_eq(rt, error.exit_code(), 0);
+    expect_eq(rt, error.use_stderr(), false);
+}
+
 #[test]
-fn help(rt: HostRuntime) -> Result<(), Fail> {
-    let error = fault_of(rt.alloc(), &["lfsd", "--help"])?;
-    expect_eq(&rt, error.kind(), ErrorKind::DisplayHelp);
-    expect_eq(&rt, error.exit_code(), 0);
-    expect_eq(&rt, error.use_stderr(), false);
-    drop(error);
-    expect_told(&rt, rt.alloc(), &["lfsd", "--help"], HELP)
+fn help(rt: HostRuntime) {
+    let error = fault_of(&rt, rt.alloc(), &["lfsd", "--help"]);
+    expect_help(&rt, &error);
+    expect_told(&rt, rt.alloc(), &error, HELP);
 }
 
 /// Words that are refused, and how the range is told.
@@ -157,10 +154,15 @@ const RANGES: [(&str, &str); 8] = [
     ("--journal=+1", "from 1 to 100000"),
 ];
 
+/// Asserts that the range is told where this word is refused.
+fn expect_range(rt: &impl Abort, alloc: Global, word: &str, range: &str) {
+    let error = fault_of(rt, alloc, &["lfsd", word]);
+    expect_told(rt, alloc, &error, &[range]);
+}
+
 #[test]
-fn usage_fault_names_the_range(rt: HostRuntime) -> Result<(), Fail> {
+fn usage_fault_names_the_range(rt: HostRuntime) {
     for (word, range) in RANGES {
-        expect_told(&rt, rt.alloc(), &["lfsd", word], &[range])?;
+        expect_range(&rt, rt.alloc(), word, range);
     }
-    Ok(())
 }

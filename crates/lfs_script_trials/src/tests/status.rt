@@ -1,11 +1,9 @@
-//! The status of a run, faults that can't be told, and a script that is cut.
+//! The status of a run, and faults that can't be told.
 
+use super::expect_eq;
 use super::fakes::Full;
-use super::{expect_eq, output_with};
 use lfs_audit::fault::{RunFault, ThreadsFault};
 use lfs_audit::tell::{end, tell};
-use lfs_options::DEFAULTS;
-use lfs_text::fault::{FaultKind, ScriptFault};
 
 /// How runs end, and the status and the text of each.
 const ENDS: [(Result<(), ThreadsFault>, u8, &[u8]); 2] = [
@@ -36,12 +34,4 @@ fn tell_to_a_writer_that_fails(rt: HostRuntime) {
         let fault = ThreadsFault::Run(RunFault::Read);
         expect_eq(&rt, tell(&mut writer, &fault), 1);
     }
-}
-
-#[test]
-fn line_without_line_feed(rt: HostRuntime) {
-    let kind = FaultKind::Cut;
-    let fault = RunFault::Script(ScriptFault { line: 1, kind });
-    let result = output_with(rt.alloc(), "create /a 0644", DEFAULTS);
-    expect_eq(&rt, result.err(), Some(fault));
 }

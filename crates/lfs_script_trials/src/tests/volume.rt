@@ -1,7 +1,7 @@
 //! A run of calls over a volume on the plain store, and its journal.
 
 use super::expect_eq;
-use lfs_text::plan::{Act, Plan};
+use lfs_text::plan::{Act, Step};
 use lfs_text::print::append_answer;
 use lfs_text::script::parse_script;
 use lfs_types::answer::Answer;
@@ -10,9 +10,8 @@ use lfs_types::rule::{Denial, Rule};
 use lfs_volume::flat_files::FlatFiles;
 use lfs_volume::journal::{Call, Entry, Event};
 use lfs_volume::volume::Volume;
-use std::alloc::{AllocError, Global};
+use std::alloc::Global;
 use std::process::Abort;
-use std::test::Fail;
 
 /// The superuser makes `/a` and writes it. User 5 reads it and would write it.
 const CALLS: &[u8] = b"\
@@ -32,47 +31,47 @@ const ANSWERS: &[u8] = b"\
 2 denied M2 EACCES 0 1
 ";
 
-/// The users' calls of a plan.
-fn calls_of(alloc: Global, plan: &Plan) -> Result<Vec<Call>, AllocError> {
+/// The users' calls of a script.
+fn calls_of(rt: &impl Abort, alloc: Global, script: &[u8]) -> Vec<Call> {
+    let plan = parse_script(alloc, script).expect(rt, "a script");
     let mut calls = Vec::new(alloc);
-    for step in plan.steps() {
-        if let Act::User(request) = &step.act {
-            calls.push(Call {
-                session: step.session,
-                cred: step.cred,
-                request: request.try_clone(alloc)?,
-            })?;
+    for step in plan.into_steps() {
+        let Step { session, cred, act } = step;
+        if let Act::User(request) = act {
+            let call = Call {
+                session,
+                cred,
+                request,
+            };
+            calls.push(call).expect(rt, "memory");
         }
     }
-    Ok(calls)
+    calls
 }
 
 /// The lines of answers in session 2.
-fn lines_of(alloc: Global, answers: &[Answer]) -> Result<Vec<u8>, AllocError> {
+fn lines_of(rt: &impl Abort, alloc: Global, answers: &[Answer]) -> Vec<u8> {
     let mut lines = Vec::new(alloc);
     for answer in answers {
-        append_answer(&mut lines, 2, answer)?;
+        append_answer(&mut lines, 2, answer).expect(rt, "memory");
     }
-    Ok(lines)
+    lines
 }
 
 /// A volume over a plain store. It lies in memory of its own, since a function that holds a value of so many parts takes
 /// the prover seconds.
-fn fresh(alloc: Global) -> Result<Box<Volume<FlatFiles>>, Fail> {
-    let volume = Volume::new(alloc, FlatFiles::new(alloc, 256)?, 4)?;
-    Ok(Box::new(alloc, volume)?)
+fn fresh(rt: &impl Abort, alloc: Global) -> Box<Volume<FlatFiles>> {
+    let files = FlatFiles::new(alloc, 256).expect(rt, "a store");
+    let volume = Volume::new(alloc, files, 4).expect(rt, "a volume");
+    Box::new(alloc, volume).expect(rt, "memory")
 }
 
 /// Asserts what a run of the calls answers.
-fn expect_answers(
-    rt: &impl Abort,
-    alloc: Global,
-    volume: &mut Volume<FlatFiles>,
-) -> Result<(), Fail> {
-    let calls = calls_of(alloc, &parse_script(alloc, CALLS)?)?;
-    let lines = lines_of(alloc, volume.run(calls)?.as_slice())?;
+fn expect_answers(rt: &impl Abort, alloc: Global, volume: &mut Volume<FlatFiles>) {
+    let calls = calls_of(rt, alloc, CALLS);
+    let answers = volume.run(calls).expect(rt, "a run");
+    let lines = lines_of(rt, alloc, answers.as_slice());
     expect_eq(rt, lines.as_slice(), ANSWERS);
-    Ok(())
 }
 
 /// Asserts what the volume shows behind the run.
@@ -84,11 +83,10 @@ fn expect_entered(rt: &impl Abort, volume: &Volume<FlatFiles>) {
 }
 
 #[test]
-fn run_answers_each_call_and_enters_it(rt: HostRuntime) -> Result<(), Fail> {
-    let mut volume = fresh(rt.alloc())?;
-    expect_answers(&rt, rt.alloc(), &mut *volume)?;
+fn run_answers_each_call_and_enters_it(rt: HostRuntime) {
+    let mut volume = fresh(&rt, rt.alloc());
+    expect_answers(&rt, rt.alloc(), &mut *volume);
     expect_entered(&rt, &*volume);
-    Ok(())
 }
 
 /// User 5 reads `/a`.
@@ -109,13 +107,13 @@ const NOT_GRANTED: Denial = Denial {
 };
 
 /// The entry of a call that was denied, as the name isn't there.
-fn entry(alloc: Global, call: &Call) -> Result<Entry, AllocError> {
-    let request = call.request.try_clone(alloc)?;
-    Ok(Entry {
+fn entry(rt: &impl Abort, alloc: Global, call: &Call) -> Entry {
+    let request = call.request.try_clone(alloc).expect(rt, "memory");
+    Entry {
         session: call.session,
         cred: call.cred,
         event: Event::User(request, Answer::Denied(NOT_THERE)),
-    })
+    }
 }
 
 /// Sessions and denials, and whether the entry is that of the call in this session, denied so.
@@ -139,12 +137,8 @@ fn expect_cases(rt: &impl Abort, entry: &Entry, call: &Call) {
 }
 
 #[test]
-fn entry_tells_whether_it_is_a_call(rt: HostRuntime) -> Result<(), Fail> {
-    let calls = calls_of(rt.alloc(), &parse_script(rt.alloc(), READ)?)?;
-    let [call] = calls.as_slice() else {
-        return Err(Fail::from("one call"));
-    };
-    let entry = entry(rt.alloc(), call)?;
-    expect_cases(&rt, &entry, call);
-    Ok(())
+fn entry_tells_whether_it_is_a_call(rt: HostRuntime) {
+    let calls = calls_of(&rt, rt.alloc(), READ);
+    let call = calls.first().expect(&rt, "a call");
+    expect_cases(&rt, &entry(&rt, rt.alloc(), call), call);
 }

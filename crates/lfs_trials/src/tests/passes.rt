@@ -7,7 +7,6 @@ use lfs_types::payload::Bytes;
 use lfs_volume::journal::CleanerAnswer;
 use std::alloc::Global;
 use std::process::Abort;
-use std::test::Fail;
 
 /// The bytes of an ifile of five segments: 1 is active, 2 and 4 are dirty with 512 live bytes, 3 with 768.
 const IFILE: [u8; 52] = [
@@ -30,7 +29,7 @@ fn info(lbn: u32, addr: u32) -> BlockInfo {
 }
 
 /// Ten blocks of a file, of which the last has this address.
-fn infos(last: u32) -> Result<InfoList, Fail> {
+fn infos(rt: &impl Abort, last: u32) -> InfoList {
     let infos = [
         info(0, 128),
         info(1, 129),
@@ -43,7 +42,7 @@ fn infos(last: u32) -> Result<InfoList, Fail> {
         info(8, 136),
         info(9, last),
     ];
-    Ok(InfoList::new(&infos).ok_or("infos")?)
+    InfoList::new(&infos).expect(rt, "infos")
 }
 
 /// A call in few words: its kind, and its segment or how many infos it has.
@@ -81,16 +80,21 @@ const LAST_CALLS: [InWords; 6] = [
     ("over", 0),
 ];
 
+/// The bytes of the ifile.
+fn ifile(rt: &impl Abort, alloc: Global) -> Bytes {
+    Bytes::from(Vec::from_slice(alloc, &IFILE).expect(rt, "memory"))
+}
+
 /// What a pass is told before it makes the call of a round that stands at this place behind the ifile.
-fn answer(alloc: Global, place: usize) -> Result<CleanerAnswer, Fail> {
-    Ok(match place {
-        0 => CleanerAnswer::Ifile(Bytes::from(Vec::from_slice(alloc, &IFILE)?)),
-        1 => CleanerAnswer::Infos(infos(137)?),
-        2 => CleanerAnswer::Bmapv(infos(0)?),
+fn answer(rt: &impl Abort, alloc: Global, place: usize) -> CleanerAnswer {
+    match place {
+        0 => CleanerAnswer::Ifile(ifile(rt, alloc)),
+        1 => CleanerAnswer::Infos(infos(rt, 137)),
+        2 => CleanerAnswer::Bmapv(infos(rt, 0)),
         3 => CleanerAnswer::Marked(8),
         4 => CleanerAnswer::Marked(1),
         _ => CleanerAnswer::Cleaned,
-    })
+    }
 }
 
 /// Asserts that a pass that is told this calls so next.
@@ -100,33 +104,26 @@ fn next_is(rt: &impl Abort, pass: &mut Pass, last: Option<&CleanerAnswer>, call:
 }
 
 /// Asserts that a pass that asked for the ifile makes these calls, told the answers of a round.
-fn calls_are(
-    rt: &impl Abort,
-    alloc: Global,
-    pass: &mut Pass,
-    calls: &[InWords],
-) -> Result<(), Fail> {
+fn calls_are(rt: &impl Abort, alloc: Global, pass: &mut Pass, calls: &[InWords]) {
     for (place, call) in calls.iter().enumerate() {
-        let answer = answer(alloc, place)?;
-        next_is(rt, pass, Some(&answer), *call);
+        next_is(rt, pass, Some(&answer(rt, alloc, place)), *call);
     }
-    Ok(())
 }
 
 #[test]
-fn pass_has_three_rounds(rt: HostRuntime) -> Result<(), Fail> {
+fn pass_has_three_rounds(rt: HostRuntime) {
     let mut pass = Pass::new();
     next_is(&rt, &mut pass, None, ("ifile", 0));
-    calls_are(&rt, rt.alloc(), &mut pass, &CALLS)?;
-    calls_are(&rt, rt.alloc(), &mut pass, &CALLS)?;
-    calls_are(&rt, rt.alloc(), &mut pass, &LAST_CALLS)
+    calls_are(&rt, rt.alloc(), &mut pass, &CALLS);
+    calls_are(&rt, rt.alloc(), &mut pass, &CALLS);
+    calls_are(&rt, rt.alloc(), &mut pass, &LAST_CALLS);
 }
 
 #[test]
-fn fault_ends_a_pass(rt: HostRuntime) -> Result<(), Fail> {
+fn fault_ends_a_pass(rt: HostRuntime) {
     let fault = CleanerAnswer::Fault(CleanFault::NotDirty);
     let mut pass = Pass::new();
     pass.next(None);
     next_is(&rt, &mut pass, Some(&fault), ("over", 0));
-    calls_are(&rt, rt.alloc(), &mut pass, &[("over", 0); 5])
+    calls_are(&rt, rt.alloc(), &mut pass, &[("over", 0); 5]);
 }

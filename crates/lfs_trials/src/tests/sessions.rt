@@ -7,7 +7,7 @@ mod settling;
 mod soak;
 mod watch;
 
-use crate::tests::{append_answers, expect_eq, plan_of};
+use crate::tests::{append_answers, expect_eq, expect_lines, plan_of};
 use lfs_logstore::LogStore;
 use lfs_server::gate::Gate;
 use lfs_server::serve::serve;
@@ -19,10 +19,9 @@ use lfs_types::payload::Bytes;
 use lfs_types::script::Script;
 use lfs_types::store::{FileStore, Params};
 use lfs_volume::volume::Volume;
-use std::alloc::{AllocError, Global};
+use std::alloc::Global;
 use std::process::Abort;
 use std::sync::Wait;
-use std::test::Fail;
 use std::thread::Threads;
 
 /// The session of the cleaner.
@@ -46,21 +45,22 @@ read /y 0 9
 ";
 
 /// What a script asks for in its setup, and in each session.
-fn split(alloc: Global, script: &str) -> Result<(Script, Vec<Script>), Fail> {
-    Ok(plan_of(alloc, script)?.split(alloc)?)
+fn split(rt: &impl Abort, alloc: Global, script: &str) -> (Script, Vec<Script>) {
+    let plan = plan_of(rt, alloc, script);
+    plan.split(alloc).expect(rt, "sessions")
 }
 
 /// Runs a script on a fresh volume over a log. What it leaves lies in memory of its own, as a fresh volume does.
-fn serve_log<R: Threads + Wait + Sync, G: Gate>(
+fn serve_log<R: Abort + Threads + Wait + Sync, G: Gate>(
     rt: &R,
     alloc: Global,
     params: Params,
     script: &str,
     gate: &G,
-) -> Result<Box<Closed<LogStore>>, Fail> {
-    let (setup, sessions) = split(alloc, script)?;
-    let closed = serve(rt, alloc, params, setup, sessions, gate)?;
-    Ok(Box::new(alloc, closed)?)
+) -> Box<Closed<LogStore>> {
+    let (setup, sessions) = split(rt, alloc, script);
+    let closed = serve(rt, alloc, params, setup, sessions, gate);
+    Box::new(alloc, closed.expect(rt, "a run")).expect(rt, "memory")
 }
 
 /// Asserts that a script without a session is not run.
@@ -69,28 +69,27 @@ fn assert_no_run<R: Abort + Threads + Wait + Sync, F: CleanedStore + Send + Drop
     alloc: Global,
     volume: Volume<F>,
     script: &str,
-) -> Result<(), Fail> {
-    let (setup, sessions) = split(alloc, script)?;
+) {
+    let (setup, sessions) = split(rt, alloc, script);
     let fault = serve_over(rt, alloc, volume, setup, sessions, &()).err();
     expect_eq(rt, fault, Some(ServeFault::Sessions));
-    Ok(())
 }
 
-/// The lines of the answers to sessions, session 1's first.
-fn lines_of(alloc: Global, transcripts: &[Vec<Answer>]) -> Result<Vec<u8>, AllocError> {
+/// Asserts that sessions were answered so, session 1's lines first.
+fn assert_answers(rt: &impl Abort, alloc: Global, transcripts: &[Vec<Answer>], wanted: &str) {
     let mut text = Vec::new(alloc);
     let mut session = 0u8;
     for transcript in transcripts {
         session = session.saturating_add(1);
-        append_answers(&mut text, session, transcript.as_slice())?;
+        append_answers(rt, &mut text, session, transcript.as_slice());
     }
-    Ok(text)
+    expect_lines(rt, text.as_slice(), wanted);
 }
 
 /// The answer to a Read that gives these bytes.
-fn bytes_read(alloc: Global, bytes: &[u8]) -> Result<Answer, AllocError> {
-    let bytes = Vec::from_slice(alloc, bytes)?;
-    Ok(Answer::Served(Served::Bytes(Bytes::from(bytes))))
+fn bytes_read(rt: &impl Abort, alloc: Global, bytes: &[u8]) -> Answer {
+    let bytes = Vec::from_slice(alloc, bytes).expect(rt, "memory");
+    Answer::Served(Served::Bytes(Bytes::from(bytes)))
 }
 
 /// Asserts that settling says this of a script of at most eight sessions, and of these answers to its setup and to them.
@@ -101,13 +100,12 @@ fn expect_settled<F: FileStore + Drop>(
     script: &str,
     (answers, transcripts): (&[Answer], &[Vec<Answer>]),
     wanted: Result<(), Unsettled>,
-) -> Result<(), Fail> {
-    let (setup, scripts) = split(alloc, script)?;
+) {
+    let (setup, scripts) = split(rt, alloc, script);
     let scripts = scripts.as_slice();
     assert!(rt; scripts.len() <= 8 && transcripts.len() <= 8);
     let result = settle(volume, &setup, answers, scripts, transcripts);
     expect_eq(rt, result, wanted);
-    Ok(())
 }
 
 /// Asserts that settling says this of a run of a script.
@@ -117,7 +115,7 @@ fn expect_run_settled<F: FileStore + Drop>(
     closed: &Closed<F>,
     script: &str,
     wanted: Result<(), Unsettled>,
-) -> Result<(), Fail> {
+) {
     let answers = (closed.setup.as_slice(), closed.transcripts.as_slice());
-    expect_settled(rt, alloc, &closed.volume, script, answers, wanted)
+    expect_settled(rt, alloc, &closed.volume, script, answers, wanted);
 }

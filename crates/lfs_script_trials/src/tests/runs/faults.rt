@@ -8,9 +8,11 @@ use lfs_server::serving::ServeFault;
 use lfs_text::fault::{FaultKind, ScriptFault};
 use lfs_types::fault::FormatFault;
 use lfs_types::store::Params;
-use std::alloc::{AllocError, Global};
+use std::alloc::Global;
 use std::io::ErrorKind;
-use std::test::Fail;
+use std::process::Abort;
+use std::sync::Wait;
+use std::thread::Threads;
 
 /// One segment less than a volume may have.
 const TOO_FEW: Params = Params {
@@ -25,28 +27,32 @@ const TOO_MANY: Params = Params {
 };
 
 /// One byte more than a script may have.
-fn long_line(alloc: Global) -> Result<Vec<u8>, AllocError> {
-    let mut script = Vec::new(alloc);
-    for _ in 0..1_048_577 {
-        script.push(b'x')?;
-    }
-    Ok(script)
+fn long_line(rt: &impl Abort, alloc: Global) -> Vec<u8> {
+    vec![in alloc; b'x'; 1_048_577].expect(rt, "memory")
+}
+
+/// Asserts that a run of these bytes in a reader that fails once so many reads are done ends in this fault, on threads too.
+fn expect_fault<S: Abort + Threads + Wait + Sync>(
+    rt: &S,
+    alloc: Global,
+    rest: &[u8],
+    reads: usize,
+    fault: RunFault,
+) {
+    let kind = ErrorKind::Other;
+    let mut reader = Failing { rest, reads, kind };
+    expect_unwritten(rt, alloc, &mut reader, PARAMS, fault);
+    let mut reader = Failing { rest, reads, kind };
+    let fault = ThreadsFault::Run(fault);
+    expect_threads_unwritten(rt, alloc, &mut reader, PARAMS, fault);
 }
 
 #[test]
-fn reading_ends_at_its_first_fault(rt: HostRuntime) -> Result<(), Fail> {
-    let alloc = rt.alloc();
-    let script = long_line(alloc)?;
-    let rest = script.as_slice();
-    let kind = ErrorKind::Other;
+fn reading_ends_at_its_first_fault(rt: HostRuntime) {
+    let script = long_line(&rt, rt.alloc());
     for (reads, fault) in [(1_048_576, RunFault::Read), (1_048_577, RunFault::TooLong)] {
-        let mut reader = Failing { rest, reads, kind };
-        expect_unwritten(&rt, alloc, &mut reader, PARAMS, fault);
-        let mut reader = Failing { rest, reads, kind };
-        let fault = ThreadsFault::Run(fault);
-        expect_threads_unwritten(&rt, alloc, &mut reader, PARAMS, fault);
+        expect_fault(&rt, rt.alloc(), script.as_slice(), reads, fault);
     }
-    Ok(())
 }
 
 /// Scripts, and the fault of a line that each has on threads.
@@ -82,20 +88,20 @@ fn faults_on_threads_come_in_their_order(rt: HostRuntime) {
     }
 }
 
-#[test]
-fn threads_without_a_session(rt: HostRuntime) {
-    let alloc = rt.alloc();
-    let mut script = b"\
+/// Calls that would be served, outside a session.
+const NO_SESSION: &[u8] = b"\
 as 0 0
 create /a 0644
 write /a at 0 616263
 as 5 5
 read /a 0 10
 write /a at 0 64
-"
-        .as_slice();
-    expect_threads_unwritten(&rt, alloc, &mut script, PARAMS, NO_SESSIONS);
-    expect_told(&rt, alloc, NO_SESSIONS, b"lfsd: serve Sessions\n");
+";
+
+#[test]
+fn threads_without_a_session(rt: HostRuntime) {
+    expect_threads_unwritten(&rt, rt.alloc(), &mut &*NO_SESSION, PARAMS, NO_SESSIONS);
+    expect_told(&rt, rt.alloc(), NO_SESSIONS, b"lfsd: serve Sessions\n");
 }
 
 #[test]

@@ -5,11 +5,12 @@ use super::{PARAMS, expect_eq};
 use lfs_audit::run::run_over;
 use lfs_volume::flat_files::FlatFiles;
 use lfs_volume::volume::Volume;
-use std::test::Fail;
+use std::alloc::Global;
+use std::process::Abort;
 
-#[test]
-fn cleaner_lines(rt: HostRuntime) -> Result<(), Fail> {
-    let script = b"session 3
+/// The superuser's lines, and those of user 5.
+const SCRIPT: &[u8] = b"\
+session 3
 create /a 0644
 segclean 1
 infos 2
@@ -23,7 +24,9 @@ pass
 segclean 0
 markv
 ";
-    let expected = b"\
+
+/// What they print.
+const PRINTED: &[u8] = b"\
 3 ok
 3 cleaner segclean fault NotDirty
 3 cleaner infos fault NotDirty
@@ -41,11 +44,24 @@ refused 0
 cleaner 7
 rule U1 3
 ";
-    let alloc = rt.alloc();
-    let store = Unswept::new(FlatFiles::new(alloc, 64)?);
-    let mut volume = Volume::new(alloc, store, PARAMS.journal)?;
+
+/// A volume whose cleaner finds nothing to do. It lies in memory of its own, since a function that holds a value of so many
+/// parts takes the prover seconds.
+fn unswept(rt: &impl Abort, alloc: Global) -> Box<Volume<Unswept>> {
+    let files = FlatFiles::new(alloc, 64).expect(rt, "a store");
+    let volume = Volume::new(alloc, Unswept::new(files), PARAMS.journal).expect(rt, "a volume");
+    Box::new(alloc, volume).expect(rt, "memory")
+}
+
+/// Asserts that a run of the script over a volume prints these lines.
+fn expect_printed(rt: &impl Abort, alloc: Global, volume: &mut Volume<Unswept>) {
     let mut writer = Vec::new(alloc);
-    run_over(alloc, &mut script.as_slice(), &mut writer, &mut volume)?;
-    expect_eq(&rt, writer.as_slice(), expected.as_slice());
-    Ok(())
+    run_over(alloc, &mut &*SCRIPT, &mut writer, volume).expect(rt, "a run");
+    expect_eq(rt, writer.as_slice(), PRINTED);
+}
+
+#[test]
+fn cleaner_lines(rt: HostRuntime) {
+    let mut volume = unswept(&rt, rt.alloc());
+    expect_printed(&rt, rt.alloc(), &mut *volume);
 }

@@ -4,9 +4,9 @@ use super::fakes::{Endless, Failing, Full, Slow};
 use super::{LONG_READS, PARAMS, WRITERS, expect_end, expect_eq, expect_unwritten};
 use lfs_audit::fault::RunFault;
 use lfs_text::fault::{FaultKind, ScriptFault};
-use std::alloc::{AllocError, Global};
+use std::alloc::Global;
 use std::io::ErrorKind;
-use std::test::Fail;
+use std::process::Abort;
 
 const SCRIPT: &[u8] = b"create /a 0644\nwrite /a at 0 616263\nread /a 0 10\nstat /a\n";
 
@@ -43,33 +43,42 @@ fn reader_that_never_ends(rt: HostRuntime) {
     expect_eq(&rt, reader.reads, 1_048_577);
 }
 
-/// A script of 1,048,576 bytes, each line a comment.
-fn comments(alloc: Global) -> Result<Vec<u8>, AllocError> {
+/// A script of 1,048,576 bytes, each line a comment, and a byte behind it.
+fn comments(rt: &impl Abort, alloc: Global) -> Vec<u8> {
     let mut script = Vec::new(alloc);
     for _ in 0..524_288 {
-        script.extend_from_slice(b"#\n")?;
+        script.extend_from_slice(b"#\n").expect(rt, "memory");
     }
-    Ok(script)
+    script.push(b'x').expect(rt, "memory");
+    script
+}
+
+/// The report where no call was made.
+const NO_CALLS: &[u8] = b"entries 0\nserved 0\ndenied 0\nrefused 0\ncleaner 0\n";
+
+/// Asserts that a run of this script is done, and prints the report alone.
+fn expect_no_calls(rt: &impl Abort, alloc: Global, mut script: &[u8]) {
+    let mut writer = Vec::new(alloc);
+    expect_end(rt, alloc, &mut script, &mut writer, Ok(()));
+    expect_eq(rt, writer.as_slice(), NO_CALLS);
+}
+
+/// Asserts that a run of this script ends in this fault, with nothing written.
+fn expect_fault(rt: &impl Abort, alloc: Global, mut script: &[u8], fault: RunFault) {
+    expect_unwritten(rt, alloc, &mut script, PARAMS, fault);
 }
 
 #[test]
-fn longest_script(rt: HostRuntime) -> Result<(), Fail> {
-    let alloc = rt.alloc();
-    let mut script = comments(alloc)?;
-    let mut writer = Vec::new(alloc);
-    expect_end(&rt, alloc, &mut script.as_slice(), &mut writer, Ok(()));
-    let report = b"entries 0\nserved 0\ndenied 0\nrefused 0\ncleaner 0\n";
-    expect_eq(&rt, writer.as_slice(), report.as_slice());
-    drop(writer);
-    script.push(b'x')?;
-    let fault = RunFault::TooLong;
-    expect_unwritten(&rt, alloc, &mut script.as_slice(), PARAMS, fault);
+fn longest_script(rt: HostRuntime) {
+    let mut script = comments(&rt, rt.alloc());
+    expect_fault(&rt, rt.alloc(), script.as_slice(), RunFault::TooLong);
+    script.truncate(1_048_576);
+    expect_no_calls(&rt, rt.alloc(), script.as_slice());
     script.truncate(1_048_575);
-    let line = 524_288;
     let kind = FaultKind::Cut;
+    let line = 524_288;
     let fault = RunFault::Script(ScriptFault { line, kind });
-    expect_unwritten(&rt, alloc, &mut script.as_slice(), PARAMS, fault);
-    Ok(())
+    expect_fault(&rt, rt.alloc(), script.as_slice(), fault);
 }
 
 #[test]

@@ -1,8 +1,8 @@
 //! What no clause says of a run over the log store: that sessions and the cleaner really run beside each other.
 
-use super::CLEANER;
-use super::log::{BOTH, FIRST, WRITES, assert_answers, assert_served, serve_users};
+use super::log::{BOTH, FIRST, WRITES, assert_served, serve_users};
 use super::watch::Watch;
+use super::{CLEANER, assert_answers};
 use lfs_logstore::LogStore;
 use lfs_server::gate::Gate;
 use lfs_server::serving::Closed;
@@ -10,7 +10,6 @@ use lfs_volume::journal::{CleanerKind, CleanerOutcome, Entry, Event};
 use std::alloc::Global;
 use std::process::Abort;
 use std::sync::Wait;
-use std::test::Fail;
 use std::thread::Threads;
 
 /// Holds the first call of each of two sessions until the other's is begun, and the second until the other's first is
@@ -55,20 +54,20 @@ fn serve_at_meeting<R: Abort + Threads + Wait + Sync>(
     rt: &R,
     alloc: Global,
     gate: &Meeting<'_, R>,
-) -> Result<(), Fail> {
-    let closed = serve_users(rt, alloc, WRITES, BOTH, gate)?;
+) {
+    let closed = serve_users(rt, alloc, WRITES, BOTH, gate);
     assert_unfailed(rt, &gate.begun);
     assert_unfailed(rt, &gate.made);
-    assert_served(rt, alloc, &closed)
+    assert_served(rt, alloc, &closed);
 }
 
 #[test]
-fn two_sessions_meet(rt: HostRuntime) -> Result<(), Fail> {
+fn two_sessions_meet(rt: HostRuntime) {
     let gate = Meeting {
         begun: Watch::new(&rt, rt.alloc()),
         made: Watch::new(&rt, rt.alloc()),
     };
-    serve_at_meeting(&rt, rt.alloc(), &gate)
+    serve_at_meeting(&rt, rt.alloc(), &gate);
 }
 
 /// Which call of a pass is the first Bmapv.
@@ -117,30 +116,22 @@ fn is_called_between(journal: &[Entry]) -> bool {
 const FIRST_ANSWERS: &str = "1 ok\n1 ok\n1 bytes 6869\n1 names a\n";
 
 /// Asserts that session 1 called between the cleaner's Bmapv and Markv, and was answered as it must be.
-fn assert_called_between(
-    rt: &impl Abort,
-    alloc: Global,
-    closed: &Closed<LogStore>,
-) -> Result<(), Fail> {
+fn assert_called_between(rt: &impl Abort, alloc: Global, closed: &Closed<LogStore>) {
     assert!(rt; is_called_between(closed.volume.journal()));
-    assert_answers(rt, alloc, closed, FIRST_ANSWERS)
+    assert_answers(rt, alloc, closed.transcripts.as_slice(), FIRST_ANSWERS);
 }
 
 /// Runs the first session at this gate, with the file written 25 times before, and asserts that it called between.
-fn serve_between<R: Abort + Threads + Wait + Sync>(
-    rt: &R,
-    alloc: Global,
-    gate: &Between<'_, R>,
-) -> Result<(), Fail> {
-    let closed = serve_users(rt, alloc, 25, FIRST, gate)?;
+fn serve_between<R: Abort + Threads + Wait + Sync>(rt: &R, alloc: Global, gate: &Between<'_, R>) {
+    let closed = serve_users(rt, alloc, 25, FIRST, gate);
     assert_unfailed(rt, &gate.watch);
-    assert_called_between(rt, alloc, &closed)
+    assert_called_between(rt, alloc, &closed);
 }
 
 #[test]
-fn write_between_bmapv_and_markv(rt: HostRuntime) -> Result<(), Fail> {
+fn write_between_bmapv_and_markv(rt: HostRuntime) {
     let gate = Between {
         watch: Watch::new(&rt, rt.alloc()),
     };
-    serve_between(&rt, rt.alloc(), &gate)
+    serve_between(&rt, rt.alloc(), &gate);
 }

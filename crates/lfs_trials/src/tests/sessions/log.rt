@@ -1,15 +1,14 @@
 //! Runs of two users' sessions over the log store.
 
-use super::{assert_no_run, expect_run_settled, expect_settled, lines_of, serve_log};
-use crate::tests::{SMALL, expect_lines, fresh};
+use super::{assert_answers, assert_no_run, expect_run_settled, expect_settled, serve_log};
+use crate::tests::{SMALL, fresh, push};
 use lfs_logstore::LogStore;
 use lfs_server::gate::Gate;
 use lfs_server::serving::Closed;
 use lfs_server::settle::Unsettled;
-use std::alloc::{AllocError, Global};
+use std::alloc::Global;
 use std::process::Abort;
 use std::sync::Wait;
-use std::test::Fail;
 use std::thread::Threads;
 
 /// Two directories for all, and a file of the superuser's.
@@ -19,14 +18,14 @@ const PLACES: &str = "mkdir /x 0777\nmkdir /y 0777\ncreate /w 0644\n";
 const WRITTEN: &str = "write /w at 0 61\nsync\n";
 
 /// The setup makes these, and writes and syncs the file so often; then come these sessions.
-fn script(alloc: Global, writes: u32, sessions: &str) -> Result<String, AllocError> {
+fn script(rt: &impl Abort, alloc: Global, writes: usize, sessions: &str) -> String {
     let mut script = String::new(alloc);
-    script.push_str(PLACES)?;
+    push(rt, &mut script, PLACES);
     for _ in 0..writes {
-        script.push_str(WRITTEN)?;
+        push(rt, &mut script, WRITTEN);
     }
-    script.push_str(sessions)?;
-    Ok(script)
+    push(rt, &mut script, sessions);
+    script
 }
 
 /// User 7 makes a file, writes and reads it, and lists its directory.
@@ -68,41 +67,25 @@ const ANSWERS: &str = "\
 ";
 
 /// Runs these sessions, with the file written so often before.
-pub fn serve_users<R: Threads + Wait + Sync, G: Gate>(
+pub fn serve_users<R: Abort + Threads + Wait + Sync, G: Gate>(
     rt: &R,
     alloc: Global,
-    writes: u32,
+    writes: usize,
     sessions: &str,
     gate: &G,
-) -> Result<Box<Closed<LogStore>>, Fail> {
-    let script = script(alloc, writes, sessions)?;
+) -> Box<Closed<LogStore>> {
+    let script = script(rt, alloc, writes, sessions);
     serve_log(rt, alloc, SMALL, script.as_str(), gate)
 }
 
 /// How often the file is written before the sessions of both.
-pub const WRITES: u32 = 40;
-
-/// Asserts that sessions were answered so.
-pub fn assert_answers(
-    rt: &impl Abort,
-    alloc: Global,
-    closed: &Closed<LogStore>,
-    answers: &str,
-) -> Result<(), Fail> {
-    let lines = lines_of(alloc, closed.transcripts.as_slice())?;
-    expect_lines(rt, lines.as_slice(), answers);
-    Ok(())
-}
+pub const WRITES: usize = 40;
 
 /// Asserts of a run of both that they were answered as they must be, and that this settles.
-pub fn assert_served(
-    rt: &impl Abort,
-    alloc: Global,
-    closed: &Closed<LogStore>,
-) -> Result<(), Fail> {
-    assert_answers(rt, alloc, closed, ANSWERS)?;
-    let script = script(alloc, WRITES, BOTH)?;
-    expect_run_settled(rt, alloc, closed, script.as_str(), Ok(()))
+pub fn assert_served(rt: &impl Abort, alloc: Global, closed: &Closed<LogStore>) {
+    assert_answers(rt, alloc, closed.transcripts.as_slice(), ANSWERS);
+    let script = script(rt, alloc, WRITES, BOTH);
+    expect_run_settled(rt, alloc, closed, script.as_str(), Ok(()));
 }
 
 /// Both again, where user 7 writes other bytes, and so reads others.
@@ -121,30 +104,30 @@ read /y/b 0 1
 write /w at 0 62
 ";
 
-/// Asserts that a run of both was served so, and that it doesn't settle with the answers to those who write otherwise.
-fn assert_only_so_served<R: Abort + Threads + Wait + Sync>(
-    rt: &R,
+/// Asserts that a run of both doesn't settle with the answers to those who write otherwise.
+fn assert_unsettled(
+    rt: &impl Abort,
     alloc: Global,
-    closed: &Closed<LogStore>,
-) -> Result<(), Fail> {
-    assert_served(rt, alloc, closed)?;
-    let other = serve_users(rt, alloc, WRITES, OTHERWISE, &())?;
-    let script = script(alloc, WRITES, BOTH)?;
-    let answers = (closed.setup.as_slice(), other.transcripts.as_slice());
+    run: &Closed<LogStore>,
+    other: &Closed<LogStore>,
+) {
+    let script = script(rt, alloc, WRITES, BOTH);
+    let answers = (run.setup.as_slice(), other.transcripts.as_slice());
     let wanted = Err(Unsettled(1));
-    expect_settled(rt, alloc, &closed.volume, script.as_str(), answers, wanted)
+    expect_settled(rt, alloc, &run.volume, script.as_str(), answers, wanted);
 }
 
 #[test]
-fn two_sessions_run_over_a_log(rt: HostRuntime) -> Result<(), Fail> {
-    let closed = serve_users(&rt, rt.alloc(), WRITES, BOTH, &())?;
-    assert_only_so_served(&rt, rt.alloc(), &closed)
+fn two_sessions_run_over_a_log(rt: HostRuntime) {
+    let closed = serve_users(&rt, rt.alloc(), WRITES, BOTH, &());
+    assert_served(&rt, rt.alloc(), &closed);
+    let other = serve_users(&rt, rt.alloc(), WRITES, OTHERWISE, &());
+    assert_unsettled(&rt, rt.alloc(), &closed, &other);
 }
 
 #[test]
-fn no_session_is_no_run_over_a_log(rt: HostRuntime) -> Result<(), Fail> {
-    let alloc = rt.alloc();
-    let script = script(alloc, WRITES, "")?;
-    let volume = fresh(alloc, SMALL)?;
-    assert_no_run(&rt, alloc, Box::into_inner(volume), script.as_str())
+fn no_session_is_no_run_over_a_log(rt: HostRuntime) {
+    let script = script(&rt, rt.alloc(), WRITES, "");
+    let volume = Box::into_inner(fresh(&rt, rt.alloc(), SMALL));
+    assert_no_run(&rt, rt.alloc(), volume, script.as_str());
 }

@@ -1,8 +1,10 @@
 //! What no clause says of a run on threads: that it ends, and is handed out.
 
 use super::watch::Watch;
-use super::{BOTH_FILES, BOTH_USERS, CLEANER, assert_no_run, expect_run_settled, lines_of, split};
-use crate::tests::{expect_eq, expect_lines};
+use super::{
+    BOTH_FILES, BOTH_USERS, CLEANER, assert_answers, assert_no_run, expect_run_settled, split,
+};
+use crate::tests::expect_eq;
 use lfs_flatfiles::flat_files::FlatFiles;
 use lfs_server::gate::Gate;
 use lfs_server::serving::{Closed, serve_over};
@@ -14,7 +16,6 @@ use lfs_volume::volume::Volume;
 use std::alloc::{AllocError, Global};
 use std::process::Abort;
 use std::sync::Wait;
-use std::test::Fail;
 use std::thread::Threads;
 
 /// The plain store, of which nothing is dirty and whose ifile wants memory.
@@ -84,21 +85,21 @@ impl CleanedStore for Plain {
 }
 
 /// A volume over such a store, with this limit of its journal.
-fn plain_volume(alloc: Global, journal: u32) -> Result<Volume<Plain>, Fail> {
-    let files = FlatFiles::new(alloc, 16)?;
-    Ok(Volume::new(alloc, Plain { files }, journal)?)
+fn plain_volume(rt: &impl Abort, alloc: Global, journal: u32) -> Volume<Plain> {
+    let files = FlatFiles::new(alloc, 16).expect(rt, "a store");
+    Volume::new(alloc, Plain { files }, journal).expect(rt, "a volume")
 }
 
 /// Runs a script on such a volume.
-fn serve_plain<R: Threads + Wait + Sync, G: Gate>(
+fn serve_plain<R: Abort + Threads + Wait + Sync, G: Gate>(
     rt: &R,
     alloc: Global,
     script: &str,
     gate: &G,
-) -> Result<Closed<Plain>, Fail> {
-    let (setup, sessions) = split(alloc, script)?;
-    let volume = plain_volume(alloc, 64)?;
-    Ok(serve_over(rt, alloc, volume, setup, sessions, gate)?)
+) -> Closed<Plain> {
+    let (setup, sessions) = split(rt, alloc, script);
+    let volume = plain_volume(rt, alloc, 64);
+    serve_over(rt, alloc, volume, setup, sessions, gate).expect(rt, "a run")
 }
 
 /// How many answers the setup had, how many sessions there were, and how many entries the journal has.
@@ -111,16 +112,15 @@ fn sizes(closed: &Closed<Plain>) -> [usize; 3] {
 }
 
 #[test]
-fn sessions_run_on_threads(rt: HostRuntime) -> Result<(), Fail> {
-    let closed = serve_plain(&rt, rt.alloc(), BOTH_USERS, &())?;
+fn sessions_run_on_threads(rt: HostRuntime) {
+    let closed = serve_plain(&rt, rt.alloc(), BOTH_USERS, &());
     expect_eq(&rt, sizes(&closed), [2, 2, 6]);
-    Ok(())
 }
 
 #[test]
-fn no_session_is_no_run(rt: HostRuntime) -> Result<(), Fail> {
-    let volume = plain_volume(rt.alloc(), 64)?;
-    assert_no_run(&rt, rt.alloc(), volume, BOTH_FILES)
+fn no_session_is_no_run(rt: HostRuntime) {
+    let volume = plain_volume(&rt, rt.alloc(), 64);
+    assert_no_run(&rt, rt.alloc(), volume, BOTH_FILES);
 }
 
 /// Notes the calls that the cleaner begins.
@@ -154,18 +154,17 @@ fn assert_one_call(rt: &impl Abort, watch: &Watch<'_, impl Wait>) {
 const ONE_SESSION: &str = "session 1\ncreate /x 0666\ncreate /y 0666\n";
 
 /// Asserts that one session was answered, twice, each time that the file is made, and that this settles.
-fn assert_one_session(rt: &impl Abort, alloc: Global, closed: &Closed<Plain>) -> Result<(), Fail> {
-    let lines = lines_of(alloc, closed.transcripts.as_slice())?;
-    expect_lines(rt, lines.as_slice(), "1 ok\n1 ok\n");
-    expect_run_settled(rt, alloc, closed, ONE_SESSION, Ok(()))
+fn assert_one_session(rt: &impl Abort, alloc: Global, closed: &Closed<Plain>) {
+    assert_answers(rt, alloc, closed.transcripts.as_slice(), "1 ok\n1 ok\n");
+    expect_run_settled(rt, alloc, closed, ONE_SESSION, Ok(()));
 }
 
 #[test]
-fn session_is_run_and_settles(rt: HostRuntime) -> Result<(), Fail> {
+fn session_is_run_and_settles(rt: HostRuntime) {
     let gate = Cleanings {
         watch: Watch::new(&rt, rt.alloc()),
     };
-    let closed = serve_plain(&rt, rt.alloc(), ONE_SESSION, &gate)?;
+    let closed = serve_plain(&rt, rt.alloc(), ONE_SESSION, &gate);
     assert_one_call(&rt, &gate.watch);
-    assert_one_session(&rt, rt.alloc(), &closed)
+    assert_one_session(&rt, rt.alloc(), &closed);
 }

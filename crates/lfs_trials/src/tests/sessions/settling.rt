@@ -1,14 +1,13 @@
 //! What no clause says of settling: that a run that was really made settles.
 
 use super::{BOTH_USERS, bytes_read, expect_settled};
-use crate::tests::calls;
+use crate::tests::{calls, repeated};
 use lfs_flatfiles::flat_files::FlatFiles;
 use lfs_server::settle::Unsettled;
 use lfs_types::answer::{Answer, Served};
 use lfs_volume::volume::Volume;
-use std::alloc::{AllocError, Global};
+use std::alloc::Global;
 use std::process::Abort;
-use std::test::Fail;
 
 /// The calls of both users, which alternate.
 const RUN: &str = "\
@@ -38,20 +37,21 @@ read /x 0 9
 
 /// Makes the calls of a script on a volume over the plain store, in the order of its lines, with this limit of its
 /// journal.
-fn run(alloc: Global, script: &str, journal: u32) -> Result<Volume<FlatFiles>, Fail> {
-    let files = FlatFiles::new(alloc, 16)?;
-    let mut volume = Volume::new(alloc, files, journal)?;
-    volume.run(calls(alloc, script)?)?;
-    Ok(volume)
+fn run(rt: &impl Abort, alloc: Global, script: &str, journal: u32) -> Box<Volume<FlatFiles>> {
+    let files = FlatFiles::new(alloc, 16).expect(rt, "a store");
+    let mut volume = Volume::new(alloc, files, journal).expect(rt, "a volume");
+    volume.run(calls(rt, alloc, script)).expect(rt, "a run");
+    Box::new(alloc, volume).expect(rt, "memory")
 }
 
 /// So often Done.
-fn dones(alloc: Global, count: usize) -> Result<Vec<Answer>, AllocError> {
+fn dones(rt: &impl Abort, alloc: Global, count: usize) -> Vec<Answer> {
     let mut answers = Vec::new(alloc);
     for _ in 0..count {
-        answers.push(Answer::Served(Served::Done))?;
+        let done = Answer::Served(Served::Done);
+        answers.push(done).expect(rt, "memory");
     }
-    Ok(answers)
+    answers
 }
 
 /// What is told of this run, and what settling then says.
@@ -67,41 +67,37 @@ struct Told {
 }
 
 /// The transcripts of sessions that were answered Done, and read these bytes.
-fn transcripts(alloc: Global, reads: &[&[u8]]) -> Result<Vec<Vec<Answer>>, AllocError> {
+fn transcripts(rt: &impl Abort, alloc: Global, reads: &[&[u8]]) -> Vec<Vec<Answer>> {
     let mut transcripts = Vec::new(alloc);
     for bytes in reads {
-        transcripts.push(transcript(alloc, bytes)?)?;
+        let transcript = transcript(rt, alloc, bytes);
+        transcripts.push(transcript).expect(rt, "memory");
     }
-    Ok(transcripts)
+    transcripts
 }
 
 /// The transcript of such a session.
-fn transcript(alloc: Global, bytes: &[u8]) -> Result<Vec<Answer>, AllocError> {
-    let mut answers = dones(alloc, 1)?;
-    answers.push(bytes_read(alloc, bytes)?)?;
-    Ok(answers)
+fn transcript(rt: &impl Abort, alloc: Global, bytes: &[u8]) -> Vec<Answer> {
+    let mut answers = dones(rt, alloc, 1);
+    let read = bytes_read(rt, alloc, bytes);
+    answers.push(read).expect(rt, "memory");
+    answers
 }
 
 /// Asserts that settling says of the run what it must, told so.
-fn settle_as(
-    rt: &impl Abort,
-    alloc: Global,
-    volume: &Volume<FlatFiles>,
-    told: &Told,
-) -> Result<(), Fail> {
-    let answers = dones(alloc, told.answers)?;
-    let transcripts = transcripts(alloc, told.reads)?;
+fn settle_as(rt: &impl Abort, alloc: Global, volume: &Volume<FlatFiles>, told: &Told) {
+    let answers = dones(rt, alloc, told.answers);
+    let transcripts = transcripts(rt, alloc, told.reads);
     let answers = (answers.as_slice(), transcripts.as_slice());
-    expect_settled(rt, alloc, volume, told.script, answers, told.want)
+    expect_settled(rt, alloc, volume, told.script, answers, told.want);
 }
 
 /// Makes the run, and asserts of each case that settling says what it must.
-fn settle_each(rt: &impl Abort, alloc: Global, cases: &[Told]) -> Result<(), Fail> {
-    let volume = run(alloc, RUN, 8)?;
+fn settle_each(rt: &impl Abort, alloc: Global, cases: &[Told]) {
+    let volume = run(rt, alloc, RUN, 8);
     for told in cases {
-        settle_as(rt, alloc, &volume, told)?;
+        settle_as(rt, alloc, &volume, told);
     }
-    Ok(())
 }
 
 /// The run as it was, and one in which session 1 read other bytes.
@@ -121,8 +117,8 @@ const AS_ANSWERED: [Told; 2] = [
 ];
 
 #[test]
-fn two_sessions_settle(rt: HostRuntime) -> Result<(), Fail> {
-    settle_each(&rt, rt.alloc(), &AS_ANSWERED)
+fn two_sessions_settle(rt: HostRuntime) {
+    settle_each(&rt, rt.alloc(), &AS_ANSWERED);
 }
 
 /// A setup with too few answers, a script and a transcript without the other, and a session that has neither.
@@ -154,8 +150,8 @@ const WITHOUT_A_PART: [Told; 4] = [
 ];
 
 #[test]
-fn lowest_session_is_named(rt: HostRuntime) -> Result<(), Fail> {
-    settle_each(&rt, rt.alloc(), &WITHOUT_A_PART)
+fn lowest_session_is_named(rt: HostRuntime) {
+    settle_each(&rt, rt.alloc(), &WITHOUT_A_PART);
 }
 
 /// How many calls each of eight sessions makes.
@@ -183,25 +179,26 @@ sync
 ";
 
 /// The answers to eight sessions.
-fn eight_transcripts(alloc: Global) -> Result<Vec<Vec<Answer>>, AllocError> {
+fn eight_transcripts(rt: &impl Abort, alloc: Global) -> Vec<Vec<Answer>> {
     let mut transcripts = Vec::new(alloc);
     for _ in 0..8 {
-        transcripts.push(dones(alloc, CALLS)?)?;
+        let transcript = dones(rt, alloc, CALLS);
+        transcripts.push(transcript).expect(rt, "memory");
     }
-    Ok(transcripts)
+    transcripts
 }
 
 /// Makes the calls of eight sessions in turn, so that a journal has 100,000 entries, and asserts that this settles.
-fn settle_long_run(rt: &impl Abort, alloc: Global) -> Result<(), Fail> {
-    let script = ROUND.repeat(alloc, CALLS)?;
-    let transcripts = eight_transcripts(alloc)?;
-    let volume = run(alloc, script.as_str(), 100_000)?;
+fn settle_long_run(rt: &impl Abort, alloc: Global, script: &str) {
+    let volume = run(rt, alloc, script, 100_000);
+    let transcripts = eight_transcripts(rt, alloc);
     let none: &[Answer] = &[];
     let answers = (none, transcripts.as_slice());
-    expect_settled(rt, alloc, &volume, script.as_str(), answers, Ok(()))
+    expect_settled(rt, alloc, &volume, script, answers, Ok(()));
 }
 
 #[test]
-fn hundred_thousand_entries_settle(rt: HostRuntime) -> Result<(), Fail> {
-    settle_long_run(&rt, rt.alloc())
+fn hundred_thousand_entries_settle(rt: HostRuntime) {
+    let script = repeated(&rt, rt.alloc(), ROUND, CALLS);
+    settle_long_run(&rt, rt.alloc(), script.as_str());
 }

@@ -3,17 +3,16 @@
 use super::gates::assert_unfailed;
 use super::watch::Watch;
 use super::{CLEANER, expect_run_settled, serve_log};
-use crate::tests::{SMALL, append_answers, calls, expect_eq, expect_lines, push_all};
+use crate::tests::{SMALL, calls, expect_answers, expect_eq, push, push_all};
 use lfs_logstore::LogStore;
 use lfs_server::gate::Gate;
 use lfs_server::serving::Closed;
 use lfs_types::answer::{Answer, Served};
 use lfs_types::store::Params;
 use lfs_volume::journal::{CleanerKind, CleanerOutcome, Entry, Event};
-use std::alloc::{AllocError, Global};
+use std::alloc::Global;
 use std::process::Abort;
 use std::sync::Wait;
-use std::test::Fail;
 
 /// The numbers of the sessions of a soak.
 const NUMBERS: [&str; 8] = ["1", "2", "3", "4", "5", "6", "7", "8"];
@@ -38,32 +37,36 @@ create /o8 0666
 
 /// Appends what a session asks in a round: it writes two bytes, its number and the round's, into its own file and that
 /// for all, and reads and lists between.
-fn push_round(script: &mut String, number: &str, round: &str) -> Result<(), AllocError> {
-    push_all(script, &["write /o", number, " at 0 0", number, round])?;
-    push_all(script, &["\nread /o", number, " 0 9\nwrite /all at 0 0"])?;
-    push_all(script, &[number, round, "\nread /all 0 9\nlist /\n"])
+fn push_round(rt: &impl Abort, script: &mut String, number: &str, round: &str) {
+    push_all(rt, script, &["write /o", number, " at 0 0", number, round]);
+    push_all(
+        rt,
+        script,
+        &["\nread /o", number, " 0 9\nwrite /all at 0 0"],
+    );
+    push_all(rt, script, &[number, round, "\nread /all 0 9\nlist /\n"]);
 }
 
 /// Appends the lines of a session.
-fn push_session(script: &mut String, number: &str) -> Result<(), AllocError> {
+fn push_session(rt: &impl Abort, script: &mut String, number: &str) {
     push_all(
+        rt,
         script,
         &["session ", number, "\nas ", number, " ", number, "\n"],
-    )?;
+    );
     for round in &ROUNDS {
-        push_round(script, number, round)?;
+        push_round(rt, script, number, round);
     }
-    Ok(())
 }
 
 /// The setup and the sessions.
-fn script(alloc: Global) -> Result<String, AllocError> {
+fn script(rt: &impl Abort, alloc: Global) -> String {
     let mut script = String::new(alloc);
-    script.push_str(SETUP)?;
+    push(rt, &mut script, SETUP);
     for number in &NUMBERS {
-        push_session(&mut script, number)?;
+        push_session(rt, &mut script, number);
     }
-    Ok(script)
+    script
 }
 
 /// The sizes of the volume: without the cleaner its log has room for more than half of the Writes.
@@ -167,30 +170,30 @@ read /o8 0 9
 ";
 
 /// Appends the answer to a Read of a session's file that was last written in this round; none where it never was.
-fn push_read(answers: &mut String, number: &str, last: Option<&str>) -> Result<(), AllocError> {
+fn push_read(rt: &impl Abort, answers: &mut String, number: &str, last: Option<&str>) {
     match last {
-        Some(round) => push_all(answers, &["0 bytes 0", number, round, "\n"]),
-        None => answers.push_str("0 bytes -\n"),
+        Some(round) => push_all(rt, answers, &["0 bytes 0", number, round, "\n"]),
+        None => push(rt, answers, "0 bytes -\n"),
     }
 }
 
 /// The answers to these Reads where each file has what was last written.
-fn last_answers(alloc: Global, transcripts: &[Vec<Answer>]) -> Result<String, AllocError> {
+fn last_answers(rt: &impl Abort, alloc: Global, transcripts: &[Vec<Answer>]) -> String {
     let mut answers = String::new(alloc);
     for (number, transcript) in NUMBERS.iter().zip(transcripts) {
-        push_read(&mut answers, number, last_round(transcript.as_slice()))?;
+        push_read(rt, &mut answers, number, last_round(transcript.as_slice()));
     }
-    Ok(answers)
+    answers
 }
 
 /// Has the superuser read each session's file, and asserts that it has what was last written.
-fn assert_kept(rt: &impl Abort, alloc: Global, closed: &mut Closed<LogStore>) -> Result<(), Fail> {
-    let answers = closed.volume.run(calls(alloc, READS)?)?;
-    let mut text = Vec::new(alloc);
-    append_answers(&mut text, 0, answers.as_slice())?;
-    let wanted = last_answers(alloc, closed.transcripts.as_slice())?;
-    expect_lines(rt, text.as_slice(), wanted.as_str());
-    Ok(())
+fn assert_kept(rt: &impl Abort, alloc: Global, closed: &mut Closed<LogStore>) {
+    let wanted = last_answers(rt, alloc, closed.transcripts.as_slice());
+    let answers = closed
+        .volume
+        .run(calls(rt, alloc, READS))
+        .expect(rt, "a run");
+    expect_answers(rt, alloc, 0, answers.as_slice(), wanted.as_str());
 }
 
 /// Asserts that the journal is not at its limit, that the cleaner was at work, and that all was asked and half of it served.
@@ -201,26 +204,20 @@ fn assert_worked(rt: &impl Abort, journal: &[Entry], transcripts: &[Vec<Answer>]
 }
 
 /// Asserts of the run that it settles, and keeps what was written.
-fn assert_soaked(
-    rt: &impl Abort,
-    alloc: Global,
-    script: &str,
-    closed: &mut Closed<LogStore>,
-) -> Result<(), Fail> {
+fn assert_soaked(rt: &impl Abort, alloc: Global, script: &str, closed: &mut Closed<LogStore>) {
     expect_eq(rt, closed.transcripts.len(), NUMBERS.len());
-    expect_run_settled(rt, alloc, closed, script, Ok(()))?;
+    expect_run_settled(rt, alloc, closed, script, Ok(()));
     assert_worked(rt, closed.volume.journal(), closed.transcripts.as_slice());
-    assert_kept(rt, alloc, closed)
+    assert_kept(rt, alloc, closed);
 }
 
 #[test]
-fn eight_sessions_soak(rt: HostRuntime) -> Result<(), Fail> {
-    let alloc = rt.alloc();
-    let script = script(alloc)?;
+fn eight_sessions_soak(rt: HostRuntime) {
+    let script = script(&rt, rt.alloc());
     let gate = Holding {
-        watch: Watch::new(&rt, alloc),
+        watch: Watch::new(&rt, rt.alloc()),
     };
-    let mut closed = serve_log(&rt, alloc, SIZES, script.as_str(), &gate)?;
+    let mut closed = serve_log(&rt, rt.alloc(), SIZES, script.as_str(), &gate);
     assert_unfailed(&rt, &gate.watch);
-    assert_soaked(&rt, alloc, script.as_str(), &mut closed)
+    assert_soaked(&rt, rt.alloc(), script.as_str(), &mut closed);
 }

@@ -1,16 +1,15 @@
 //! Dirty segments that are emptied and cleaned by a cleaner's calls alone.
 
 use super::run;
-use crate::tests::{expect_eq, fresh, push_all};
+use crate::tests::{expect_eq, fresh, push, push_all, repeated};
 use lfs_logstore::LogStore;
-use lfs_types::cleaner::{BlockInfo, CleanFault, CleanerCall, MarkList};
+use lfs_types::cleaner::{BlockInfo, CleanFault, CleanerCall, InfoList, MarkList};
 use lfs_types::cred::Cred;
 use lfs_types::store::Params;
 use lfs_volume::journal::{CleanerAnswer, CleanerKind, CleanerOutcome, Entry, Event};
 use lfs_volume::volume::Volume;
-use std::alloc::{AllocError, Global};
+use std::alloc::Global;
 use std::process::Abort;
-use std::test::Fail;
 
 /// A volume with room for what is written here and for all of it once more.
 const ROOMY: Params = Params {
@@ -35,37 +34,40 @@ const PLACES: [&str; 16] = [
 
 /// Appends the Writes of a block of each file in turn, with the round's byte throughout. `/b` has blocks behind the
 /// twelfth, and every sixth round makes a file, named after its byte, that is never written again.
-fn push_round(
-    script: &mut String,
-    round: usize,
-    byte: &str,
-    block: &str,
-) -> Result<(), AllocError> {
-    push_all(script, &["write /a at ", PLACES[round % 3], " ", block])?;
-    push_all(script, &["\nwrite /b at ", PLACES[round % 16], " ", block])?;
+fn push_round(rt: &impl Abort, script: &mut String, round: usize, byte: &str, block: &str) {
+    push_all(rt, script, &["write /a at ", PLACES[round % 3], " ", block]);
+    push_all(
+        rt,
+        script,
+        &["\nwrite /b at ", PLACES[round % 16], " ", block],
+    );
     if round % 6 == 0 {
-        push_all(script, &["\ncreate /k", byte, " 0644\nwrite /k", byte])?;
-        push_all(script, &[" at 0 ", block])?;
+        push_all(rt, script, &["\ncreate /k", byte, " 0644\nwrite /k", byte]);
+        push_all(rt, script, &[" at 0 ", block]);
     }
-    script.push_str("\n")
+    push(rt, script, "\n");
 }
 
 /// The files that are written over and over are made, and written.
-fn writes(alloc: Global) -> Result<String, AllocError> {
+fn writes(rt: &impl Abort, alloc: Global) -> String {
     let mut script = String::new(alloc);
-    script.push_str("session 3\ncreate /a 0644\ncreate /b 0644\n")?;
+    push(
+        rt,
+        &mut script,
+        "session 3\ncreate /a 0644\ncreate /b 0644\n",
+    );
     for (round, byte) in ROUNDS.iter().enumerate() {
-        let block = byte.repeat(alloc, 512)?;
-        push_round(&mut script, round, byte, block.as_str())?;
+        let block = repeated(rt, alloc, byte, 512);
+        push_round(rt, &mut script, round, byte, block.as_str());
     }
-    Ok(script)
+    script
 }
 
 /// Makes the files, and writes them over and over.
-fn write_files(rt: &impl Abort, alloc: Global, volume: &mut Volume<LogStore>) -> Result<(), Fail> {
-    let script = writes(alloc)?;
-    let answers = "3 ok\n".repeat(alloc, 114)?;
-    run(rt, alloc, volume, script.as_str(), answers.as_str())
+fn write_files(rt: &impl Abort, alloc: Global, volume: &mut Volume<LogStore>) {
+    let script = writes(rt, alloc);
+    let answers = repeated(rt, alloc, "3 ok\n", 114);
+    run(rt, alloc, volume, script.as_str(), answers.as_str());
 }
 
 /// The Reads of blocks of files.
@@ -107,60 +109,75 @@ const LAST: [&str; 27] = [
 ];
 
 /// The answers to these Reads.
-fn last_answers(alloc: Global) -> Result<String, AllocError> {
+fn last_answers(rt: &impl Abort, alloc: Global) -> String {
     let mut answers = String::new(alloc);
     for byte in &LAST {
-        let block = byte.repeat(alloc, 512)?;
-        push_all(&mut answers, &["3 bytes ", block.as_str(), "\n"])?;
+        let block = repeated(rt, alloc, byte, 512);
+        push_all(rt, &mut answers, &["3 bytes ", block.as_str(), "\n"]);
     }
-    Ok(answers)
+    answers
 }
 
 /// Reads each block, and asserts that it has what was last written.
-fn read_files(rt: &impl Abort, alloc: Global, volume: &mut Volume<LogStore>) -> Result<(), Fail> {
-    let answers = last_answers(alloc)?;
-    run(rt, alloc, volume, READS, answers.as_str())
+fn read_files(rt: &impl Abort, alloc: Global, volume: &mut Volume<LogStore>) {
+    let answers = last_answers(rt, alloc);
+    run(rt, alloc, volume, READS, answers.as_str());
+}
+
+/// The superuser.
+fn root(rt: &impl Abort) -> Cred {
+    Cred::new(0, &[0], false).expect(rt, "a credential")
+}
+
+/// Whether a segment is dirty.
+fn is_dirty(rt: &impl Abort, volume: &mut Volume<LogStore>, segment: u32) -> bool {
+    let root = root(rt);
+    let answer = volume.clean(255, &root, CleanerCall::Infos(segment));
+    matches!(answer, CleanerAnswer::Infos(_))
 }
 
 /// The segments that are dirty.
-fn dirty_segments(
-    alloc: Global,
-    volume: &mut Volume<LogStore>,
-    root: &Cred,
-) -> Result<Vec<u32>, AllocError> {
+fn dirty_segments(rt: &impl Abort, alloc: Global, volume: &mut Volume<LogStore>) -> Vec<u32> {
     let mut dirty = Vec::new(alloc);
     for segment in 0..ROOMY.segments {
-        let answer = volume.clean(255, root, CleanerCall::Infos(segment));
-        if matches!(answer, CleanerAnswer::Infos(_)) {
-            dirty.push(segment)?;
+        if is_dirty(rt, volume, segment) {
+            dirty.push(segment).expect(rt, "memory");
         }
     }
-    Ok(dirty)
+    dirty
+}
+
+/// The infos of a segment that is dirty.
+fn infos_of(rt: &impl Abort, volume: &mut Volume<LogStore>, segment: u32) -> InfoList {
+    let root = root(rt);
+    match volume.clean(255, &root, CleanerCall::Infos(segment)) {
+        CleanerAnswer::Infos(infos) => infos,
+        _ => panic!(rt; "no infos"),
+    }
 }
 
 /// Has all that a segment's infos name written again, eight at a time, and gives how many blocks that moved.
-fn empty_segment(volume: &mut Volume<LogStore>, root: &Cred, segment: u32) -> Result<u32, Fail> {
-    let CleanerAnswer::Infos(infos) = volume.clean(255, root, CleanerCall::Infos(segment)) else {
-        return Err(Fail::from("no infos"));
-    };
+fn empty_segment(rt: &impl Abort, volume: &mut Volume<LogStore>, segment: u32) -> u32 {
+    let infos = infos_of(rt, volume, segment);
     let mut moved = 0u32;
     for eight in infos.items().chunks(8) {
-        moved = moved.saturating_add(mark(volume, root, eight)?);
+        moved = moved.saturating_add(mark(rt, volume, eight));
     }
-    Ok(moved)
+    moved
 }
 
 /// Has what at most eight infos name written again, and gives how many blocks that moved.
-fn mark(volume: &mut Volume<LogStore>, root: &Cred, infos: &[BlockInfo]) -> Result<u32, Fail> {
-    let marks = MarkList::new(infos).ok_or("more than eight")?;
-    match volume.clean(255, root, CleanerCall::Markv(marks)) {
-        CleanerAnswer::Marked(count) => Ok(count),
-        _ => Err(Fail::from("not written again")),
+fn mark(rt: &impl Abort, volume: &mut Volume<LogStore>, infos: &[BlockInfo]) -> u32 {
+    let marks = MarkList::new(infos).expect(rt, "at most eight");
+    let root = root(rt);
+    match volume.clean(255, &root, CleanerCall::Markv(marks)) {
+        CleanerAnswer::Marked(count) => count,
+        _ => panic!(rt; "not written again"),
     }
 }
 
 /// What came of a Segclean.
-#[derive(Clone, Copy, PartialEq)]
+#[derive(Clone, Copy, Debug, PartialEq)]
 enum Tried {
     /// The segment is clean.
     Cleaned,
@@ -170,9 +187,10 @@ enum Tried {
 }
 
 /// What comes of a Segclean, and how many more segments are then counted as clean.
-fn try_to_clean(volume: &mut Volume<LogStore>, root: &Cred, segment: u32) -> (Tried, u32) {
+fn try_to_clean(rt: &impl Abort, volume: &mut Volume<LogStore>, segment: u32) -> (Tried, u32) {
+    let root = root(rt);
     let before = volume.clean_segments();
-    let tried = match volume.clean(255, root, CleanerCall::Segclean(segment)) {
+    let tried = match volume.clean(255, &root, CleanerCall::Segclean(segment)) {
         CleanerAnswer::Cleaned => Tried::Cleaned,
         CleanerAnswer::Fault(CleanFault::Live(_)) => Tried::Live,
         _ => Tried::Otherwise,
@@ -180,18 +198,19 @@ fn try_to_clean(volume: &mut Volume<LogStore>, root: &Cred, segment: u32) -> (Tr
     (tried, volume.clean_segments().wrapping_sub(before))
 }
 
-/// How many of these segments have live bytes, and become clean once their blocks were written again.
-fn clean_each(volume: &mut Volume<LogStore>, root: &Cred, dirty: &[u32]) -> Result<usize, Fail> {
-    let mut count = 0usize;
+/// Asserts that a segment has live bytes, and becomes clean once its blocks were written again.
+fn clean_one(rt: &impl Abort, volume: &mut Volume<LogStore>, segment: u32) {
+    expect_eq(rt, try_to_clean(rt, volume, segment), (Tried::Live, 0));
+    let moved = empty_segment(rt, volume, segment);
+    expect_eq(rt, moved > 0, true);
+    expect_eq(rt, try_to_clean(rt, volume, segment), (Tried::Cleaned, 1));
+}
+
+/// Cleans each of these segments so.
+fn clean_each(rt: &impl Abort, volume: &mut Volume<LogStore>, dirty: &[u32]) {
     for segment in dirty {
-        let first = try_to_clean(volume, root, *segment);
-        let moved = empty_segment(volume, root, *segment)?;
-        let then = try_to_clean(volume, root, *segment);
-        if first == (Tried::Live, 0) && moved > 0 && then == (Tried::Cleaned, 1) {
-            count = count.saturating_add(1);
-        }
+        clean_one(rt, volume, *segment);
     }
-    Ok(count)
 }
 
 /// How many segments became clean, as the journal tells.
@@ -208,35 +227,25 @@ fn cleanings(journal: &[Entry]) -> usize {
 /// Asserts that at least four segments are dirty and all others but the active one clean, and that all become clean and
 /// no other. Six rounds take from 42 to 48 blocks, and a segment has 64: so 48 rounds leave at least four segments
 /// dirty, each with a block of a file that is written once.
-fn clean_dirty(rt: &impl Abort, alloc: Global, volume: &mut Volume<LogStore>) -> Result<(), Fail> {
-    let root = Cred::new(0, &[0], false)?;
-    let dirty = dirty_segments(alloc, volume, &root)?;
+fn clean_dirty(rt: &impl Abort, volume: &mut Volume<LogStore>, dirty: &[u32]) {
     let before = volume.clean_segments() as usize;
     expect_eq(rt, before, 15usize.saturating_sub(dirty.len()));
     expect_eq(rt, dirty.len() >= 4, true);
-    expect_eq(
-        rt,
-        clean_each(volume, &root, dirty.as_slice())?,
-        dirty.len(),
-    );
+    clean_each(rt, volume, dirty);
     expect_eq(rt, cleanings(volume.journal()), dirty.len());
     expect_eq(rt, volume.clean_segments() as usize > before, true);
-    Ok(())
 }
 
 /// Writes the files, cleans, and reads them.
-fn write_clean_and_read(
-    rt: &impl Abort,
-    alloc: Global,
-    volume: &mut Volume<LogStore>,
-) -> Result<(), Fail> {
-    write_files(rt, alloc, volume)?;
-    clean_dirty(rt, alloc, volume)?;
-    read_files(rt, alloc, volume)
+fn write_clean_and_read(rt: &impl Abort, alloc: Global, volume: &mut Volume<LogStore>) {
+    write_files(rt, alloc, volume);
+    let dirty = dirty_segments(rt, alloc, volume);
+    clean_dirty(rt, volume, dirty.as_slice());
+    read_files(rt, alloc, volume);
 }
 
 #[test]
-fn each_dirty_segment_is_emptied_and_cleaned(rt: HostRuntime) -> Result<(), Fail> {
-    let mut volume = fresh(rt.alloc(), ROOMY)?;
-    write_clean_and_read(&rt, rt.alloc(), &mut volume)
+fn each_dirty_segment_is_emptied_and_cleaned(rt: HostRuntime) {
+    let mut volume = fresh(&rt, rt.alloc(), ROOMY);
+    write_clean_and_read(&rt, rt.alloc(), &mut volume);
 }

@@ -1,16 +1,15 @@
 //! Worked cases as runs of steps, with every answer compared.
 
 use super::{DEFAULTS, run, run_fresh};
-use crate::tests::{SMALL, append_answers, calls, expect_eq, expect_lines, fresh, push_all};
+use crate::tests::{SMALL, calls, expect_answers, expect_eq, fresh, push, push_all, repeated};
 use lfs_logstore::LogStore;
-use lfs_types::cleaner::CleanerCall;
+use lfs_types::cleaner::{BlockInfo, CleanerCall, InfoList};
 use lfs_types::cred::Cred;
 use lfs_types::store::Params;
 use lfs_volume::journal::{CleanerAnswer, CleanerKind, CleanerOutcome, Entry, Event};
 use lfs_volume::volume::Volume;
-use std::alloc::{AllocError, Global};
+use std::alloc::Global;
 use std::process::Abort;
-use std::test::Fail;
 
 /// The superuser makes and writes a file; user 5 reads it, and may not write it.
 const OWNER_AND_STRANGER: &str = "\
@@ -26,8 +25,8 @@ write /a at 0 64
 const TO_STRANGER: &str = "3 ok\n3 ok\n3 bytes 616263\n3 denied M2 EACCES 0 1\n";
 
 #[test]
-fn owner_writes_and_stranger_only_reads(rt: HostRuntime) -> Result<(), Fail> {
-    run_fresh(&rt, rt.alloc(), OWNER_AND_STRANGER, TO_STRANGER)
+fn owner_writes_and_stranger_only_reads(rt: HostRuntime) {
+    run_fresh(&rt, rt.alloc(), OWNER_AND_STRANGER, TO_STRANGER);
 }
 
 /// A file is written and removed, and another of its number is written. Then the first file's block is named with each
@@ -75,22 +74,34 @@ const NONE_WRITTEN_AGAIN: &str = "\
 ";
 
 #[test]
-fn stale_info_of_a_number_given_out_again(rt: HostRuntime) -> Result<(), Fail> {
-    run_fresh(&rt, rt.alloc(), NUMBER_GIVEN_OUT_AGAIN, NONE_WRITTEN_AGAIN)
+fn stale_info_of_a_number_given_out_again(rt: HostRuntime) {
+    run_fresh(&rt, rt.alloc(), NUMBER_GIVEN_OUT_AGAIN, NONE_WRITTEN_AGAIN);
 }
 
-/// The address of the first block of file 4, by the infos of segment 0.
-fn address_in_first_segment(volume: &mut Volume<LogStore>) -> Result<u32, Fail> {
-    let root = Cred::new(0, &[0], false)?;
-    let CleanerAnswer::Infos(infos) = volume.clean(3, &root, CleanerCall::Infos(0)) else {
-        return Err(Fail::from("no infos"));
-    };
-    for info in infos.items() {
+/// The infos of segment 0.
+fn first_infos(rt: &impl Abort, volume: &mut Volume<LogStore>) -> InfoList {
+    let root = Cred::new(0, &[0], false).expect(rt, "a credential");
+    match volume.clean(3, &root, CleanerCall::Infos(0)) {
+        CleanerAnswer::Infos(infos) => infos,
+        _ => panic!(rt; "no infos"),
+    }
+}
+
+/// The address of the first block of file 4, by these infos.
+fn address_in(infos: &[BlockInfo]) -> Option<u32> {
+    for info in infos {
         if (info.ino, info.version, info.lbn) == (4, 1, 0) {
-            return Ok(info.addr);
+            return Some(info.addr);
         }
     }
-    Err(Fail::from("no such info"))
+    None
+}
+
+/// That address, by the infos of segment 0, as text.
+fn first_address(rt: &impl Abort, alloc: Global, volume: &mut Volume<LogStore>) -> String {
+    let infos = first_infos(rt, volume);
+    let address = address_in(infos.items()).expect(rt, "such an info");
+    format!(in alloc; "{address}").expect(rt, "memory")
 }
 
 /// A file is written, and another one made.
@@ -121,38 +132,28 @@ const READ: &str = "\nread /a 0 512\n";
 const OVERWRITTEN: &str = " }] })\n3 ok\n3 ok\n3 Marked(0)\n3 bytes 6e6577\n";
 
 /// Overwrites a block between its Bmapv and its Markv, and asserts that it isn't written again.
-fn overwrite_and_mark(
-    rt: &impl Abort,
-    alloc: Global,
-    volume: &mut Volume<LogStore>,
-) -> Result<(), Fail> {
-    let old = address_in_first_segment(volume)?;
-    let old = format!(in alloc; "{old}")?;
-    let old = old.as_str();
+fn overwrite_and_mark(rt: &impl Abort, alloc: Global, volume: &mut Volume<LogStore>, old: &str) {
     let mut script = String::new(alloc);
-    push_all(&mut script, &[BMAPV, old, OVERWRITE, old, READ])?;
+    push_all(rt, &mut script, &[BMAPV, old, OVERWRITE, old, READ]);
     let mut wanted = String::new(alloc);
-    push_all(&mut wanted, &[LOCATED, old, OVERWRITTEN])?;
-    run(rt, alloc, volume, script.as_str(), wanted.as_str())
+    push_all(rt, &mut wanted, &[LOCATED, old, OVERWRITTEN]);
+    run(rt, alloc, volume, script.as_str(), wanted.as_str());
 }
 
 /// Fills the first segment, and goes on with its file's block. A segment has 64 blocks, and each Write takes three.
-fn leave_first_segment(
-    rt: &impl Abort,
-    alloc: Global,
-    volume: &mut Volume<LogStore>,
-) -> Result<(), Fail> {
-    run(rt, alloc, volume, TWO_FILES, "3 ok\n3 ok\n3 ok\n3 ok\n")?;
+fn leave_first_segment(rt: &impl Abort, alloc: Global, volume: &mut Volume<LogStore>) {
+    run(rt, alloc, volume, TWO_FILES, "3 ok\n3 ok\n3 ok\n3 ok\n");
     for _ in 0..25 {
-        run(rt, alloc, volume, FURTHER_WRITE, "3 ok\n3 ok\n")?;
+        run(rt, alloc, volume, FURTHER_WRITE, "3 ok\n3 ok\n");
     }
-    overwrite_and_mark(rt, alloc, volume)
 }
 
 #[test]
-fn overwritten_block_is_not_written_again(rt: HostRuntime) -> Result<(), Fail> {
-    let mut volume = fresh(rt.alloc(), SMALL)?;
-    leave_first_segment(&rt, rt.alloc(), &mut volume)
+fn overwritten_block_is_not_written_again(rt: HostRuntime) {
+    let mut volume = fresh(&rt, rt.alloc(), SMALL);
+    leave_first_segment(&rt, rt.alloc(), &mut volume);
+    let old = first_address(&rt, rt.alloc(), &mut volume);
+    overwrite_and_mark(&rt, rt.alloc(), &mut volume, old.as_str());
 }
 
 /// The digits.
@@ -164,38 +165,38 @@ const TENS: [&str; 14] = [
 ];
 
 /// Appends a Create for each number of these tens, of a name of letters and the number.
-fn push_ten(script: &mut String, letters: &str, ten: &str) -> Result<(), AllocError> {
+fn push_ten(rt: &impl Abort, script: &mut String, letters: &str, ten: &str) {
     for digit in &DIGITS {
-        push_all(script, &["create /", letters, ten, digit, " 0644\n"])?;
+        push_all(rt, script, &["create /", letters, ten, digit, " 0644\n"]);
     }
-    Ok(())
 }
 
 /// A file is made of each of 141 names of 255 bytes, and of one of 247.
-fn long_names(alloc: Global) -> Result<String, AllocError> {
-    let letters = "n".repeat(alloc, 252)?;
-    let mut script = "session 3\n".repeat(alloc, 1)?;
+fn long_names(rt: &impl Abort, alloc: Global, letters: &str, fewer: &str) -> String {
+    let mut script = String::new(alloc);
+    push(rt, &mut script, "session 3\n");
     for ten in &TENS {
-        push_ten(&mut script, letters.as_str(), ten)?;
+        push_ten(rt, &mut script, letters, ten);
     }
-    push_all(&mut script, &["create /", letters.as_str(), "140 0644\n"])?;
-    let fewer = "n".repeat(alloc, 244)?;
-    push_all(&mut script, &["create /", fewer.as_str(), "141 0644\n"])?;
-    Ok(script)
+    push_all(rt, &mut script, &["create /", letters, "140 0644\n"]);
+    push_all(rt, &mut script, &["create /", fewer, "141 0644\n"]);
+    script
 }
 
 /// The answers: the 141st name is refused.
-fn long_answers(alloc: Global) -> Result<String, AllocError> {
-    let mut answers = "3 ok\n".repeat(alloc, 140)?;
-    answers.push_str("3 refused DirectoryFull\n3 ok\n")?;
-    Ok(answers)
+fn long_answers(rt: &impl Abort, alloc: Global) -> String {
+    let mut answers = repeated(rt, alloc, "3 ok\n", 140);
+    push(rt, &mut answers, "3 refused DirectoryFull\n3 ok\n");
+    answers
 }
 
 #[test]
-fn directory_of_long_names(rt: HostRuntime) -> Result<(), Fail> {
-    let script = long_names(rt.alloc())?;
-    let answers = long_answers(rt.alloc())?;
-    run_fresh(&rt, rt.alloc(), script.as_str(), answers.as_str())
+fn directory_of_long_names(rt: HostRuntime) {
+    let letters = repeated(&rt, rt.alloc(), "n", 252);
+    let fewer = repeated(&rt, rt.alloc(), "n", 244);
+    let script = long_names(&rt, rt.alloc(), letters.as_str(), fewer.as_str());
+    let answers = long_answers(&rt, rt.alloc());
+    run_fresh(&rt, rt.alloc(), script.as_str(), answers.as_str());
 }
 
 /// User 5 makes calls of the cleaner.
@@ -223,24 +224,25 @@ const KINDS: [CleanerKind; 3] = [
     CleanerKind::Segclean,
 ];
 
-/// Makes the calls, and asserts that each is answered and entered as denied.
-fn deny_stranger(
-    rt: &impl Abort,
-    alloc: Global,
-    volume: &mut Volume<LogStore>,
-) -> Result<(), Fail> {
-    run(rt, alloc, volume, STRANGERS_CLEANING, CLEANING_DENIED)?;
-    expect_eq(rt, volume.journal().len(), KINDS.len());
-    for (entry, kind) in volume.journal().iter().zip(&KINDS) {
+/// Asserts that the entries are those of the calls, each denied.
+fn expect_denied(rt: &impl Abort, entries: &[Entry]) {
+    expect_eq(rt, entries.len(), KINDS.len());
+    for (entry, kind) in entries.iter().zip(&KINDS) {
         expect_eq(rt, denied_kind(entry), Some(*kind));
     }
-    Ok(())
 }
 
 #[test]
-fn cleaner_calls_by_a_stranger(rt: HostRuntime) -> Result<(), Fail> {
-    let mut volume = fresh(rt.alloc(), DEFAULTS)?;
-    deny_stranger(&rt, rt.alloc(), &mut volume)
+fn cleaner_calls_by_a_stranger(rt: HostRuntime) {
+    let mut volume = fresh(&rt, rt.alloc(), DEFAULTS);
+    run(
+        &rt,
+        rt.alloc(),
+        &mut volume,
+        STRANGERS_CLEANING,
+        CLEANING_DENIED,
+    );
+    expect_denied(&rt, volume.journal());
 }
 
 /// The superuser's calls where no segment is dirty.
@@ -255,8 +257,8 @@ const NOTHING_CLEANED: &str = "\
 ";
 
 #[test]
-fn cleaner_calls_on_a_fresh_volume(rt: HostRuntime) -> Result<(), Fail> {
-    run_fresh(&rt, rt.alloc(), CLEANING, NOTHING_CLEANED)
+fn cleaner_calls_on_a_fresh_volume(rt: HostRuntime) {
+    run_fresh(&rt, rt.alloc(), CLEANING, NOTHING_CLEANED);
 }
 
 /// The numbers of a volume whose journal has room for so many entries.
@@ -265,25 +267,21 @@ fn with_journal(journal: u32) -> Params {
 }
 
 /// Makes the four calls in one run, and asserts that each is answered as it must be and entered.
-fn run_calls(rt: &impl Abort, alloc: Global, volume: &mut Volume<LogStore>) -> Result<(), Fail> {
-    let calls = calls(alloc, OWNER_AND_STRANGER)?;
-    let answers = volume.run(calls)?;
-    let mut text = Vec::new(alloc);
-    append_answers(&mut text, 3, answers.as_slice())?;
-    expect_lines(rt, text.as_slice(), TO_STRANGER);
+fn run_calls(rt: &impl Abort, alloc: Global, volume: &mut Volume<LogStore>) {
+    let calls = calls(rt, alloc, OWNER_AND_STRANGER);
+    let answers = volume.run(calls).expect(rt, "a run");
+    expect_answers(rt, alloc, 3, answers.as_slice(), TO_STRANGER);
     expect_eq(rt, volume.journal().len(), 4);
-    Ok(())
 }
 
 #[test]
-fn run_of_calls_over_a_log(rt: HostRuntime) -> Result<(), Fail> {
-    let mut volume = fresh(rt.alloc(), with_journal(4))?;
-    run_calls(&rt, rt.alloc(), &mut volume)
+fn run_of_calls_over_a_log(rt: HostRuntime) {
+    let mut volume = fresh(&rt, rt.alloc(), with_journal(4));
+    run_calls(&rt, rt.alloc(), &mut volume);
 }
 
 #[test]
-fn volume_over_a_log_has_its_limit(rt: HostRuntime) -> Result<(), Fail> {
-    let volume = fresh(rt.alloc(), with_journal(2))?;
+fn volume_over_a_log_has_its_limit(rt: HostRuntime) {
+    let volume = fresh(&rt, rt.alloc(), with_journal(2));
     expect_eq(&rt, volume.journal_limit(), 2);
-    Ok(())
 }

@@ -11,7 +11,6 @@ use lfs_volume::volume::Volume;
 use std::alloc::Global;
 use std::process::Abort;
 use std::sync::{Mutex, Wait};
-use std::test::Fail;
 use std::thread;
 use std::thread::Threads;
 
@@ -25,48 +24,42 @@ const AFTER: &str = "session 3\nread /a 0 512\nstat /b\nwrite /b at 0 7468657265
 const ANSWERS: &str = "3 bytes 68657265\n3 stat 5 file 0 0 0644 00000000 0\n3 ok\n";
 
 /// A volume with the file written.
-fn written(rt: &impl Abort, alloc: Global) -> Result<Box<Volume<LogStore>>, Fail> {
-    let mut volume = fresh(alloc, DEFAULTS)?;
-    run(rt, alloc, &mut volume, BEFORE, "3 ok\n3 ok\n")?;
-    Ok(volume)
+fn written(rt: &impl Abort, alloc: Global) -> Box<Volume<LogStore>> {
+    let mut volume = fresh(rt, alloc, DEFAULTS);
+    run(rt, alloc, &mut volume, BEFORE, "3 ok\n3 ok\n");
+    volume
 }
 
 /// The call that makes the other one.
-fn create(alloc: Global) -> Result<Request, Fail> {
-    let mode = Mode::new(0o644).ok_or("mode")?;
-    let path = Path::parse(alloc, "/b")?;
-    Ok(Request::Create { path, mode })
+fn create(rt: &impl Abort, alloc: Global) -> Request {
+    let mode = Mode::new(0o644).expect(rt, "a mode");
+    let path = Path::parse(alloc, "/b").expect(rt, "a path");
+    Request::Create { path, mode }
 }
 
 /// Has a volume with the file go into a thread that makes the other one, and come back.
-fn moved_and_called<R: Abort + Threads + Sync + Wait>(
-    rt: &R,
-    alloc: Global,
-) -> Result<Volume<LogStore>, Fail> {
-    let root = Cred::new(0, &[0], false)?;
-    let shared = Mutex::new(Box::into_inner(written(rt, alloc)?));
-    let call = create(alloc)?;
+fn moved_and_called<R: Abort + Threads + Sync + Wait>(rt: &R, alloc: Global) -> Volume<LogStore> {
+    let root = Cred::new(0, &[0], false).expect(rt, "a credential");
+    let shared = Mutex::new(Box::into_inner(written(rt, alloc)));
+    let call = create(rt, alloc);
     let shared = thread::scope(thread::scope_env(), rt, move |scope| {
         let worker = scope.spawn(move || {
             shared.lock(rt).call(1, &root, call);
             shared
         });
-        match worker {
-            Ok(worker) => Ok(worker.join(rt)),
-            Err(_) => Err(Fail::from("no thread")),
-        }
-    })?;
-    Ok(shared.into_inner())
+        worker.expect(rt, "a thread").join(rt)
+    });
+    shared.into_inner()
 }
 
 /// Asserts that a volume has kept the file, and has the other.
-fn assert_kept(rt: &impl Abort, alloc: Global, volume: &mut Volume<LogStore>) -> Result<(), Fail> {
+fn assert_kept(rt: &impl Abort, alloc: Global, volume: &mut Volume<LogStore>) {
     expect_eq(rt, volume.journal().len(), 3);
-    run(rt, alloc, volume, AFTER, ANSWERS)
+    run(rt, alloc, volume, AFTER, ANSWERS);
 }
 
 #[test]
-fn volume_in_a_mutex_moves_into_a_thread_and_back(rt: HostRuntime) -> Result<(), Fail> {
-    let mut volume = moved_and_called(&rt, rt.alloc())?;
-    assert_kept(&rt, rt.alloc(), &mut volume)
+fn volume_in_a_mutex_moves_into_a_thread_and_back(rt: HostRuntime) {
+    let mut volume = moved_and_called(&rt, rt.alloc());
+    assert_kept(&rt, rt.alloc(), &mut volume);
 }
