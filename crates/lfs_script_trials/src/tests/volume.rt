@@ -33,6 +33,7 @@ const ANSWERS: &[u8] = b"\
 
 /// The users' calls of a script.
 fn calls_of(rt: &impl Abort, alloc: Global, script: &[u8]) -> Vec<Call> {
+    assert!(rt; script.len() < 65_536);
     let plan = parse_script(alloc, script).expect(rt, "a script");
     let mut calls = Vec::new(alloc);
     for step in plan.into_steps() {

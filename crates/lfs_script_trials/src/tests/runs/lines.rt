@@ -5,8 +5,6 @@ use super::{PARAMS, expect_eq};
 use lfs_audit::run::run_over;
 use lfs_volume::flat_files::FlatFiles;
 use lfs_volume::volume::Volume;
-use std::alloc::Global;
-use std::process::Abort;
 
 /// The superuser's lines, and those of user 5.
 const SCRIPT: &[u8] = b"\
@@ -45,23 +43,12 @@ cleaner 7
 rule U1 3
 ";
 
-/// A volume whose cleaner finds nothing to do. It lies in memory of its own, since a function that holds a value of so many
-/// parts takes the prover seconds.
-fn unswept(rt: &impl Abort, alloc: Global) -> Box<Volume<Unswept>> {
-    let files = FlatFiles::new(alloc, 64).expect(rt, "a store");
-    let volume = Volume::new(alloc, Unswept::new(files), PARAMS.journal).expect(rt, "a volume");
-    Box::new(alloc, volume).expect(rt, "memory")
-}
-
-/// Asserts that a run of the script over a volume prints these lines.
-fn expect_printed(rt: &impl Abort, alloc: Global, volume: &mut Volume<Unswept>) {
-    let mut writer = Vec::new(alloc);
-    run_over(alloc, &mut &*SCRIPT, &mut writer, volume).expect(rt, "a run");
-    expect_eq(rt, writer.as_slice(), PRINTED);
-}
-
 #[test]
 fn cleaner_lines(rt: HostRuntime) {
-    let mut volume = unswept(&rt, rt.alloc());
-    expect_printed(&rt, rt.alloc(), &mut *volume);
+    let files = FlatFiles::new(rt.alloc(), 64).expect(&rt, "a store");
+    let store = Unswept::new(files);
+    let mut volume = Volume::new(rt.alloc(), store, PARAMS.journal).expect(&rt, "a volume");
+    let mut writer = Vec::new(rt.alloc());
+    run_over(rt.alloc(), &mut &*SCRIPT, &mut writer, &mut volume).expect(&rt, "a run");
+    expect_eq(&rt, writer.as_slice(), PRINTED);
 }
