@@ -82,6 +82,13 @@ fn longest_script(rt: HostRuntime) {
 }
 
 #[test]
+fn line_without_line_feed(rt: HostRuntime) {
+    let kind = FaultKind::Cut;
+    let fault = RunFault::Script(ScriptFault { line: 1, kind });
+    expect_fault(&rt, rt.alloc(), b"create /a 0644", fault);
+}
+
+#[test]
 fn writer_that_fails_at_each_write(rt: HostRuntime) {
     // Without their first line they are lines of session 0.
     let script = LONG_READS.trim_start_matches("session 1\n");
