@@ -1,11 +1,11 @@
 #!/bin/sh
-# Lets one allocation of each test of lfs_store_trials fail, the first, the second and so on, and tells what the tests of
-# each module named answered. With no names: recency and cache. There every test begins with a call of `new`, and only
-# that takes memory. So all tests have to end in AllocError, once for each allocation of `new`, and from then on all have
-# to pass. Anything else is a failure: a fault, a signal, another error, or tests of which some pass. A leak isn't seen,
-# and what the tests of other modules answer counts for nothing. RT names the command to run in place of `rt`.
+# Lets one allocation of each test of lfs_layer_trials fail, the first, the second and so on, and tells what the tests of
+# each named module of `stores` answered. With no names: recency and cache. There every test begins with a call of `new`,
+# and only that takes memory. So all tests have to end in AllocError, once for each allocation of `new`, and from then on
+# all have to pass. Anything else is a failure: a fault, a signal, another error, or tests of which some pass. A leak isn't
+# seen, and what the tests of other modules answer counts for nothing. RT names the command to run in place of `rt`.
 set -u
-cd "$(dirname "$0")/../crates/lfs_store_trials" || exit 2
+cd "$(dirname "$0")/../crates/lfs_layer_trials" || exit 2
 
 # So many allocations in a row have to make no difference, for the last one to be found.
 beyond=3
@@ -24,7 +24,7 @@ run_tests() {
 # test that fails has the lines that say why.
 answer() {
     run_tests "$2"
-    awk -v "of=test tests::$1::" '
+    awk -v "of=test tests::stores::$1::" '
         /^test / { of_module = index($0, of) == 1 }
         /^test / && of_module {
             if ($NF == "ok") passed++

@@ -1,5 +1,6 @@
-//! Trials of the lower layers: rules, blocks of directories, segments and their summaries, the ifile,
-//! records of inodes, and the log of a fresh volume. It has tests alone.
+//! Trials of what stands beneath a volume, and of texts: rules, blocks of directories, segments and their summaries, the
+//! ifile, records of inodes, the log, frames and the block cache, both stores alone, and values, scripts and answers as
+//! text. It has tests alone.
 #![tactic(auto)]
 
 #[cfg(test)]

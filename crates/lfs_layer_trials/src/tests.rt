@@ -1,5 +1,5 @@
-//! Worked cases of the rules, bytes that are written out by hand, ranges, and a log that is written, opened and
-//! read again.
+//! Worked cases of the rules, bytes that are written out by hand, ranges, a log that is written, opened and read again,
+//! stores after some use, and texts.
 
 mod directories;
 mod ifile;
@@ -7,6 +7,8 @@ mod inodes;
 mod log;
 mod rules;
 mod segments;
+mod stores;
+mod texts;
 
 ghost use Rattle.std.specs.Prelude.{◌<◌};
 

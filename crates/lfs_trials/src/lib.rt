@@ -1,5 +1,6 @@
-//! Trials of volumes, of sessions on threads and of the cleaner's passes: worked runs, with every answer compared. It has
-//! tests alone.
+//! Trials of volumes, of sessions on threads, of the cleaner's passes and of whole runs: scripts from bytes to bytes at the
+//! greatest sizes, on full volumes and on threads, the program's arguments, and what a run tells of its faults. It has tests
+//! alone.
 #![tactic(auto)]
 
 #[cfg(test)]

@@ -1,8 +1,10 @@
-//! What no clause says of volumes, sessions and passes: that runs are made, and answered as they must be.
+//! What no clause says of volumes, sessions, passes and whole runs: that they are made, and answered as they must be.
 
 mod passes;
+mod scripts;
 mod sessions;
 mod steps;
+mod unswept;
 
 use lfs_logstore::LogStore;
 use lfs_text::plan::{Act, Plan, Step};

@@ -2,9 +2,9 @@
 
 use super::{BOTH_USERS, bytes_read, expect_settled};
 use crate::tests::{calls, repeated};
-use lfs_flatfiles::flat_files::FlatFiles;
 use lfs_server::settle::Unsettled;
 use lfs_types::answer::{Answer, Served};
+use lfs_volume::flat_files::FlatFiles;
 use lfs_volume::volume::Volume;
 use std::alloc::Global;
 use std::process::Abort;

@@ -1,0 +1,6 @@
+//! Frames and blocks after some use, and stores whose files, infos and bytes are worked out by hand.
+
+mod cache;
+mod flatfiles;
+mod logstore;
+mod recency;

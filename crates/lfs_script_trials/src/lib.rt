@@ -1,6 +1,0 @@
-//! Trials of whole runs: scripts from bytes to bytes at the greatest sizes, on full volumes and on threads, the program's
-//! arguments, and what a run tells of its faults. It has tests alone.
-#![tactic(auto)]
-
-#[cfg(test)]
-mod tests;

@@ -1,6 +1,0 @@
-//! Trials of values and of texts: what names, modes and credentials are taken, copies, scripts and their faults, the texts of
-//! answers. It has tests alone.
-#![tactic(auto)]
-
-#[cfg(test)]
-mod tests;

@@ -1,0 +1,37 @@
+//! The status of a run, and faults that can't be told.
+
+use super::fakes::Full;
+use crate::tests::expect_eq;
+use lfs_audit::fault::{RunFault, ThreadsFault};
+use lfs_audit::tell::{end, tell};
+
+/// How runs end, and the status and the text of each.
+const ENDS: [(Result<(), ThreadsFault>, u8, &[u8]); 2] = [
+    (Ok(()), 0, b""),
+    (
+        Err(ThreadsFault::Run(RunFault::Write)),
+        1,
+        b"lfsd: write failed\n",
+    ),
+];
+
+#[test]
+fn status_of_a_run(rt: HostRuntime) {
+    for (outcome, status, text) in ENDS {
+        let mut told = Vec::new(rt.alloc());
+        expect_eq(&rt, end(&mut told, outcome), status);
+        expect_eq(&rt, told.as_slice(), text);
+    }
+}
+
+#[test]
+fn tell_to_a_writer_that_fails(rt: HostRuntime) {
+    for writes in 0..3 {
+        let mut writer = Full {
+            writes,
+            flushes: false,
+        };
+        let fault = ThreadsFault::Run(RunFault::Read);
+        expect_eq(&rt, tell(&mut writer, &fault), 1);
+    }
+}
