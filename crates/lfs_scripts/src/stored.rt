@@ -14,24 +14,32 @@ pub fn is_as_stored<R>(rt: &R, line: &str) -> anyhow::Result<bool>
 where
     R: Files + AllocGlobal + Print + Threads + Wait + Sync,
 {
+    let name = line.split(' ').next().unwrap_or_default();
+    let options = options_in(rt, line)?;
+    let written = output(rt, name, options)?;
+    let is_stored = is_output(rt, name, options, written.as_slice())?;
+    if is_stored {
+        println!(rt; "{line}: as stored")?;
+    } else {
+        print_lines(rt, line, written.as_slice())?;
+    }
+    Ok(is_stored)
+}
+
+/// What a line of the list asks for. Its name stands where the program's own does on a command line.
+fn options_in<R: AllocGlobal>(rt: &R, line: &str) -> anyhow::Result<Options> {
     let mut words = Vec::new(rt.alloc());
     for word in line.split(' ') {
         words.push(word)?;
     }
-    let name = words.first().copied().unwrap_or_default();
-    // The name stands where the program's own does on a command line.
-    let options = match options_of(rt.alloc(), words.as_slice()) {
-        Ok(options) => options,
-        Err(error) => return Err(anyhow!("{line}: {error}")),
-    };
-    let written = output(rt, name, options)?;
-    if is_output(rt, name, options, written.as_slice())? {
-        println!(rt; "{line}: as stored")?;
-        return Ok(true);
-    }
-    let lines = String::from_utf8_lossy(rt.alloc(), written.as_slice())?;
+    options_of(rt.alloc(), words.as_slice()).map_err(|error| anyhow!("{line}: {error}"))
+}
+
+/// Tells what a script printed that isn't stored.
+fn print_lines<R: AllocGlobal + Print>(rt: &R, line: &str, written: &[u8]) -> anyhow::Result<()> {
+    let lines = String::from_utf8_lossy(rt.alloc(), written)?;
     println!(rt; "{line}: other lines\n{lines}")?;
-    Ok(false)
+    Ok(())
 }
 
 /// What the script of this name prints.
