@@ -1,13 +1,14 @@
 -- What is appended to a text.
-use Rattle.std.proofs.Common.{◌≡◌, ℕ, ◌/◌, ◌%◌, ◌==◌, true, List, [], ◌∷◌, ◌++◌, length, codes, Result, Ok, Err, OnOk, refl, ◌∙◌, append_assoc}
+use Rattle.std.proofs.Common.{◌≡◌, ℕ, ◌+◌, ◌/◌, ◌%◌, ◌<◌, ◌≤◌, ◌==◌, true, List, [], ◌∷◌, ◌++◌, length, take, get_or, codes, Result, Ok, Err, OnOk, refl, ap, subst, ◌∙◌, append_assoc}
+use Rattle.std.specs.List.{flat_map}
 use Rattle.std.specs.Bool.{if◌then◌else◌}
 use Rattle.std.specs.Result.{is_ok}
 use Rattle.std.specs.Char.{digit_char}
 use Rattle.std.specs.Int.{w32, to_be_bytes}
 use Rattle.std.proofs.lemmas.Bool.{eqb-true}
-use Rattle.std.proofs.lemmas.List.{nil_from_length}
+use Rattle.std.proofs.lemmas.List.{flat_map_more, nil_from_length, take_all, take_more}
 use Rattle.lfs_words.specs.BytesText.{bytes_text, hex_text}
-use Rattle.lfs_words.specs.NameText.{flags_text, mode_text}
+use Rattle.lfs_words.specs.NameText.{byte_text, flags_text, mode_text, name_text}
 
 -- a text to which bytes were added, where memory was there
 pub added : {T E : Type 0} (result : Result T E) (new old bytes other wanted : List ℕ) → new ≡ (if is_ok result then old ++ bytes else other) → old ++ bytes ≡ wanted → OnOk result (new ≡ wanted)
@@ -34,3 +35,17 @@ pub flags_added : (new out spaced bytes : List ℕ) (bits flags : ℕ) → space
     → new ≡ spaced ++ hex_text bytes → new ≡ out ++ 32 ∷ flags_text flags
 unfolding flags_text
 flags_added new out spaced bytes bits flags e same told grown = rw (grown, told, same, e, append_assoc) refl
+
+-- one more byte of a name
+pub name_more : (out done name shown new : List ℕ) (i : ℕ) → shown ≡ name → i < length shown → done ≡ out ++ 32 ∷ flat_map byte_text (take i name)
+    → new ≡ done ++ byte_text (get_or shown i 0) → new ≡ out ++ 32 ∷ flat_map byte_text (take (i + 1) name)
+name_more out done name shown new i same lt so_far grown =
+    let within : i < length name = subst (λ xs. i < length xs) same lt in
+    let more = flat_map_more byte_text (out ++ 32 ∷ []) (take i name) (get_or name i 0) in
+    rw (grown, so_far, same, take_more name i 0 within, append_assoc) (simp append_assoc at more)
+
+-- all bytes of a name
+pub name_all : (out done name shown : List ℕ) (i : ℕ) → shown ≡ name → length shown ≤ i → done ≡ out ++ 32 ∷ flat_map byte_text (take i name)
+    → done ≡ out ++ 32 ∷ name_text name
+name_all out done name shown i same le so_far =
+    let past : length name ≤ i = subst (λ xs. length xs ≤ i) same le in so_far ∙ ap (λ xs. out ++ 32 ∷ flat_map byte_text xs) (take_all i name past)

@@ -19,14 +19,29 @@ none_above (suc zero) lt = absurd (omega arith)
 none_above (suc (suc zero)) lt = absurd (omega arith)
 none_above (suc (suc (suc n))) lt = refl
 
-refused : (n s : Bool) (v : ℕ) (kind : FaultKind) → nat_le v 2 ≡ s → result_map_both pos (λ kind. kind) (cond n (cond s (Ok v) (Err Range)) (Err Number)) ≡ Err kind → cond n (or_range (level_of (pos v))) (Err Number) ≡ Err kind
-refused true true v kind le e = absurd (cc)
-refused true false v kind le e = rw (none_above v (leb-false v 2 le)) (cc)
-refused false s v kind le e = cc
+-- nor is one that many below zero
+none_below : (v : ℕ) → 2 < v → level_of (neg_ℤ (pos v)) ≡ None
+none_below zero lt = absurd (omega arith)
+none_below (suc zero) lt = absurd (omega arith)
+none_below (suc (suc zero)) lt = absurd (omega arith)
+none_below (suc (suc (suc n))) lt = refl
+
+refused : (sign : ℤ → ℤ) (n s : Bool) (v : ℕ) (kind : FaultKind) → (2 < v → level_of (sign (pos v)) ≡ None) → nat_le v 2 ≡ s
+    → result_map_both pos (λ kind. kind) (cond n (cond s (Ok v) (Err Range)) (Err Number)) ≡ Err kind
+    → cond n (or_range (level_of (sign (pos v)))) (Err Number) ≡ Err kind
+refused sign true true v kind past le e = absurd (cc)
+refused sign true false v kind past le e = rw (past (leb-false v 2 le)) (cc)
+refused sign false s v kind past le e = cc
 
 -- a word whose number is refused is no level, for the same fault
 pub level_refused : (digits : List ℕ) (kind : FaultKind) → result_map_both pos (λ kind. kind) (number_of 10 20 2 digits) ≡ Err kind → level_signed (λ n. n) digits ≡ Err kind
-level_refused digits kind e = refused (is_numeral 10 20 digits) (nat_le (digits_value 10 digits) 2) (digits_value 10 digits) kind refl e
+level_refused digits kind e =
+    refused (λ n. n) (is_numeral 10 20 digits) (nat_le (digits_value 10 digits) 2) (digits_value 10 digits) kind (none_above (digits_value 10 digits)) refl e
+
+-- and so is one behind a minus
+pub minus_refused : (digits : List ℕ) (kind : FaultKind) → result_map_both pos (λ kind. kind) (number_of 10 20 2 digits) ≡ Err kind → level_signed neg_ℤ digits ≡ Err kind
+minus_refused digits kind e =
+    refused neg_ℤ (is_numeral 10 20 digits) (nat_le (digits_value 10 digits) 2) (digits_value 10 digits) kind (none_below (digits_value 10 digits)) refl e
 
 read : (sign : ℤ → ℤ) (n s : Bool) (v : ℕ) (z : ℤ) → nat_le v 2 ≡ s → result_map_both pos (λ kind. kind) (cond n (cond s (Ok v) (Err Range)) (Err Number)) ≡ Ok z → (z ≡ pos v) × (v ≤ 2) × (cond n (or_range (level_of (sign (pos v)))) (Err Number) ≡ or_range (level_of (sign z)))
 read sign true true v z le e =

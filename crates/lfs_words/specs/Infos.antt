@@ -1,5 +1,5 @@
 -- The block infos that words of a script spell.
-use Rattle.std.specs.Prelude.{ℕ, ◌==◌, ◌&&◌, nat_lt, List, [], ◌∷◌, length, Result, Ok, Err, if◌then◌else◌}
+use Rattle.std.specs.Prelude.{ℕ, Bool, ◌==◌, ◌&&◌, nat_lt, List, [], ◌∷◌, length, Result, Ok, Err, if◌then◌else◌}
 use Rattle.std.specs.List.{slice_split}
 use Rattle.lfs_types.specs.declared.cleaner.BlockInfo.{BlockInfo}
 use Rattle.lfs_words.specs.Callers.{is_decimal}
@@ -12,10 +12,15 @@ use Rattle.lfs_words.specs.declared.fault.FaultKind.TheVariants.{Many, Number}
 abbrev pub info_parts : List ℕ → List (List ℕ)
 info_parts word = slice_split (λ b. b == 58) word
 
+-- whether each of four parts is a decimal
+abbrev pub are_decimals : List ℕ → List ℕ → List ℕ → List ℕ → Bool
+are_decimals first second third fourth =
+    is_decimal first && is_decimal second && is_decimal third && is_decimal fourth
+
 -- the info of four parts, number, version, logical block and address: that each is a decimal is asked before any range
 abbrev pub info_from : List ℕ → List ℕ → List ℕ → List ℕ → Result BlockInfo FaultKind
 info_from first second third fourth =
-    if is_decimal first && is_decimal second && is_decimal third && is_decimal fourth then
+    if are_decimals first second third fourth then
     (short_of first >>= (λ ino. short_of second >>= (λ version. short_of third >>= (λ lbn. short_of fourth >>= (λ addr.
     Ok (record { ino = ino; version = version; lbn = lbn; addr = addr }))))))
     else Err Number

@@ -12,15 +12,16 @@ use lfs_types::mode::Mode;
 use lfs_types::name::Name;
 use std::alloc::AllocError;
 
-/// The digits of numbers.
-const DIGITS: [u8; 16] = *b"0123456789abcdef";
-
 /// The digit of a number below 16.
 fn digit(value: u8) -> u8
     requires { value < 16 }
     ensures { result ≡ digit_char value }
 {
-    DIGITS[value as usize]
+    if value < 10 {
+        b'0' + value
+    } else {
+        b'a' + (value - 10)
+    }
 }
 
 /// Appends a number in decimal, without a space.

@@ -2,7 +2,7 @@
 
 ghost use Rattle.std.specs.Prelude.{◌≡◌, map};
 ghost use Rattle.lfs_words.specs.Faults.{Reads};
-ghost use Rattle.lfs_words.specs.Infos.{info_from, info_of, infos_within};
+ghost use Rattle.lfs_words.specs.Infos.{are_decimals, info_from, info_of, info_of_parts, infos_within};
 
 use crate::fault::FaultKind;
 use crate::number::{is_decimal, short_decimal};
@@ -33,7 +33,14 @@ fn info(alloc: Global, word: &str) -> Result<BlockInfo, FaultKind>
     ensures { Reads (info_of word.now) result }
 {
     let parts = pieces(alloc, word, ':')?;
-    match parts.as_slice() {
+    info_of_parts(parts.as_slice())
+}
+
+/// The info of parts that are to be four.
+fn info_of_parts(parts: &[&str]) -> Result<BlockInfo, FaultKind>
+    ensures { result ≡ info_of_parts (map (λ x. x.now) parts.now) }
+{
+    match parts {
         [ino, version, lbn, addr] => info_from(ino, version, lbn, addr),
         _ => Err(FaultKind::Number),
     }
@@ -43,7 +50,7 @@ fn info(alloc: Global, word: &str) -> Result<BlockInfo, FaultKind>
 fn info_from(ino: &str, version: &str, lbn: &str, addr: &str) -> Result<BlockInfo, FaultKind>
     ensures { result ≡ info_from ino.now version.now lbn.now addr.now }
 {
-    if !(is_decimal(ino) && is_decimal(version) && is_decimal(lbn) && is_decimal(addr)) {
+    if !are_decimals(ino, version, lbn, addr) {
         return Err(FaultKind::Number);
     }
     let ino = short_decimal(ino)?;
@@ -56,4 +63,11 @@ fn info_from(ino: &str, version: &str, lbn: &str, addr: &str) -> Result<BlockInf
         lbn,
         addr,
     })
+}
+
+/// Whether each of four parts is a decimal.
+fn are_decimals(first: &str, second: &str, third: &str, fourth: &str) -> bool
+    ensures { result ≡ are_decimals first.now second.now third.now fourth.now }
+{
+    is_decimal(first) && is_decimal(second) && is_decimal(third) && is_decimal(fourth)
 }

@@ -4,7 +4,7 @@ use Rattle.std.proofs.lemmas.Result.{err_from_is_err_and}
 use Rattle.std.proofs.lemmas.Str.Pattern.{strip_prefix_char}
 use Rattle.lfs_types.specs.Levels.{level_of}
 use Rattle.lfs_words.specs.LevelText.{or_range}
-use Rattle.lfs_words.proofs.LevelWords.{level_refused, level_read, level_minus, level_plain, negated, kept, ok_or_range}
+use Rattle.lfs_words.proofs.LevelWords.{level_refused, minus_refused, level_read, level_minus, level_plain, negated, kept, ok_or_range}
 use Rattle.lfs_words.proofs.number.level.Goals as goal
 use Rattle.lfs_words.proofs.number.level.Goals.{in-Some+in_ok-level_number-in-Some, in-None+in_ok-number-in-None}
 
@@ -34,3 +34,12 @@ returns c =
           let number = w.number-is ∙ kept _ _ read.1 read.0 in
           gives ∙ ap or_range (c.new.ensures ∙ ap level_of number) ∙ sym (level_plain word without ∙ read.2)
     ]
+
+pub returns-in_err-level_number-in-Some : goal.returns-in_err-level_number-in-Some
+returns-in_err-level_number-in-Some c =
+    let word = c.args.word.now in
+    let cases = strip_prefix_char 45 word c.strip_prefix.result c.strip_prefix.ensures.cases (lit< tt) in
+    let signed : word ≡ 45 ∷ c.in-Some.digits.now = subst (λ r. MatchOption r ((rest : List ℕ) → word ≢ 45 ∷ rest) (λ x. word ≡ 45 ∷ x.now)) c.in-Some.is cases in
+    let exit = err_from_is_err_and c.from_residual.result c.from_residual.ensures.1 in
+    let fault = minus_refused c.in-Some.digits.now _ (sym c.level_number.ensures ∙ c.in_err-level_number-in-Some.was) in
+    rw (exit.1, exit.2) (sym (level_minus word c.in-Some.digits.now signed ∙ fault))
