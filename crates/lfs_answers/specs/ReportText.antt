@@ -6,6 +6,8 @@ use Rattle.lfs_model.specs.declared.journal.CleanerOutcome.TheVariants as outcom
 use Rattle.lfs_model.specs.declared.journal.Entry.{Entry}
 use Rattle.lfs_model.specs.declared.journal.Event.{Event}
 use Rattle.lfs_model.specs.declared.journal.Event.TheVariants.{User, Cleaner}
+use Rattle.lfs_answers.specs.declared.report.Counted.{Counted}
+use Rattle.lfs_answers.specs.declared.report.Counted.TheVariants as counted
 use Rattle.lfs_types.specs.RuleCodes.{rule_code}
 use Rattle.lfs_types.specs.declared.answer.Answer.TheVariants as answer
 use Rattle.lfs_types.specs.declared.rule.Rule.{Rule}
@@ -56,6 +58,14 @@ denied_code (Cleaner kind (outcome.Done number)) = []
 -- how many calls a rule denied
 abbrev pub denials : Rule → List Entry → ℕ
 denials rule entries = count_by (λ entry. bytes_eq (denied_code entry.event) (rule_code rule)) entries
+
+-- whether a number of the report counts an event
+abbrev pub is_counted : Counted → Event → Bool
+is_counted counted.Served event = is_served event
+is_counted counted.Denied event = is_denied event
+is_counted counted.Refused event = is_refused event
+is_counted counted.Cleaner event = is_cleaner event
+is_counted (counted.DeniedBy rule) event = bytes_eq (denied_code event) (rule_code rule)
 
 -- a line of a word and a number
 unfoldable pub count_line : List ℕ → ℕ → List ℕ

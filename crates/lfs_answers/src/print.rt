@@ -32,8 +32,14 @@ pub fn append_answer(out: &mut Vec<u8>, session: u8, answer: &Answer) -> Result<
 {
     push_decimal(out, u64::from(session))?;
     push_answer(out, answer)?;
-    out.push(b'\n')?;
-    Ok(())
+    end_line(out)
+}
+
+/// Ends a line.
+pub(crate) fn end_line(out: &mut Vec<u8>) -> Result<(), AllocError>
+    ensures { OnOk result (out.new.items ≡ out.old.items ++ 10 ∷ []) }
+{
+    out.extend_from_slice(b"\n")
 }
 
 /// Appends the words of an answer.
@@ -43,11 +49,16 @@ fn push_answer(out: &mut Vec<u8>, answer: &Answer) -> Result<(), AllocError>
     match answer {
         Answer::Served(served) => push_served(out, served),
         Answer::Denied(denial) => push_denial(out, *denial),
-        Answer::Refused(resource) => {
-            push_word(out, "refused")?;
-            push_word(out, resource_word(*resource))
-        }
+        Answer::Refused(resource) => push_words(out, "refused", resource_word(*resource)),
     }
+}
+
+/// Appends two words.
+fn push_words(out: &mut Vec<u8>, first: &str, second: &str) -> Result<(), AllocError>
+    ensures { OnOk result (out.new.items ≡ out.old.items ++ spaced (first.now ∷ second.now ∷ [])) }
+{
+    push_word(out, first)?;
+    push_word(out, second)
 }
 
 /// Appends the words of what a served call shows.
@@ -160,8 +171,7 @@ pub fn append_cleaner(
     push_word(out, "cleaner")?;
     push_word(out, cleaner_word(kind))?;
     push_cleaner(out, answer)?;
-    out.push(b'\n')?;
-    Ok(())
+    end_line(out)
 }
 
 /// Appends the words of an answer to a cleaner's call.
@@ -169,14 +179,8 @@ fn push_cleaner(out: &mut Vec<u8>, answer: &CleanerAnswer) -> Result<(), AllocEr
     ensures { OnOk result (out.new.items ≡ out.old.items ++ spaced (cleaner_words answer.now)) }
 {
     match answer {
-        CleanerAnswer::Refused(resource) => {
-            push_word(out, "refused")?;
-            push_word(out, resource_word(*resource))
-        }
-        CleanerAnswer::Denied(denial) => {
-            push_word(out, "denied")?;
-            push_word(out, denial.rule.code())
-        }
+        CleanerAnswer::Refused(resource) => push_words(out, "refused", resource_word(*resource)),
+        CleanerAnswer::Denied(denial) => push_words(out, "denied", denial.rule.code()),
         CleanerAnswer::Fault(fault) => push_fault(out, *fault),
         CleanerAnswer::Ifile(bytes) => push_done(out, bytes.as_slice().len() as u64),
         CleanerAnswer::Infos(infos) => push_done(out, infos.items().len() as u64),

@@ -2,12 +2,13 @@
 
 ghost use Rattle.std.specs.Prelude.{◌≡◌, ◌++◌, count_by, IfOk, OnOk};
 ghost use Rattle.std.specs.List.{flat_map};
-ghost use Rattle.lfs_answers.specs.ReportText.{count_line, denials, denied_code, is_cleaner, is_denied, is_refused, is_served, report_text, rule_line, users_lines};
+ghost use Rattle.lfs_answers.specs.ReportText.{count_line, denied_code, is_cleaner, is_counted, is_denied, is_refused, is_served, report_text, rule_line, users_lines};
 
+use crate::print::end_line;
 use lfs_model::journal::{CleanerOutcome, Entry, Event};
 use lfs_types::answer::Answer;
 use lfs_types::rule::Rule;
-use lfs_words::append::{push_number, push_word};
+use lfs_words::append::push_number;
 use std::alloc::{AllocError, Global};
 
 /// The rules, in the order in which they are reported.
@@ -34,6 +35,21 @@ const RULES: [Rule; 20] = [
     Rule::FitsFile,
 ];
 
+/// What a number of the report counts.
+#[derive(Clone, Copy)]
+pub(crate) enum Counted {
+    /// Users' calls that were served.
+    Served,
+    /// Users' calls that were denied.
+    Denied,
+    /// Users' calls that were refused.
+    Refused,
+    /// Calls that the cleaner made.
+    Cleaner,
+    /// Calls that a rule denied.
+    DeniedBy(Rule),
+}
+
 /// The report over a journal: how many entries it has, how many users' calls were served, denied and refused,
 /// how many calls the cleaner made, and how many calls each rule denied.
 pub fn report(alloc: Global, entries: &[Entry]) -> Result<Vec<u8>, AllocError>
@@ -50,7 +66,7 @@ pub fn append_report(out: &mut Vec<u8>, entries: &[Entry]) -> Result<(), AllocEr
 {
     push_count(out, "entries", entries.len())?;
     push_users_counts(out, entries)?;
-    push_count(out, "cleaner", cleaner_count(entries))?;
+    push_count(out, "cleaner", count(entries, Counted::Cleaner))?;
     push_rules(out, entries, &RULES)
 }
 
@@ -58,9 +74,9 @@ pub fn append_report(out: &mut Vec<u8>, entries: &[Entry]) -> Result<(), AllocEr
 fn push_users_counts(out: &mut Vec<u8>, entries: &[Entry]) -> Result<(), AllocError>
     ensures { OnOk result (out.new.items ≡ out.old.items ++ users_lines entries.now) }
 {
-    push_count(out, "served", served_count(entries))?;
-    push_count(out, "denied", denied_count(entries))?;
-    push_count(out, "refused", refused_count(entries))
+    push_count(out, "served", count(entries, Counted::Served))?;
+    push_count(out, "denied", count(entries, Counted::Denied))?;
+    push_count(out, "refused", count(entries, Counted::Refused))
 }
 
 /// Appends a line of a word and a number.
@@ -70,8 +86,7 @@ fn push_count(out: &mut Vec<u8>, word: &str, number: usize) -> Result<(), AllocE
 {
     out.extend_from_slice(word.as_bytes())?;
     push_number(out, number as u64)?;
-    out.push(b'\n')?;
-    Ok(())
+    end_line(out)
 }
 
 /// Appends the lines of the rules that denied calls.
@@ -85,70 +100,40 @@ fn push_rules(out: &mut Vec<u8>, entries: &[Entry], rules: &[Rule]) -> Result<()
 }
 
 /// Appends the line of a rule, where it denied a call.
-#[tactic(auto, unfolding(crate::specs::ReportText::rule_line))]
 fn push_rule(out: &mut Vec<u8>, entries: &[Entry], rule: Rule) -> Result<(), AllocError>
     ensures { OnOk result (out.new.items ≡ out.old.items ++ rule_line entries.now rule) }
 {
-    let number = denials(entries, rule);
+    let number = count(entries, Counted::DeniedBy(rule));
     if number == 0 {
         return Ok(());
     }
-    out.extend_from_slice(b"rule")?;
-    push_word(out, rule.code())?;
-    push_number(out, number as u64)?;
-    out.push(b'\n')?;
-    Ok(())
+    out.extend_from_slice(b"rule ")?;
+    push_count(out, rule.code(), number)
 }
 
-/// How many calls a rule denied.
-fn denials(entries: &[Entry], rule: Rule) -> usize
-    ensures { result ≡ denials rule entries.now }
-{
-    let code = rule.code();
-    entries
-        .iter()
-        .filter(|entry| denied_code(&entry.event) == code)
-        .count()
-}
-
-/// How many users' calls were served.
-fn served_count(entries: &[Entry]) -> usize
-    ensures { result ≡ count_by (λ entry. is_served entry.event) entries.now }
+/// How many entries a number of the report counts.
+fn count(entries: &[Entry], counted: Counted) -> usize
+    ensures { result ≡ count_by (λ entry. is_counted counted entry.event) entries.now }
 {
     entries
         .iter()
-        .filter(|entry| is_served(&entry.event))
+        .filter(|entry| counted.has(&entry.event))
         .count()
 }
 
-/// How many users' calls were denied.
-fn denied_count(entries: &[Entry]) -> usize
-    ensures { result ≡ count_by (λ entry. is_denied entry.event) entries.now }
-{
-    entries
-        .iter()
-        .filter(|entry| is_denied(&entry.event))
-        .count()
-}
-
-/// How many users' calls were refused.
-fn refused_count(entries: &[Entry]) -> usize
-    ensures { result ≡ count_by (λ entry. is_refused entry.event) entries.now }
-{
-    entries
-        .iter()
-        .filter(|entry| is_refused(&entry.event))
-        .count()
-}
-
-/// How many calls the cleaner made.
-fn cleaner_count(entries: &[Entry]) -> usize
-    ensures { result ≡ count_by (λ entry. is_cleaner entry.event) entries.now }
-{
-    entries
-        .iter()
-        .filter(|entry| is_cleaner(&entry.event))
-        .count()
+impl Counted {
+    /// Whether an event is counted.
+    fn has(self, event: &Event) -> bool
+        ensures { result ≡ is_counted self event.now }
+    {
+        match self {
+            Counted::Served => is_served(event),
+            Counted::Denied => is_denied(event),
+            Counted::Refused => is_refused(event),
+            Counted::Cleaner => is_cleaner(event),
+            Counted::DeniedBy(rule) => denied_code(event) == rule.code(),
+        }
+    }
 }
 
 /// The code of the rule that denied a call.
