@@ -146,9 +146,8 @@ where
     ensures fault { IfErr result IsRunFault }
 {
     let limit = volume.journal_limit();
-    let (jobs, rings) = prepare(rt, alloc, sessions)?;
     let answers = run_setup(alloc, &mut volume, setup, gate)?;
-    let (volume, transcripts) = run_sessions(rt, alloc, volume, jobs, rings, gate)?;
+    let (volume, transcripts) = run_sessions(rt, alloc, volume, sessions, gate)?;
     close(volume, limit, setup, answers, sessions, transcripts)
 }
 
@@ -169,8 +168,7 @@ fn run_sessions<R, F, G>(
     rt: &R,
     alloc: Global,
     volume: Volume<F>,
-    jobs: Vec<Session<'_>>,
-    rings: Rings,
+    scripts: &[Script],
     gate: &G,
 ) -> Result<(Volume<F>, Vec<Vec<Answer>>), ServeFault>
 where
@@ -179,6 +177,7 @@ where
     G: Gate,
     ensures { IfErr result IsRunFault }
 {
+    let (jobs, rings) = prepare(rt, alloc, scripts)?;
     let shared = Mutex::new(volume);
     let transcripts = run_threads(rt, alloc, &shared, jobs, &rings, gate)?;
     Ok((shared.into_inner(), transcripts))
@@ -331,21 +330,42 @@ fn close<F: FileStore + Drop>(
         closed.volume.journal closed.volume.limit) }
     ensures fault { IfErr result IsRunFault }
 {
-    if volume.journal_limit() != limit || transcripts.len() > MOST_SESSIONS {
-        return Err(ServeFault::Unsettled(STRANGER));
-    }
-    match settle(
+    check_closed(
         &volume,
+        limit,
         setup,
         answers.as_slice(),
         sessions,
         transcripts.as_slice(),
-    ) {
+    )?;
+    Ok(Closed {
+        volume,
+        setup: answers,
+        transcripts,
+    })
+}
+
+/// Asks that a volume's journal be an interleaving of what was asked and answered, and have this limit.
+fn check_closed<F: FileStore + Drop>(
+    volume: &Volume<F>,
+    limit: u32,
+    setup: &Script,
+    answers: &[Answer],
+    sessions: &[Script],
+    transcripts: &[Vec<Answer>],
+) -> Result<(), ServeFault>
+    requires { length sessions.now ≤ 8 }
+    ensures settled { OnOk result (IsInterleaving
+        (run_of volume.now.journal volume.now.limit
+        setup.now answers.now sessions.now transcripts.now)) }
+    ensures limit { OnOk result (volume.now.limit ≡ limit) }
+    ensures fault { IfErr result IsRunFault }
+{
+    if volume.journal_limit() != limit || transcripts.len() > MOST_SESSIONS {
+        return Err(ServeFault::Unsettled(STRANGER));
+    }
+    match settle(volume, setup, answers, sessions, transcripts) {
+        Ok(()) => Ok(()),
         Err(Unsettled(session)) => Err(ServeFault::Unsettled(session)),
-        Ok(()) => Ok(Closed {
-            volume,
-            setup: answers,
-            transcripts,
-        }),
     }
 }

@@ -1,4 +1,4 @@
-use Rattle.std.proofs.Common.{rules}
+use Rattle.std.proofs.Common.{◌≡◌, ℕ, IfOk, rules, subst}
 use Rattle.lfs_server.proofs.ServeLemmas.{serve_faults}
 use Rattle.lfs_server.proofs.serve.serve.Goals as goal
 
@@ -16,3 +16,10 @@ returns-clause-settled g c = c.serve_over.ensures.settled
 
 pub returns-clause-legal : goal.returns-clause-legal
 returns-clause-legal g c = c.serve_over.ensures.legal
+
+pub returns-clause-limit : goal.returns-clause-limit
+returns-clause-limit g c =
+    subst (λ (limit : ℕ). IfOk c.serve_over.result (λ closed. closed.volume.limit ≡ limit)) c.in_ok-volume.ensures.limit c.serve_over.ensures.limit
+
+pub returns-clause-sessions : goal.returns-clause-sessions
+returns-clause-sessions g c = c.serve_over.ensures.sessions

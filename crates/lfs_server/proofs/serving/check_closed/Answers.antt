@@ -1,5 +1,5 @@
 use Rattle.std.proofs.Common.{rules}
-use Rattle.lfs_server.proofs.serving.close.Goals as goal
+use Rattle.lfs_server.proofs.serving.check_closed.Goals as goal
 
 pub returns-in-Err-clause-settled : goal.returns-in-Err-clause-settled
 returns-in-Err-clause-settled g c = tt
