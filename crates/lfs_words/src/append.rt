@@ -12,16 +12,15 @@ use lfs_types::mode::Mode;
 use lfs_types::name::Name;
 use std::alloc::AllocError;
 
+/// The digits of numbers.
+const DIGITS: [u8; 16] = *b"0123456789abcdef";
+
 /// The digit of a number below 16.
 fn digit(value: u8) -> u8
     requires { value < 16 }
     ensures { result ≡ digit_char value }
 {
-    if value < 10 {
-        b'0' + value
-    } else {
-        b'a' + (value - 10)
-    }
+    DIGITS[value as usize]
 }
 
 /// Appends a number in decimal, without a space.

@@ -6,52 +6,42 @@ ghost use Rattle.lfs_words.specs.declared.fault.FaultKind.TheVariants.{Memory};
 use lfs_types::cred::BadCred;
 use lfs_types::path::BadPath;
 use std::alloc::{AllocError, AllocFailed};
-use std::error::Error;
-use std::fmt;
+use thiserror::Error;
 
 /// What is wrong with a line of a script, in the order in which it is asked (this project's profile).
-#[derive(Clone, Copy, PartialEq, Eq, Debug)]
+#[derive(Clone, Copy, PartialEq, Eq, Debug, Error)]
 pub enum FaultKind {
     /// The line has no line feed.
+    #[error("Cut")]
     Cut,
     /// A byte is outside 0x20 to 0x7E.
+    #[error("Bytes")]
     Bytes,
     /// The first word is unknown, the number of words is wrong, a word is empty, or a fixed word is another.
+    #[error("Words")]
     Words,
     /// There are more block infos than the call takes.
+    #[error("Many")]
     Many,
     /// A number has no digits, a wrong digit or too many digits.
+    #[error("Number")]
     Number,
     /// A number is out of its range, or bytes are too many.
+    #[error("Range")]
     Range,
     /// The path is refused.
+    #[error("Path")]
     Path(BadPath),
     /// Bytes have a wrong digit or an odd number of digits.
+    #[error("Hex")]
     Hex,
     /// The credential is refused.
+    #[error("Cred")]
     Cred(BadCred),
     /// A growth was refused.
+    #[error("Memory")]
     Memory,
 }
-
-impl fmt::Display for FaultKind {
-    fn fmt<W: fmt::Write>(&self, f: &mut fmt::Formatter<W>) -> fmt::Result {
-        f.write_str(match self {
-            FaultKind::Cut => "Cut",
-            FaultKind::Bytes => "Bytes",
-            FaultKind::Words => "Words",
-            FaultKind::Many => "Many",
-            FaultKind::Number => "Number",
-            FaultKind::Range => "Range",
-            FaultKind::Path(_) => "Path",
-            FaultKind::Hex => "Hex",
-            FaultKind::Cred(_) => "Cred",
-            FaultKind::Memory => "Memory",
-        })
-    }
-}
-
-impl Error for FaultKind {}
 
 impl From<AllocError> for FaultKind {
     ghost from_gives = { λ _ kind. kind ≡ Memory };
