@@ -4,7 +4,9 @@ use Rattle.std.specs.Prelude.{IfSome}
 use Rattle.lfs_types.specs.Caller.{Caller}
 use Rattle.lfs_types.specs.StoreStates.{StoreState}
 use Rattle.lfs_types.specs.declared.cleaner.CleanerCall.{CleanerCall}
+use Rattle.lfs_types.specs.declared.cleaner.CleanerCall.TheVariants as calls
 use Rattle.lfs_types.specs.declared.level.Level.{Level}
+use Rattle.lfs_types.specs.declared.rule.Denial.{Denial}
 use Rattle.lfs_model.specs.declared.journal.CleanerAnswer.{CleanerAnswer}
 use Rattle.lfs_model.specs.declared.journal.CleanerAnswer.TheVariants.{Refused, Denied, Fault, Ifile, Infos, Bmapv, Marked, Cleaned}
 use Rattle.lfs_model.specs.declared.journal.CleanerOutcome.{CleanerOutcome}
@@ -14,7 +16,7 @@ use Rattle.lfs_model.specs.Cleaning.{IsCleaning}
 use Rattle.lfs_model.specs.Runs.{cleans, kind_of, outcome_of}
 use Rattle.lfs_model.specs.Steps.{world_of}
 use Rattle.lfs_calls.specs.Content.{Shows}
-use Rattle.lfs_volume.specs.Cleanings.{CleansOnly, IsCleaned}
+use Rattle.lfs_volume.specs.Cleanings.{Cleaner as Store, CleansOnly, IsCleaned, IsCleanerAnswer, IsDone}
 use Rattle.lfs_volume.specs.Journals.{IsJournal, IsStep}
 
 -- the shape stays, whatever the answer
@@ -27,6 +29,26 @@ shape_stays (Infos infos) old new h = h.shape
 shape_stays (Bmapv infos) old new h = h.shape
 shape_stays (Marked count) old new h = h.shape
 shape_stays Cleaned old new h = cc
+
+-- no call that is made is denied
+not_denied : {F : Type 0} (r : Store F) (old new : F) (call : CleanerCall) (denial : Denial) → IsDone r old call (Denied denial) new → ⊥
+not_denied r old new calls.Ifile denial h = h
+not_denied r old new (calls.Infos segment) denial h = h
+not_denied r old new (calls.Bmapv infos) denial h = h
+not_denied r old new (calls.Markv marks) denial h = h
+not_denied r old new (calls.Segclean segment) denial h = h
+
+-- what the store's call gave is the superuser's answer
+pub answered_done : {F : Type 0} (r : Store F) (old : F) (caller : Caller) (call : CleanerCall) (answer : CleanerAnswer) (new : F)
+    → caller.uid ≡ 0 → IsDone r old call answer new → IsCleanerAnswer r old caller call answer new
+answered_done r old caller call (Refused resource) new is h = (is, h)
+answered_done r old caller call (Denied denial) new is h = absurd (not_denied r old new call denial h)
+answered_done r old caller call (Fault fault) new is h = (is, h)
+answered_done r old caller call (Ifile bytes) new is h = (is, h)
+answered_done r old caller call (Infos infos) new is h = (is, h)
+answered_done r old caller call (Bmapv infos) new is h = (is, h)
+answered_done r old caller call (Marked count) new is h = (is, h)
+answered_done r old caller call Cleaned new is h = (is, h)
 
 pub IsStep-cleaned : (old new : StoreState) (level : Level) (es : List Entry) (limit : ℕ) (caller : Caller) (call : CleanerCall) (answer : CleanerAnswer)
     (outcome : CleanerOutcome) → IsJournal old level es limit → IsCleaned old new caller call answer → outcome_of answer ≡ Some outcome

@@ -1,10 +1,11 @@
 //! The cleaner's calls over a store.
 
 ghost use Rattle.std.specs.Prelude.{◌≡◌, ◌^◌, ◌<◌, ◌≤◌, List, Ok, Err, IfSome, MatchResult, length};
+ghost use Rattle.lfs_types.specs.Caller.{Caller};
 ghost use Rattle.lfs_types.specs.Cleaned.{IsListingFault, ifile_size};
 ghost use Rattle.lfs_types.specs.declared.cleaner.BlockInfo.{BlockInfo};
 ghost use Rattle.lfs_model.specs.Runs.{outcome_of};
-ghost use Rattle.lfs_volume.specs.Cleanings.{IsCleaned, IsCleanerAnswer, IsCounted, cleaner_of};
+ghost use Rattle.lfs_volume.specs.Cleanings.{IsCleaned, IsCleanerAnswer, IsCounted, IsDone, cleaner_of};
 
 use lfs_model::journal::{CleanerAnswer, CleanerOutcome};
 use lfs_types::answer::Resource;
@@ -28,6 +29,17 @@ pub fn cleaned<F: CleanedStore>(store: &mut F, cred: &Cred, call: CleanerCall) -
             at: 0,
         });
     }
+    done(store, call)
+}
+
+/// The answer to a superuser's call: what the store's call gives.
+fn done<F: CleanedStore>(store: &mut F, call: CleanerCall) -> CleanerAnswer
+    ensures done { IsDone
+        (cleaner_of F.state F.gives_ifile F.gives_infos F.gives_addresses F.writes_again F.reclaims)
+        store.old call result store.new }
+    ensures cleaned { (caller : Caller) → caller.uid ≡ 0
+        → IsCleaned (F.state store.old) (F.state store.new) caller call result }
+{
     match call {
         CleanerCall::Ifile => match ifile(store) {
             Some(bytes) => CleanerAnswer::Ifile(bytes),

@@ -11,7 +11,7 @@ ghost use Rattle.lfs_calls.specs.Outcomes.{IsOutcome};
 ghost use Rattle.lfs_calls.specs.Volumes.{HasWorld, IsVolume};
 ghost use Rattle.lfs_volume.specs.Cleanings.{CleansOnly, IsCleanerAnswer, cleaner_of};
 ghost use Rattle.lfs_volume.specs.Copies.{is_lack_of_memory};
-ghost use Rattle.lfs_volume.specs.Journals.{AreAnswers, IsAnswered, IsJournal, Stays, StaysJournal, level_left};
+ghost use Rattle.lfs_volume.specs.Journals.{AreAnswers, IsAnswered, IsJournal, Stays, StaysJournal, level_left, level_set};
 ghost use Rattle.lfs_volume.specs.StepRuns.{AreLegalAlone, AreSteps, IsActMade};
 
 use crate::cleaning::{cleaned, outcome};
@@ -97,6 +97,24 @@ impl<F: FileStore + Drop> Volume<F> {
             drop(request);
             return Answer::Refused(Resource::JournalFull);
         }
+        self.answer_and_enter(session, cred, request)
+    }
+
+    /// Makes a user's call for whose entry the journal has room.
+    fn answer_and_enter(&mut self, session: u8, cred: &Cred, request: Request) -> Answer
+        requires { length self.old.journal < self.old.limit }
+        ensures outcome { let old = F.state self.old.store in
+            IsOutcome old (world_of old.shape.numbers self.old.journal) cred.now request result }
+        ensures entered { self.new.journal ≡ self.old.journal
+            ++ kept_entry session cred.now request result }
+        ensures legal { IsJournal (F.state self.new.store)
+            self.new.level self.new.journal self.new.limit }
+        ensures unserved { IsUnserved result
+            → Stays (F.state self.old.store) (F.state self.new.store)
+            self.old.level self.new.level }
+        ensures limit { self.new.limit ≡ self.old.limit }
+        ensures follows { Follows (F.state self.old.store) (F.state self.new.store) }
+    {
         let alloc = *self.journal.allocator();
         let answers = answer_twice(alloc, &mut self.store, &mut self.level, cred, &request);
         let Some((answer, copy)) = answers else {
@@ -129,10 +147,7 @@ impl<F: FileStore + Drop> Volume<F> {
             request,
         } in calls {
             let answer = self.call(session, &cred, request);
-            match answers.push(answer) {
-                Ok(()) => (),
-                Err(_) => unreachable!(),
-            }
+            push_within(&mut answers, answer);
         }
         Ok(answers)
     }
@@ -228,10 +243,7 @@ impl<F: CleanedStore + Drop> Volume<F> {
         };
         for step in steps {
             let answered = self.make(step);
-            match answers.push(answered) {
-                Ok(()) => (),
-                Err(_) => unreachable!(),
-            }
+            push_within(&mut answers, answered);
         }
         Ok(answers)
     }
@@ -275,7 +287,16 @@ fn enter(journal: &mut Vec<Entry>, session: u8, cred: &Cred, event: Event)
         cred: *cred,
         event,
     };
-    match journal.push(entry) {
+    push_within(journal, entry);
+}
+
+/// Pushes an item onto a vector that has room for it.
+fn push_within<T: Drop>(items: &mut Vec<T>, item: T)
+    requires { vec_len items.old < vec_capacity items.old }
+    ensures pushed { items.new.items ≡ items.old.items ++ item ∷ [] }
+    ensures room { vec_capacity items.old ≤ vec_capacity items.new }
+{
+    match items.push(item) {
         Ok(()) => (),
         Err(_) => unreachable!(),
     }
@@ -292,8 +313,18 @@ fn lacks_memory(answer: &Answer) -> bool
 fn level_left(level: Level, request: &Request, answer: &Answer) -> Level
     ensures { result ≡ level_left level request.now answer.now }
 {
-    match (request, answer) {
-        (Request::SetLevel { level: new }, Answer::Served(_)) => *new,
+    match answer {
+        Answer::Served(_) => level_set(level, request),
+        Answer::Denied(_) | Answer::Refused(_) => level,
+    }
+}
+
+/// The securelevel that a served call leaves.
+fn level_set(level: Level, request: &Request) -> Level
+    ensures { result ≡ level_set level request.now }
+{
+    match request {
+        Request::SetLevel { level: new } => *new,
         _ => level,
     }
 }

@@ -1,77 +1,36 @@
-use Rattle.std.proofs.Common.{rules, sym, subst, arith}
-use Rattle.lfs_types.specs.StoreStates.{StoreState}
-use Rattle.lfs_types.specs.Tree.{World}
-use Rattle.lfs_types.specs.declared.answer.Answer.TheVariants.{Refused}
-use Rattle.lfs_types.specs.declared.answer.Resource.TheVariants.{NoMemory}
-use Rattle.lfs_model.specs.declared.journal.Event.TheVariants.{User}
-use Rattle.lfs_model.specs.Steps.{world_of}
-use Rattle.lfs_calls.specs.Outcomes.{IsOutcome}
-use Rattle.lfs_volume.specs.Journals.{IsStep}
-use Rattle.lfs_volume.proofs.JournalLemmas.{IsJournal-same, IsStep-answered}
+use Rattle.std.proofs.Common.{rules, ◌<◌, length, subst, arith}
 use Rattle.lfs_volume.proofs.volume.Volume.call.Goals as goal
-use Rattle.lfs_volume.proofs.volume.Volume.call.Goals.{After-answer_twice-answers, After-enter}
 
--- the store before the call and after it
-abbrev before : (g : _) (c : After-answer_twice-answers g) → StoreState
-before g c = g.F.FileStore.state c.self.inside.store
+pub answer_and_enter-requires : goal.answer_and_enter-requires
+answer_and_enter-requires g c =
+    subst (λ v. length v.journal < v.limit) c.self.view_is (omega (arith, c.if-len-self.false, c.len.ensures, c.self.inside.journal.ok.0))
 
-abbrev after : (g : _) (c : After-answer_twice-answers g) → StoreState
-after g c = g.F.FileStore.state c.answer_twice-answers.new.store
+pub returns-then-len-self-clause-full : goal.returns-then-len-self-clause-full
+returns-then-len-self-clause-full g c = search rules
 
--- the world before the call
-abbrev world : (g : _) (c : After-answer_twice-answers g) → World
-world g c = world_of (before g c).shape.numbers c.self.inside.journal.items
+pub returns-then-len-self-clause-at_limit : goal.returns-then-len-self-clause-at_limit
+returns-then-len-self-clause-at_limit g c = search rules
 
-pub answer_twice-answers-requires : goal.answer_twice-answers-requires
-answer_twice-answers-requires g c =
-    let j = c.self.invariant.0 in
-    (world_of (g.F.FileStore.state c.self.inside.store).shape.numbers c.self.inside.journal.items, j.shown)
+pub returns-then-len-self-clause-shown : goal.returns-then-len-self-clause-shown
+returns-then-len-self-clause-shown g c = search rules
 
-pub returns-in_default-clause-legal : goal.returns-in_default-clause-legal
-returns-in_default-clause-legal g c =
-    let k = (goal.at.returns-in_default-clause-legal g c).After-answer_twice-answers in
-    let a = c.in_default.ensures in
-    IsJournal-same (before g k) (after g k) c.self.inside.level c.answer_twice-answers.new.level c.self.inside.journal.items c.self.inside.limit c.self.invariant.0 (a.unserved tt) a.follows
+pub returns-then-len-self-clause-outcome : goal.returns-then-len-self-clause-outcome
+returns-then-len-self-clause-outcome g c = search rules
 
-pub invariant_of-self : goal.invariant_of-self
-invariant_of-self g c = (returns-in_default-clause-legal g c, c.self.invariant.1)
+pub returns-then-len-self-clause-entered : goal.returns-then-len-self-clause-entered
+returns-then-len-self-clause-entered g c = search rules
 
-pub returns-in_default-clause-outcome : goal.returns-in_default-clause-outcome
-returns-in_default-clause-outcome g c room =
-    let k = (goal.at.returns-in_default-clause-outcome g c).After-answer_twice-answers in
-    let j = c.self.invariant.0 in
-    let a = c.in_default.ensures in
-    subst (λ v. IsOutcome (g.F.FileStore.state v.store) (world_of (g.F.FileStore.state v.store).shape.numbers v.journal) c.args.cred.now c.args.request (Refused NoMemory)) c.self.view_is
-    (a.outcome (world g k) j.shown j.at_level)
+pub returns-then-len-self-clause-legal : goal.returns-then-len-self-clause-legal
+returns-then-len-self-clause-legal g c = search rules
 
-pub returns-clause-outcome : goal.returns-clause-outcome
-returns-clause-outcome g c room =
-    let k = (goal.at.returns-clause-outcome g c).After-answer_twice-answers in
-    let j = c.self.invariant.0 in
-    subst (λ v. IsOutcome (g.F.FileStore.state v.store) (world_of (g.F.FileStore.state v.store).shape.numbers v.journal) c.args.cred.now c.args.request c.in-Some.answer) c.self.view_is
-    (c.in-Some.ensures.2.outcome (world g k) j.shown j.at_level)
+pub returns-then-len-self-clause-unserved : goal.returns-then-len-self-clause-unserved
+returns-then-len-self-clause-unserved g c = search rules
 
-pub returns-clause-legal : goal.returns-clause-legal
-returns-clause-legal g c =
-    let k = (goal.at.returns-clause-legal g c).After-answer_twice-answers in
-    let twice = c.in-Some.ensures in
-    let step = IsStep-answered (before g k) (after g k) c.self.inside.level c.answer_twice-answers.new.level c.self.inside.journal.items c.self.inside.limit c.args.cred.now c.args.request c.in-Some.answer
-    c.self.invariant.0 twice.2 twice.1 in
-    c.enter.ensures.legal (before g k) (after g k) c.self.inside.level c.answer_twice-answers.new.level c.self.inside.limit c.self.invariant.0
-    (omega (arith, c.if-len-self.false, c.len.ensures, c.self.inside.journal.ok.0))
-    (subst (λ a. IsStep (before g k) (after g k) c.answer_twice-answers.new.level (world g k) c.args.cred.now (User c.args.request a)) (sym twice.0) step)
+pub returns-then-len-self-clause-limit : goal.returns-then-len-self-clause-limit
+returns-then-len-self-clause-limit g c = search rules
 
-pub invariant_of-self-2 : goal.invariant_of-self-2
-invariant_of-self-2 g c = (returns-clause-legal g c, omega (arith, c.self.invariant.1, c.enter.ensures.room))
-
-pub returns-in_default-clause-full : goal.returns-in_default-clause-full
-returns-in_default-clause-full g c = search rules
-
-pub returns-in_default-clause-at_limit : goal.returns-in_default-clause-at_limit
-returns-in_default-clause-at_limit g c = search rules
-
-pub enter-requires : goal.enter-requires
-enter-requires g c = search rules
+pub returns-then-len-self-clause-follows : goal.returns-then-len-self-clause-follows
+returns-then-len-self-clause-follows g c = search rules
 
 pub returns-clause-full : goal.returns-clause-full
 returns-clause-full g c = search rules
@@ -79,8 +38,23 @@ returns-clause-full g c = search rules
 pub returns-clause-at_limit : goal.returns-clause-at_limit
 returns-clause-at_limit g c = search rules
 
+pub returns-clause-shown : goal.returns-clause-shown
+returns-clause-shown g c = search rules
+
+pub returns-clause-outcome : goal.returns-clause-outcome
+returns-clause-outcome g c = search rules
+
 pub returns-clause-entered : goal.returns-clause-entered
 returns-clause-entered g c = search rules
 
+pub returns-clause-legal : goal.returns-clause-legal
+returns-clause-legal g c = search rules
+
+pub returns-clause-unserved : goal.returns-clause-unserved
+returns-clause-unserved g c = search rules
+
 pub returns-clause-limit : goal.returns-clause-limit
 returns-clause-limit g c = search rules
+
+pub returns-clause-follows : goal.returns-clause-follows
+returns-clause-follows g c = search rules

@@ -42,3 +42,69 @@ returns-then-len-self-clause-cleans g c = search rules
 
 pub returns-clause-entered : goal.returns-clause-entered
 returns-clause-entered g c = search rules
+
+pub returns-then-len-self-clause-full : goal.returns-then-len-self-clause-full
+returns-then-len-self-clause-full g c = search rules
+
+pub returns-then-len-self-clause-shown : goal.returns-then-len-self-clause-shown
+returns-then-len-self-clause-shown g c = search rules
+
+pub returns-then-len-self-clause-answered : goal.returns-then-len-self-clause-answered
+returns-then-len-self-clause-answered g c = search rules
+
+pub returns-then-len-self-clause-entered : goal.returns-then-len-self-clause-entered
+returns-then-len-self-clause-entered g c = search rules
+
+pub returns-then-len-self-clause-stays : goal.returns-then-len-self-clause-stays
+returns-then-len-self-clause-stays g c = search rules
+
+pub returns-then-len-self-clause-limit : goal.returns-then-len-self-clause-limit
+returns-then-len-self-clause-limit g c = search rules
+
+pub returns-in_default-clause-full : goal.returns-in_default-clause-full
+returns-in_default-clause-full g c = search rules
+
+pub returns-in_default-clause-at_limit : goal.returns-in_default-clause-at_limit
+returns-in_default-clause-at_limit g c = search rules
+
+pub returns-in_default-clause-shown : goal.returns-in_default-clause-shown
+returns-in_default-clause-shown g c = search rules
+
+pub returns-in_default-clause-answered : goal.returns-in_default-clause-answered
+returns-in_default-clause-answered g c = search rules
+
+pub returns-in_default-clause-entered : goal.returns-in_default-clause-entered
+returns-in_default-clause-entered g c = search rules
+
+pub returns-in_default-clause-legal : goal.returns-in_default-clause-legal
+returns-in_default-clause-legal g c = search rules
+
+pub returns-in_default-clause-stays : goal.returns-in_default-clause-stays
+returns-in_default-clause-stays g c = search rules
+
+pub returns-in_default-clause-cleans : goal.returns-in_default-clause-cleans
+returns-in_default-clause-cleans g c = search rules
+
+pub returns-in_default-clause-limit : goal.returns-in_default-clause-limit
+returns-in_default-clause-limit g c = search rules
+
+pub returns-clause-full : goal.returns-clause-full
+returns-clause-full g c = search rules
+
+pub returns-clause-at_limit : goal.returns-clause-at_limit
+returns-clause-at_limit g c = search rules
+
+pub returns-clause-shown : goal.returns-clause-shown
+returns-clause-shown g c = search rules
+
+pub returns-clause-answered : goal.returns-clause-answered
+returns-clause-answered g c = search rules
+
+pub returns-clause-stays : goal.returns-clause-stays
+returns-clause-stays g c = search rules
+
+pub returns-clause-cleans : goal.returns-clause-cleans
+returns-clause-cleans g c = search rules
+
+pub returns-clause-limit : goal.returns-clause-limit
+returns-clause-limit g c = search rules

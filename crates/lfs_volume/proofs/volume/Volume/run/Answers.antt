@@ -12,6 +12,9 @@ use Rattle.lfs_volume.specs.Journals.{AreAnswers, IsCaused}
 use Rattle.lfs_volume.proofs.JournalLemmas.{AreAnswers-append}
 use Rattle.lfs_volume.proofs.volume.Volume.run.Goals as goal
 
+pub loop-session-init : goal.loop-session-init
+loop-session-init g c = search rules
+
 pub loop-session-preserved : goal.loop-session-preserved
 loop-session-preserved g c =
     let i = c.loop-session.invariant in
@@ -23,7 +26,7 @@ loop-session-preserved g c =
     let state = g.F.FileStore.state before.store in
     let limit = c.args.self.now.limit in
     let journal = c.args.self.now.journal ++ kept c.loop-session.yielded c.loop-session.answers.items in
-    let pushed : c.push.new.self.items ≡ c.loop-session.answers.items ++ answer ∷ [] = c.in-Ok-push.ensures.items in
+    let pushed : c.push_within.new.items.items ≡ c.loop-session.answers.items ++ answer ∷ [] = c.push_within.ensures.pushed in
     let stepped : c.loop-session.session-iterator.rest.items ≡ one ∷ c.next.new.self.rest.items = c.in-Some.ensures.steps.0 in
     let cause : length journal < limit → IsCaused first journal one answer = λ room. record {
       store = state;
@@ -47,7 +50,7 @@ loop-session-preserved g c =
       legal = call.ensures.legal;
       all = append_assoc c.loop-session.yielded (one ∷ []) c.next.new.self.rest.items ∙ ap (λ l. c.loop-session.yielded ++ l) (sym stepped) ∙ i.all;
       count = simp (pushed, length-append) (omega (arith, i.count));
-      room = omega (arith, i.room, c.in-Ok-push.ensures.capacity);
+      room = omega (arith, i.room, c.push_within.ensures.room);
       limit = call.ensures.limit ∙ i.limit;
       follows = record { clean = omega (arith, call.ensures.follows.clean, i.follows.clean); shape = call.ensures.follows.shape ∙ i.follows.shape };
     }

@@ -21,7 +21,7 @@ loop-step-preserved g c =
     let next = c.make-answered.new.self.store in
     let opening = c.args.self.now in
     let kept = kept_steps c.loop-step.yielded c.loop-step.answers.items in
-    let pushed : c.push.new.self.items ≡ c.loop-step.answers.items ++ answer ∷ [] = c.in-Ok-push.ensures.items in
+    let pushed : c.push_within.new.items.items ≡ c.loop-step.answers.items ++ answer ∷ [] = c.push_within.ensures.pushed in
     let stepped : c.loop-step.step-iterator.rest.items ≡ step ∷ c.next.new.self.rest.items = c.in-Some.ensures.steps.0 in
     record {
       each = subst (λ answers. AreSteps r opening.limit opening.journal opening.store (c.loop-step.yielded ++ step ∷ []) answers next) (sym pushed)
@@ -36,7 +36,7 @@ loop-step-preserved g c =
       legal = made.legal;
       all = append_assoc c.loop-step.yielded (step ∷ []) c.next.new.self.rest.items ∙ ap (λ l. c.loop-step.yielded ++ l) (sym stepped) ∙ i.all;
       count = simp (pushed, length-append) (omega (arith, i.count));
-      room = omega (arith, i.room, c.in-Ok-push.ensures.capacity);
+      room = omega (arith, i.room, c.push_within.ensures.room);
       limit = made.limit ∙ i.limit;
       shape = made.shape ∙ i.shape;
     }
