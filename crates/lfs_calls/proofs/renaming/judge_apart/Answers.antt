@@ -30,3 +30,9 @@ judge_way-requires-clause-leads g c w v =
 pub returns-clause-apart : goal.returns-clause-apart
 returns-clause-apart g c w v =
     way_judged c.args.file.now.number c.args.to.now c.parents_of.result.now c.parents_of.ensures.names c.judge_way.result c.judge_way.ensures.apart c.judge_way.ensures.beneath w v
+
+pub judge_way-requires-clause-world : goal.judge_way-requires-clause-world
+judge_way-requires-clause-world g c = c.requires.world
+
+pub returns-clause-state : goal.returns-clause-state
+returns-clause-state g c = c.judge_way.ensures.state
