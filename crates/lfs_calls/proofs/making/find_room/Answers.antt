@@ -1,4 +1,5 @@
 use Rattle.std.proofs.Common.{◌≡◌, ◌<◌, ◌/◌, ◌%◌, [], ◌∷◌, ◌++◌, length, sym, ap, subst, ◌∙◌, arith}
+use Rattle.std.proofs.lemmas.Grind.{common_steps}
 use Rattle.lfs_calls.proofs.StateLemmas.{same_content}
 use Rattle.lfs_types.specs.Stored.{bytes_of}
 use Rattle.lfs_dirs.specs.Directory.{number_in, IsDirectoryBlock}
@@ -43,3 +44,9 @@ returns-then-size-eq-FILE_BYTES-clause-room g c =
       whole = size ∙ c.if-size-eq-FILE_BYTES.true;
       full = λ j before. let whole = c.if-size-eq-FILE_BYTES.true in c.loop-k.invariant.full j (omega (arith, before, whole, c.loop-k-test.false));
     }
+
+pub added-requires-clause-directory : goal.added-requires-clause-directory
+added-requires-clause-directory g c = grind (arith, common_steps)
+
+pub returns-in-Some-clause-room : goal.returns-in-Some-clause-room
+returns-in-Some-clause-room g c = grind (arith, common_steps)

@@ -1,4 +1,5 @@
-use Rattle.std.proofs.Common.{◌≡◌, ◌+◌, Ok, Err, drop, rules, sym, ap, subst, ◌∙◌}
+use Rattle.std.proofs.Common.{arith, ◌≡◌, ◌+◌, Ok, Err, drop, rules, sym, ap, subst, ◌∙◌}
+use Rattle.std.proofs.lemmas.Grind.{common_steps}
 use Rattle.lfs_calls.proofs.CallLemmas.{still}
 use Rattle.lfs_model.specs.Walks.{walked}
 use Rattle.lfs_model.proofs.MovedWay.{IsRest, way_further}
@@ -43,3 +44,12 @@ loop-at-preserved g c = record {
       child-stored (g.F.FileStore.state c.step.new.store).content t.0 (still c.step.ensures.state here).shows c.loop-at.dir c.index-names-at.result c.in_ok-dir.dir is;
   state = c.step.ensures.state ∙ c.loop-at.invariant.state;
 }
+
+pub returns-then-dir-number-clause-beneath : goal.returns-then-dir-number-clause-beneath
+returns-then-dir-number-clause-beneath g c = grind (arith, common_steps)
+
+pub returns-then-dir-number-2-clause-beneath : goal.returns-then-dir-number-2-clause-beneath
+returns-then-dir-number-2-clause-beneath g c = grind (arith, common_steps)
+
+pub returns-clause-apart : goal.returns-clause-apart
+returns-clause-apart g c = grind (arith, common_steps)
