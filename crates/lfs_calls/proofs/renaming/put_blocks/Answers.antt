@@ -1,4 +1,5 @@
-use Rattle.std.proofs.Common.{refl, sym, ap, subst, ◌∙◌}
+use Rattle.std.proofs.Common.{arith, refl, sym, ap, subst, ◌∙◌}
+use Rattle.std.proofs.lemmas.Grind.{common_steps}
 use Rattle.std.proofs.lemmas.Result.{IfOk-weaker}
 use Rattle.lfs_calls.specs.Renames.{block_put, WritesBlocks}
 use Rattle.lfs_calls.proofs.MovedBlocks.{writes_one, can_put_blocks}
@@ -22,3 +23,6 @@ pub apply-requires-2 : goal.apply-requires-2
 apply-requires-2 g c =
     can_put_blocks (g.F.FileStore.state c.args.store.now).content c.args.old_dir c.args.taken.now c.requires.old c.requires.old_within c.args.dir c.args.room.now c.requires.new
     (g.F.FileStore.state c.args.store.now).shape.numbers _ _ refl refl
+
+pub apply-requires : goal.apply-requires
+apply-requires g c = grind (arith, common_steps)
