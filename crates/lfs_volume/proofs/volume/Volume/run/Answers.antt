@@ -69,3 +69,6 @@ returns-in_default-clause-refused g c = search rules
 
 pub returns-in_default-clause-limit : goal.returns-in_default-clause-limit
 returns-in_default-clause-limit g c = search rules
+
+pub push_within-requires : goal.push_within-requires
+push_within-requires g c = grind (arith, common_steps)

@@ -1,4 +1,5 @@
 use Rattle.std.proofs.Common.{rules, ◌≡◌, ◌∷◌, [], ◌++◌, sym, ap, subst, ◌∙◌, arith, length-append, append_assoc, append-nil}
+use Rattle.std.proofs.lemmas.Grind.{common_steps}
 use Rattle.std.proofs.lemmas.List.{nil_from_length}
 use Rattle.lfs_types.specs.StoreStates.{Shape}
 use Rattle.lfs_types.specs.Tree.{opening_world}
@@ -67,3 +68,12 @@ returns-in-Err-clause-refused g c = search rules
 
 pub returns-in-Err-clause-limit : goal.returns-in-Err-clause-limit
 returns-in-Err-clause-limit g c = search rules
+
+pub push_within-requires : goal.push_within-requires
+push_within-requires g c = grind (arith, common_steps)
+
+pub returns-clause-each : goal.returns-clause-each
+returns-clause-each g c = grind (arith, common_steps)
+
+pub returns-clause-entered : goal.returns-clause-entered
+returns-clause-entered g c = grind (arith, common_steps)
