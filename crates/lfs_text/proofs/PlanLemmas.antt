@@ -1,18 +1,21 @@
 -- A plan grows line by line.
-use Rattle.std.proofs.Common.{◌≡◌, ℕ, zero, suc, ◌+◌, ◌-◌, ◌<◌, ◌≤◌, ◌==◌, Bool, true, false, cond, List, [], ◌∷◌, length, drop, get_or, Result, Ok, Err, refl, sym, ap, ◌∙◌, arith}
+use Rattle.std.proofs.Common.{◌≡◌, ℕ, zero, suc, ◌+◌, ◌-◌, ◌<◌, ◌≤◌, ◌==◌, Bool, true, false, cond, List, [], ◌∷◌, length, map, take, drop, get_or, None, Some, Result, Ok, Err, refl, sym, ap, ◌∙◌, arith}
 use Rattle.std.specs.List.{All, count_by}
 use Rattle.std.specs.Result.{IfErr}
 use Rattle.std.proofs.lemmas.Bool.{ne_eqb}
-use Rattle.std.proofs.lemmas.List.{length-drop}
+use Rattle.std.proofs.lemmas.List.{length-drop, take_all}
 use Rattle.std.proofs.lemmas.List.Splits.{slice_split_at, slice_split_none, length-slice_split}
 use Rattle.lfs_words.specs.Lines.{HasNoLineFeed, IsFirstLine}
 use Rattle.lfs_words.specs.Lines.{is_printable}
 use Rattle.lfs_text.specs.Parsing.{BeginsReadable, IsReadable}
 use Rattle.lfs_text.specs.PlanTypes.{AreWithin, Drafted, Planned}
-use Rattle.lfs_text.specs.Plans.{added, at_line, line_said, lines_of, plan_from, planned}
+use Rattle.lfs_text.specs.Plans.{added, at_line, line_said, lines_of, plan_from, planned, verb_said, words_said}
+use Rattle.lfs_text.specs.Verbs.{verb_of}
+use Rattle.lfs_text.specs.declared.verb.Verb.{Verb}
+use Rattle.lfs_words.specs.Faults.{Reads}
 use Rattle.lfs_words.specs.Wording.{is_bare}
 use Rattle.lfs_words.specs.declared.fault.FaultKind.{FaultKind}
-use Rattle.lfs_words.specs.declared.fault.FaultKind.TheVariants.{Cut}
+use Rattle.lfs_words.specs.declared.fault.FaultKind.TheVariants.{Cut, Words}
 use Rattle.lfs_text.specs.declared.fault.ScriptFault.{ScriptFault}
 use Rattle.lfs_text.specs.declared.plan.Line.{Line}
 use Rattle.lfs_text.specs.declared.plan.Step.{Step}
@@ -120,3 +123,20 @@ least_of (Err fault) n at = at fault refl
 
 pub plan_least : (n : ℕ) (draft : Drafted) (texts : List (List ℕ)) → IfErr (plan_from n draft texts) (λ first. n ≤ first.line)
 plan_least n draft texts = least_of (plan_from n draft texts) n (λ fault e. least n draft texts fault e)
+
+-- words of which the first is a verb
+pub verb_first : {A : Type 0} (f : A → List ℕ) (words : List A) (d : A) (verb : Verb) (result : Result Line FaultKind) → 1 ≤ length words → verb_of (f (get_or words 0 d)) ≡ Some verb
+    → Reads (verb_said verb (map f (take (length words - 1) (drop 1 words)))) result → Reads (words_said (map f words)) result
+verb_first f [] d verb result least is reads = absurd (omega arith)
+verb_first f (a ∷ words) d verb result least is reads =
+    let whole : take (length (a ∷ words) - 1) words ≡ words = take_all (length (a ∷ words) - 1) words (omega arith) in rw is (rw whole at reads)
+
+-- words of which the first is none
+pub verb_missed : {A : Type 0} (f : A → List ℕ) (words : List A) (d : A) → 1 ≤ length words → verb_of (f (get_or words 0 d)) ≡ None → words_said (map f words) ≡ Err Words
+verb_missed f [] d least is = absurd (omega arith)
+verb_missed f (a ∷ words) d least is = rw is refl
+
+-- no words
+pub no_words : {A : Type 0} (f : A → List ℕ) (words : List A) → length words < 1 → words_said (map f words) ≡ Err Words
+no_words f [] most = refl
+no_words f (a ∷ words) most = absurd (omega arith)

@@ -1,10 +1,11 @@
 -- Calls are sorted by session one by one.
-use Rattle.std.proofs.Common.{◌≡◌, ◌≢◌, ℕ, ◌<◌, ◌==◌, true, false, cond, List, [], ◌∷◌, ◌++◌, length, get_or, Option, None, Some, refl, sym, ap, map, subst, ◌∙◌, inl, inr, arith, length-set}
+use Rattle.std.proofs.Common.{◌≡◌, ◌≢◌, ℕ, ◌+◌, ◌<◌, ◌==◌, true, false, cond, List, [], ◌∷◌, ◌++◌, length, get_or, Option, None, Some, refl, sym, ap, map, subst, ◌∙◌, inl, inr, arith, length-set}
 use Rattle.std.proofs.Math.ListN.{set}
 use Rattle.std.proofs.Common.{get_or-set_same, get_or-set_other}
 use Rattle.std.proofs.lemmas.Bool.{cases_Bool, cases_lt, eqb-true, eqb-false, lt-ltb, le-ltb, ne_eqb}
-use Rattle.std.proofs.lemmas.List.{append-nil, get_or-map, length-map, map-set}
+use Rattle.std.proofs.lemmas.List.{append-nil, get_or-map, length-map, map-append, map-set, replicate_more}
 use Rattle.std.specs.Global.{Vec}
+use Rattle.std.specs.Prelude.{replicate}
 use Rattle.std.proofs.lemmas.List.Elements.{filter_map-append}
 use Rattle.lfs_types.specs.Caller.{Caller}
 use Rattle.lfs_types.specs.declared.request.Request.{Request}
@@ -91,3 +92,13 @@ none_found (Some call) other = absurd (other call refl)
 pub sorted_skip : (lists : List (List (Caller × Request))) (steps : List Step) (step : Step) (found : Option (Caller × Request)) (count : ℕ) → found ≡ act_call step.cred step.act → ((call : Caller × Request) → found ≡ Some call → ⊥) → Sorts steps count lists → Sorts (steps ++ step ∷ []) count lists
 sorted_skip lists steps step found count asked other sorted =
     sorted_other lists steps step count (sym asked ∙ none_found found other) sorted
+
+-- one more list without calls
+pub empty_more : (lists new : List (Vec (Caller × Request))) (list : Vec (Caller × Request)) (n : ℕ) → new ≡ lists ++ list ∷ [] → list.items ≡ []
+    → map (λ v. v.items) lists ≡ replicate n [] → map (λ v. v.items) new ≡ replicate (n + 1) []
+empty_more lists new list n grown none so_far = rw (grown, map-append, so_far, none) (replicate_more n [])
+
+-- one more script
+pub script_more : (lists : List (Vec (Caller × Request))) (done new : List (List (Caller × Request))) (list : Vec (Caller × Request)) (script : List (Caller × Request))
+    → script ≡ list.items → done ≡ map (λ v. v.items) lists → new ≡ done ++ script ∷ [] → new ≡ map (λ v. v.items) (lists ++ list ∷ [])
+script_more lists done new list script is so_far grown = rw (grown, so_far, map-append, is) refl

@@ -3,6 +3,7 @@
 ghost use Rattle.std.specs.Prelude.{◌≡◌, IfOk, OnOk};
 ghost use Rattle.lfs_text.specs.PlanTypes.{AreWithin};
 ghost use Rattle.lfs_text.specs.Plans.{added, first_draft, planned};
+ghost use Rattle.lfs_text.specs.declared.plan.Line.TheVariants as says;
 
 use lfs_types::cleaner::CleanerCall;
 use lfs_types::cred::Cred;
@@ -72,7 +73,7 @@ pub struct Step {
 }
 
 /// What a line says.
-#[derive(Drop, Debug)]
+#[derive(Drop)]
 pub(crate) enum Line {
     /// Nothing: an empty line or a comment.
     Nothing,
@@ -169,12 +170,18 @@ impl Draft {
                 self.sessions = self.sessions.max(session);
             }
             Line::Caller(cred) => self.cred = cred,
-            Line::Act(act) => {
-                let session = self.session;
-                let cred = self.cred;
-                self.steps.push(Step { session, cred, act })?;
-            }
+            Line::Act(act) => return self.push(act),
         }
+        Ok(())
+    }
+
+    /// Adds what is to be done.
+    fn push(&mut self, act: Act) -> Result<(), AllocError>
+        ensures { OnOk result (self.new ≡ added self.old (says.Act act)) }
+    {
+        let session = self.session;
+        let cred = self.cred;
+        self.steps.push(Step { session, cred, act })?;
         Ok(())
     }
 

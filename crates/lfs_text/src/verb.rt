@@ -7,7 +7,7 @@ use lfs_answers::cleaner::cleaner_word;
 use lfs_model::journal::CleanerKind;
 
 /// A user's call without what it is given.
-#[derive(Clone, Copy, PartialEq, Eq, Debug)]
+#[derive(Clone, Copy)]
 pub enum RequestKind {
     /// Shows a file's number and attributes.
     Stat,
@@ -42,7 +42,7 @@ pub enum RequestKind {
 }
 
 /// What a line does, as its first word says.
-#[derive(Clone, Copy, PartialEq, Eq, Debug)]
+#[derive(Clone, Copy)]
 pub enum Verb {
     /// Names the session of the lines that follow.
     Session,
