@@ -1,5 +1,5 @@
 -- A plan grows line by line.
-use Rattle.std.proofs.Common.{◌≡◌, ℕ, zero, suc, ◌+◌, ◌-◌, ◌<◌, ◌≤◌, ◌==◌, Bool, true, false, cond, List, [], ◌∷◌, length, map, take, drop, get_or, None, Some, Result, Ok, Err, refl, sym, ap, ◌∙◌, arith}
+use Rattle.std.proofs.Common.{◌≡◌, ℕ, zero, suc, ◌+◌, ◌-◌, ◌<◌, ◌≤◌, ◌==◌, Bool, true, false, cond, List, [], ◌∷◌, length, map, take, drop, get_or, None, Some, Result, Ok, Err, refl, sym, ap, subst, ◌∙◌, arith}
 use Rattle.std.specs.List.{All, count_by}
 use Rattle.std.specs.Result.{IfErr}
 use Rattle.std.proofs.lemmas.Bool.{ne_eqb}
@@ -9,7 +9,7 @@ use Rattle.lfs_words.specs.Lines.{HasNoLineFeed, IsFirstLine}
 use Rattle.lfs_words.specs.Lines.{is_printable}
 use Rattle.lfs_text.specs.Parsing.{BeginsReadable, IsReadable}
 use Rattle.lfs_text.specs.PlanTypes.{AreWithin, Drafted, Planned}
-use Rattle.lfs_text.specs.Plans.{added, at_line, line_said, lines_of, plan_from, planned, verb_said, words_said}
+use Rattle.lfs_text.specs.Plans.{added, at_line, line_said, lines_of, plan_from, planned, text_said, verb_said, words_said}
 use Rattle.lfs_text.specs.Verbs.{verb_of}
 use Rattle.lfs_text.specs.declared.verb.Verb.{Verb}
 use Rattle.lfs_words.specs.Faults.{Reads}
@@ -140,3 +140,8 @@ verb_missed f (a ∷ words) d least is = rw is refl
 pub no_words : {A : Type 0} (f : A → List ℕ) (words : List A) → length words < 1 → words_said (map f words) ≡ Err Words
 no_words f [] most = refl
 no_words f (a ∷ words) most = absurd (omega arith)
+
+-- a printable line says what its text says
+pub said_there : (line text : List ℕ) (result : Result Line FaultKind) → is_printable line ≡ true → text ≡ line → Reads (text_said text) result → Reads (line_said line) result
+unfolding line_said
+said_there line text result printable same reads = rw printable (subst (λ t. Reads (text_said t) result) same reads)

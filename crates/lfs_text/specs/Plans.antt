@@ -48,13 +48,15 @@ abbrev pub words_said : List (List ℕ) → Result Line FaultKind
 words_said [] = Err fault.Words
 words_said (first ∷ words) = verb_found (verb_of first) words
 
+-- what the text of a line says, or its first fault
+abbrev pub text_said : List ℕ → Result Line FaultKind
+text_said line =
+    if is_skipped line then Ok Nothing else
+    if list_any is_bare (words_of line) then Err fault.Words else words_said (words_of line)
+
 -- what a line says, which is given without its line feed, or its first fault
 unfoldable pub line_said : List ℕ → Result Line FaultKind
-line_said line =
-    if is_printable line then
-    (if is_skipped line then Ok Nothing else
-    if list_any is_bare (words_of line) then Err fault.Words else words_said (words_of line))
-    else Err fault.Bytes
+line_said line = if is_printable line then text_said line else Err fault.Bytes
 
 -- no lines: session 0, and the superuser with group 0, who is not init
 abbrev pub first_draft : Drafted

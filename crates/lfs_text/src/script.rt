@@ -4,7 +4,7 @@ ghost use Rattle.std.specs.Prelude.{◌≡◌, ◌≢◌, ◌^◌, ◌<◌, ◌+
 ghost use Rattle.lfs_words.specs.Faults.{Reads};
 ghost use Rattle.lfs_words.specs.Lines.{is_printable};
 ghost use Rattle.lfs_text.specs.Parsing.{BeginsReadable, ParsesScript};
-ghost use Rattle.lfs_text.specs.Plans.{line_said, lines_of, plan_from, verb_said, words_said};
+ghost use Rattle.lfs_text.specs.Plans.{line_said, lines_of, plan_from, text_said, verb_said, words_said};
 ghost use Rattle.lfs_words.specs.declared.fault.FaultKind.TheVariants.{Memory};
 
 use crate::cleaner_calls::held_call;
@@ -68,6 +68,13 @@ fn parse_line(alloc: Global, line: &[u8]) -> Result<Line, FaultKind>
         (λ kind. kind ≡ Memory → is_printable line.now ≡ true) }
 {
     let text = text_of(line)?;
+    parse_text(alloc, text)
+}
+
+/// What the text of a line says.
+fn parse_text(alloc: Global, text: &str) -> Result<Line, FaultKind>
+    ensures { Reads (text_said text.now) result }
+{
     if is_skipped(text) {
         return Ok(Line::Nothing);
     }
