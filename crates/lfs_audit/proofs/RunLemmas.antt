@@ -1,11 +1,10 @@
 -- Runs of steps grow by further steps, passes by further calls, and texts by their lines.
 use Rattle.std.proofs.Common.{◌≡◌, ℕ, suc, ◌+◌, ◌<◌, List, [], ◌∷◌, ◌++◌, length, Option, None, Some, Result, Ok, Err, OnOk, refl, sym, ap, subst, ◌∙◌, arith, append_assoc, append-nil, length-append}
 use Rattle.std.specs.Io.KnownBytes.{Appends, Keeps, append_known}
-use Rattle.std.proofs.KnownBytes.{Appends-kept, Appends-nil}
+use Rattle.std.proofs.KnownBytes.{Appends-kept, Appends-nil, Appends-trans}
 use Rattle.lfs_types.specs.Caller.{Caller}
 use Rattle.lfs_types.specs.StoreStates.{Shape}
 use Rattle.lfs_types.specs.Tree.{opening_world}
-use Rattle.lfs_types.specs.declared.level.Level.{Level}
 use Rattle.lfs_types.specs.declared.answer.Answer.{Answer}
 use Rattle.lfs_types.specs.declared.cleaner.CleanerCall.{CleanerCall}
 use Rattle.lfs_types.specs.declared.request.Request.{Request}
@@ -25,7 +24,6 @@ use Rattle.lfs_answers.specs.ReportText.{report_text}
 use Rattle.lfs_text.specs.declared.plan.Act.TheVariants as plan
 use Rattle.lfs_text.specs.declared.plan.Step.{Step}
 use Rattle.lfs_volume.specs.Cleanings.{Cleaner}
-use Rattle.lfs_volume.specs.Journals.{IsJournal}
 use Rattle.lfs_volume.specs.Seen.{Seen}
 use Rattle.lfs_volume.specs.StepRuns.{AreSteps, IsActMade}
 use Rattle.lfs_audit.specs.Output.{IsRun}
@@ -301,34 +299,40 @@ pub on_ok : {A E X Y : Type 0} (result : Result A E) → OnOk result X → (X �
 on_ok (Ok a) x next = next x
 on_ok (Err e) x next = tt
 
--- nothing is collected first, and in the end all is written
-pub all-written : (start known written left : Option (List ℕ)) (text lines more whole : List ℕ) → Appends (append_known start []) (append_known known text) lines → whole ≡ text ++ more → Appends known written whole → Keeps written left → Appends start left (lines ++ more)
-all-written None known written left text lines more whole p grown w k = tt
-all-written (Some x) None written left text lines more whole p grown w k = absurd p
-all-written (Some x) (Some y) None left text lines more whole p grown w k = absurd w
-all-written (Some x) (Some y) (Some z) None text lines more whole p grown w k = k
-all-written (Some x) (Some y) (Some z) (Some v) text lines more whole p grown w k =
-    let first : y ++ text ≡ x ++ lines = p ∙ ap (λ (xs : List ℕ). xs ++ lines) (append-nil x) in
-    k ∙ w ∙ ap (λ (xs : List ℕ). y ++ xs) grown ∙ sym (append_assoc y text more) ∙ ap (λ (xs : List ℕ). xs ++ more) first ∙ append_assoc x lines more
+-- what is known to be written grows by what was collected and by the report
+pub report_written : (journal shown : List Entry) (start written left : Option (List ℕ)) (text whole out : List ℕ) → shown ≡ journal → whole ≡ text ++ report_text shown → out ≡ whole
+    → Appends start written out → Keeps written left → Appends (append_known start text) left (report_text journal)
+report_written journal shown None written left text whole out shows grown is w k = tt
+report_written journal shown (Some x) None left text whole out shows grown is w k = absurd w
+report_written journal shown (Some x) (Some y) None text whole out shows grown is w k = absurd k
+report_written journal shown (Some x) (Some y) (Some v) text whole out shows grown is w k =
+    let added : out ≡ text ++ report_text journal = is ∙ grown ∙ ap (λ (j : List Entry). text ++ report_text j) shows in
+    k ∙ w ∙ ap (λ (xs : List ℕ). x ++ xs) added ∙ sym (append_assoc x text (report_text journal))
+
+-- nothing is collected first
+pub from_start : (start left : Option (List ℕ)) (text : List ℕ) → Appends (append_known start []) left text → Appends start left text
+from_start None left text p = tt
+from_start (Some x) None text p = absurd p
+from_start (Some x) (Some v) text p = p ∙ ap (λ (xs : List ℕ). xs ++ text) (append-nil x)
 
 -- the lines of a plan were done on a volume without entries, and all is written
-pub whole_run : {F : Type 0} (r : Cleaner F) (old new : Seen F) (level : Level) (limit : ℕ) (steps : List Step) (shown : List Entry) (empty text whole out : List ℕ) (start known written left : Option (List ℕ))
-    → old.journal ≡ [] → Writes r old new steps (append_known start empty) (append_known known text) → shown ≡ new.journal
-    → IsJournal (r.state new.store) level shown limit → empty ≡ []
-    → whole ≡ text ++ report_text shown → out ≡ whole → Appends known written out → Keeps written left
+pub whole_run : {F : Type 0} (r : Cleaner F) (old new : Seen F) (steps : List Step) (empty text : List ℕ) (start known left : Option (List ℕ))
+    → old.journal ≡ [] → Writes r old new steps (append_known start empty) (append_known known text) → empty ≡ []
+    → IsLegal (r.state new.store).shape.numbers (r.state new.store).shape.segments new.journal opening_world × Appends (append_known known text) left (report_text new.journal)
     → (all : List ℕ) × IsRun r old.limit old.store steps all × Appends start left all
-whole_run {F} r old new level limit steps shown empty text whole out start known written left none writes shows journal nothing grown is wrote stays =
+whole_run {F} r old new steps empty text start known left none writes nothing (lawful, reported) =
     let made = writes.made in
     let answers = writes.answers in
     let lines = lines_text made answers in
     let shape = (r.state old.store).shape in
-    let entries : shown ≡ kept_steps made answers = shows ∙ writes.ran.entered ∙ ap (λ (j : List Entry). j ++ kept_steps made answers) none in
+    let entries : new.journal ≡ kept_steps made answers = writes.ran.entered ∙ ap (λ (j : List Entry). j ++ kept_steps made answers) none in
     let from_empty : Appends (append_known start []) (append_known known text) lines =
     subst (λ (e : List ℕ). Appends (append_known start e) (append_known known text) lines) nothing writes.printed in
-    let last : out ≡ text ++ report_text (kept_steps made answers) = is ∙ grown ∙ ap (λ (xs : List ℕ). text ++ xs) (ap report_text entries) in
+    let report : Appends (append_known known text) left (report_text (kept_steps made answers)) =
+    subst (λ (j : List Entry). Appends (append_known known text) left (report_text j)) entries reported in
     let legal : IsLegal shape.numbers shape.segments (kept_steps made answers) opening_world =
     subst (λ (j : List Entry). IsLegal shape.numbers shape.segments j opening_world) entries
-    (subst (λ (s : Shape). IsLegal s.numbers s.segments shown opening_world) writes.ran.shape journal.legal) in (
+    (subst (λ (s : Shape). IsLegal s.numbers s.segments new.journal opening_world) writes.ran.shape lawful) in (
       lines ++ report_text (kept_steps made answers),
       record {
         made = made;
@@ -339,5 +343,6 @@ whole_run {F} r old new level limit steps shown empty text whole out start known
         legal = legal;
         printed = refl;
       },
-      all-written start known written left text lines (report_text (kept_steps made answers)) out from_empty last wrote stays,
+      from_start start left (lines ++ report_text (kept_steps made answers))
+          (Appends-trans (append_known start []) (append_known known text) left lines (report_text (kept_steps made answers)) from_empty report),
     )

@@ -18,8 +18,8 @@ use Rattle.lfs_text.specs.Plans.{plan_of}
 use Rattle.lfs_answers.specs.ReportText.{report_text}
 use Rattle.lfs_text.specs.Splitting.{Sorts, is_of_cleaner}
 use Rattle.lfs_audit.specs.declared.fault.ThreadsFault.{ThreadsFault}
-use Rattle.lfs_audit.specs.Threads.{IsClosedText, IsThreadsOutput, MayHaveWrittenThreads, closed_text, transcript_text, transcripts_text}
-use Rattle.lfs_audit.proofs.RunLemmas.{all-written, collected}
+use Rattle.lfs_audit.specs.Threads.{IsClosedText, IsSplit, IsThreadsOutput, MayHaveWrittenThreads, closed_text, transcript_text, transcripts_text}
+use Rattle.lfs_audit.proofs.RunLemmas.{collected, from_start}
 
 -- the lines of one more answer
 transcript-more : (session : ℕ) (answers : List Answer) (k : ℕ) (d : Answer) → k < length answers
@@ -86,12 +86,11 @@ vectors_grow transcripts k transcript told start known left lt here tells printe
     transcripts_grow lists k told start known left within (item-answers transcripts k transcript lt here ∙ sym tells) printed then
 
 -- the setup's lines, those of the sessions and the report are all written
-pub closed_written : (journal shown : List Entry) (setup told : List Answer) (transcripts : List (List Answer)) (start known more written left : Option (List ℕ)) (empty text after whole out : List ℕ)
-    → shown ≡ journal → told ≡ setup → empty ≡ [] → Appends (append_known start empty) (append_known known text) (transcript_text 0 told)
+pub closed_written : (journal : List Entry) (setup told : List Answer) (transcripts : List (List Answer)) (start known more left : Option (List ℕ)) (empty text after : List ℕ)
+    → told ≡ setup → empty ≡ [] → Appends (append_known start empty) (append_known known text) (transcript_text 0 told)
     → Appends (append_known known text) (append_known more after) (transcripts_text 1 transcripts)
-    → whole ≡ after ++ report_text shown → out ≡ whole → Appends more written out → Keeps written left
-    → Appends start left (closed_text journal setup transcripts)
-closed_written journal shown setup told transcripts start known more written left empty text after whole out shows tells nothing first then grown is wrote stays =
+    → Appends (append_known more after) left (report_text journal) → Appends start left (closed_text journal setup transcripts)
+closed_written journal setup told transcripts start known more left empty text after tells nothing first then last =
     let a = transcript_text 0 setup in
     let b = transcripts_text 1 transcripts in
     let report = report_text journal in
@@ -99,8 +98,7 @@ closed_written journal shown setup told transcripts start known more written lef
     subst (λ (t : List Answer). Appends (append_known start []) (append_known known text) (transcript_text 0 t)) tells
     (subst (λ (e : List ℕ). Appends (append_known start e) (append_known known text) (transcript_text 0 told)) nothing first) in
     let both : Appends (append_known start []) (append_known more after) (a ++ b) = Appends-trans (append_known start []) (append_known known text) (append_known more after) a b from_empty then in
-    let last : out ≡ after ++ report = is ∙ grown ∙ ap (λ (j : List Entry). after ++ report_text j) shows in
-    all-written start more written left after (a ++ b) report out both last wrote stays
+    from_start start left (a ++ b ++ report) (Appends-trans (append_known start []) (append_known more after) left (a ++ b) report both last)
 
 -- there are no more lists of answers than of calls where each agrees with its partner
 few-lists : (is_full : Bool) (entries : List Entry) (scripts : List (List (Caller × Request))) (transcripts : List (List Answer))
@@ -123,25 +121,34 @@ if-some : {A : Type 0} (known : Option A) (p : A → Type 0) (q : A → Type 0) 
 if-some None p q holds next = tt
 if-some (Some a) p q holds next = next a holds
 
+-- a plan was split
+pub plan_split : (known : Option (List ℕ)) (plan : Planned) (setup : List (Caller × Request)) (scripts : List (List (Caller × Request)))
+    → IfSome known (λ script. plan_of script ≡ Ok plan) → list_any is_of_cleaner plan.steps ≡ false → length scripts ≡ plan.sessions
+    → Sorts plan.steps (plan.sessions + 1) (setup ∷ scripts) → IfSome known (λ script. IsSplit script setup scripts)
+plan_split known plan setup scripts parsed users count sorted =
+    if-some known (λ script. plan_of script ≡ Ok plan) (λ script. IsSplit script setup scripts) parsed
+    (λ script is. record {
+      plan = plan;
+      parsed = is;
+      users = users;
+      count = count;
+      sorted = sorted;
+    })
+
 -- a run on threads was settled, and its text is written
-pub threads_run : (known : Option (List ℕ)) (plan : Planned) (shape : Shape) (journal : List Entry) (limit after_limit : ℕ) (setup : List (Caller × Request)) (sessions : List (List (Caller × Request)))
+pub threads_run : (known : Option (List ℕ)) (shape : Shape) (journal : List Entry) (limit after_limit : ℕ) (setup : List (Caller × Request)) (sessions : List (List (Caller × Request)))
     (answers : List Answer) (transcripts : List (Vec Answer)) (start left : Option (List ℕ))
-    → IfSome known (λ script. plan_of script ≡ Ok plan) → list_any is_of_cleaner plan.steps ≡ false → length sessions ≡ plan.sessions
-    → Sorts plan.steps (plan.sessions + 1) (setup ∷ sessions) → IsInterleaving (run_of journal after_limit setup answers sessions transcripts)
+    → IfSome known (λ script. IsSplit script setup sessions) → IsInterleaving (run_of journal after_limit setup answers sessions transcripts)
     → after_limit ≡ limit → IsClosedText shape journal answers transcripts start left
     → IfSome known (λ script. (text : List ℕ) × IsThreadsOutput script limit text × Appends start left text)
-threads_run known plan shape journal limit after_limit setup sessions answers transcripts start left parsed users count sorted interleaved same closed =
-    if-some known (λ script. plan_of script ≡ Ok plan) (λ script. (text : List ℕ) × IsThreadsOutput script limit text × Appends start left text) parsed
+threads_run known shape journal limit after_limit setup sessions answers transcripts start left split interleaved same closed =
+    if-some known (λ script. IsSplit script setup sessions) (λ script. (text : List ℕ) × IsThreadsOutput script limit text × Appends start left text) split
     (λ script is. (
       closed_text journal answers (map (λ (transcript : Vec Answer). transcript.items) transcripts),
       record {
-        plan = plan;
         run = run_of journal after_limit setup answers sessions transcripts;
         shape = shape;
-        parsed = is;
-        users = users;
-        count = count;
-        sorted = sorted;
+        split = is;
         limited = same;
         legal = closed.legal;
         interleaved = interleaved;

@@ -3,9 +3,11 @@ use Rattle.std.specs.Prelude.{◌≡◌, ℕ, ◌+◌, false, List, [], ◌∷�
 use Rattle.std.specs.Global.{Vec}
 use Rattle.std.specs.Io.KnownBytes.{Appends}
 use Rattle.std.specs.List.{flat_map, list_any}
+use Rattle.lfs_types.specs.Caller.{Caller}
 use Rattle.lfs_types.specs.StoreStates.{Shape}
 use Rattle.lfs_types.specs.Tree.{opening_world}
 use Rattle.lfs_types.specs.declared.answer.Answer.{Answer}
+use Rattle.lfs_types.specs.declared.request.Request.{Request}
 use Rattle.lfs_model.specs.Steps.{IsLegal}
 use Rattle.lfs_model.specs.declared.journal.Entry.{Entry}
 use Rattle.lfs_settle.specs.Interleaving.{IsInterleaving, Run}
@@ -42,17 +44,22 @@ pub record IsClosedText (shape : Shape) (journal : List Entry) (setup : List Ans
   pub legal : IsLegal shape.numbers shape.segments journal opening_world
   pub written : Appends old new (closed_text journal setup (map (λ (transcript : Vec Answer). transcript.items) transcripts))
 
--- A text is that of a run of a script on threads, on a volume whose journal may have so many entries: no line is the
--- cleaner's, the setup's calls are those of session 0 and each script has those of its session, the journal is legal from the
--- opening tree and an interleaving of them with these answers, of which the lines are printed, and the report.
-pub record IsThreadsOutput (script : List ℕ) (limit : ℕ) (text : List ℕ) : Type 0 where
+-- calls are those of a script, split: no line is the cleaner's, the setup has those of session 0, and each script those of its
+-- session, from 1 to the highest that a line names
+pub record IsSplit (script : List ℕ) (setup : List (Caller × Request)) (scripts : List (List (Caller × Request))) : Type 0 where
   pub plan : Planned
-  pub run : Run
-  pub shape : Shape
   pub parsed : plan_of script ≡ Ok plan
   pub users : list_any is_of_cleaner plan.steps ≡ false
-  pub count : length run.scripts ≡ plan.sessions
-  pub sorted : Sorts plan.steps (plan.sessions + 1) (run.setup ∷ run.scripts)
+  pub count : length scripts ≡ plan.sessions
+  pub sorted : Sorts plan.steps (plan.sessions + 1) (setup ∷ scripts)
+
+-- A text is that of a run of a script on threads, on a volume whose journal may have so many entries: the setup and the
+-- scripts are the script's, split; the journal is legal from the opening tree and an interleaving of them with these answers,
+-- of which the lines are printed, and the report.
+pub record IsThreadsOutput (script : List ℕ) (limit : ℕ) (text : List ℕ) : Type 0 where
+  pub run : Run
+  pub shape : Shape
+  pub split : IsSplit script run.setup run.scripts
   pub limited : run.limit ≡ limit
   pub legal : IsLegal shape.numbers shape.segments run.journal opening_world
   pub interleaved : IsInterleaving run

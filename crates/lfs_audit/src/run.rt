@@ -2,6 +2,9 @@
 
 ghost use Rattle.std.specs.Prelude.{◌≡◌, ◌<◌, ◌^◌, ℕ, List, [], Ok, length, IfErr, IfOk, IfSome, OnOk};
 ghost use Rattle.std.specs.Io.KnownBytes.{Appends, Keeps, append_known};
+ghost use Rattle.lfs_types.specs.Tree.{opening_world};
+ghost use Rattle.lfs_model.specs.Steps.{IsLegal};
+ghost use Rattle.lfs_answers.specs.ReportText.{report_text};
 ghost use Rattle.lfs_text.specs.Plans.{plan_of};
 ghost use Rattle.lfs_volume.specs.Cleanings.{cleaner_of};
 ghost use Rattle.lfs_audit.specs.Faults.{IsFaultOf, MayHaveWritten};
@@ -16,6 +19,7 @@ use lfs_streams::read::read_script;
 use lfs_text::plan::{Plan, Step};
 use lfs_text::script::parse_script;
 use lfs_types::cleaned::CleanedStore;
+use lfs_types::store::FileStore;
 use lfs_volume::volume::Volume;
 use std::alloc::Global;
 use std::io::{Read, Write};
@@ -72,10 +76,7 @@ pub fn run_plan<F: CleanedStore + Drop, W: Write>(
 {
     let mut text = Vec::new(alloc);
     print_steps(volume, steps, &mut text, writer)?;
-    append_report(&mut text, volume.journal())?;
-    write_text(writer, text.as_slice())?;
-    flush(writer)?;
-    Ok(())
+    print_report(volume, &mut text, writer)
 }
 
 /// Does what the lines of a plan ask for, and adds the lines of the answers to a text, which is written piece by piece.
@@ -96,5 +97,24 @@ fn print_steps<F: CleanedStore + Drop, W: Write>(
         run_step(volume, step, text)?;
         write_full(writer, text)?;
     }
+    Ok(())
+}
+
+/// Adds the report over a volume's journal to a text, and writes the text whole.
+pub(crate) fn print_report<F: FileStore + Drop, W: Write>(
+    volume: &Volume<F>,
+    text: &mut Vec<u8>,
+    writer: &mut W,
+) -> Result<(), RunFault>
+    ensures written { OnOk result (
+        let shape = (F.state volume.now.store).shape in
+        IsLegal shape.numbers shape.segments volume.now.journal opening_world
+        × Appends (append_known (W.contents writer.old) text.old.items)
+        (W.contents writer.new) (report_text volume.now.journal)) }
+    ensures fault { IfErr result MayHaveWritten }
+{
+    append_report(text, volume.journal())?;
+    write_text(writer, text.as_slice())?;
+    flush(writer)?;
     Ok(())
 }

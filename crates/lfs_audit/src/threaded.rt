@@ -5,8 +5,7 @@ ghost use Rattle.std.specs.Io.KnownBytes.{Appends, Keeps};
 ghost use Rattle.lfs_audit.specs.Threads.{IsThreadsOutput, MayHaveWrittenThreads};
 
 use crate::fault::ThreadsFault;
-use crate::run::read_plan;
-use crate::threads::print_run;
+use crate::threads::{print_closed, read_sessions};
 use lfs_server::serve::serve;
 use lfs_types::store::Params;
 use std::alloc::Global;
@@ -34,8 +33,7 @@ where
     ensures unwritten { IfErr result (λ fault. (MayHaveWrittenThreads fault → ⊥)
         → Keeps (W.contents writer.old) (W.contents writer.new)) }
 {
-    let plan = read_plan(alloc, reader)?;
-    let (setup, sessions) = plan.split(alloc)?;
+    let (setup, sessions) = read_sessions(alloc, reader)?;
     let closed = serve(rt, alloc, params, setup, sessions, &())?;
-    print_run(alloc, &closed, writer)
+    print_closed(alloc, &closed, writer)
 }

@@ -1,20 +1,20 @@
 //! Running a script with its sessions on threads.
 
-ghost use Rattle.std.specs.Prelude.{◌≡◌, ◌<◌, ◌≤◌, ℕ, List, [], ◌++◌, length, map, IfErr, IfOk, IfSome, OnOk};
+ghost use Rattle.std.specs.Prelude.{◌≤◌, ℕ, List, length, map, IfErr, IfOk, IfSome, OnOk};
 ghost use Rattle.std.specs.Global.{Vec};
 ghost use Rattle.std.specs.Io.KnownBytes.{Appends, Keeps, append_known};
 ghost use Rattle.lfs_types.specs.declared.answer.Answer.{Answer};
 ghost use Rattle.lfs_audit.specs.Faults.{MayHaveWritten};
-ghost use Rattle.lfs_audit.specs.Threads.{IsClosedText, IsThreadsOutput, MayHaveWrittenThreads, transcript_text, transcripts_text};
+ghost use Rattle.lfs_audit.specs.Threads.{IsClosedText, IsSplit, IsThreadsOutput, MayHaveWrittenThreads, transcript_text, transcripts_text};
 
 use crate::fault::{RunFault, ThreadsFault};
-use crate::run::read_plan;
+use crate::run::{print_report, read_plan};
 use lfs_answers::print::append_answer;
-use lfs_answers::report::append_report;
 use lfs_server::serving::{Closed, serve_over};
-use lfs_streams::output::{flush, write_full, write_text};
+use lfs_streams::output::write_full;
 use lfs_types::answer::Answer;
 use lfs_types::cleaned::CleanedStore;
+use lfs_types::script::Script;
 use lfs_volume::volume::Volume;
 use std::alloc::Global;
 use std::io::{Read, Write};
@@ -41,15 +41,26 @@ where
     ensures unwritten { IfErr result (λ fault. (MayHaveWrittenThreads fault → ⊥)
         → Keeps (W.contents writer.old) (W.contents writer.new)) }
 {
-    let plan = read_plan(alloc, reader)?;
-    let (setup, sessions) = plan.split(alloc)?;
+    let (setup, sessions) = read_sessions(alloc, reader)?;
     let closed = serve_over(rt, alloc, volume, setup, sessions, &())?;
-    print_closed(alloc, &closed, writer)?;
-    Ok(())
+    print_closed(alloc, &closed, writer)
 }
 
-/// Writes what a run on threads left, by `print_closed`. A fault is one after which something may have been written.
-pub(crate) fn print_run<F: CleanedStore + Drop, W: Write>(
+/// Reads a script whole, and gives the calls of session 0 and those of each other session.
+pub(crate) fn read_sessions<R: Read>(
+    alloc: Global,
+    reader: &mut R,
+) -> Result<(Script, Vec<Script>), ThreadsFault>
+    ensures { IfSome (R.remaining reader.old) (λ script.
+        IfOk result (λ both. IsSplit script both.0 both.1.items)) }
+{
+    let plan = read_plan(alloc, reader)?;
+    Ok(plan.split(alloc)?)
+}
+
+/// Writes the answers of the setup, those of each session in turn, and the report. A fault is one after which something may
+/// have been written.
+pub(crate) fn print_closed<F: CleanedStore + Drop, W: Write>(
     alloc: Global,
     closed: &Closed<F>,
     writer: &mut W,
@@ -61,29 +72,10 @@ pub(crate) fn print_run<F: CleanedStore + Drop, W: Write>(
         (W.contents writer.old) (W.contents writer.new)) }
     ensures fault { IfErr result MayHaveWrittenThreads }
 {
-    print_closed(alloc, closed, writer)?;
-    Ok(())
-}
-
-/// Writes the answers of the setup, those of each session in turn, and the report.
-fn print_closed<F: CleanedStore + Drop, W: Write>(
-    alloc: Global,
-    closed: &Closed<F>,
-    writer: &mut W,
-) -> Result<(), RunFault>
-    requires { length closed.now.transcripts.items ≤ 8 }
-    ensures written { OnOk result
-        (IsClosedText (F.state closed.now.volume.store).shape closed.now.volume.journal
-        closed.now.setup.items closed.now.transcripts.items
-        (W.contents writer.old) (W.contents writer.new)) }
-    ensures fault { IfErr result MayHaveWritten }
-{
     let mut text = Vec::new(alloc);
     print_transcript(writer, &mut text, 0, closed.setup.as_slice())?;
     print_transcripts(writer, &mut text, closed.transcripts.as_slice())?;
-    append_report(&mut text, closed.volume.journal())?;
-    write_text(writer, text.as_slice())?;
-    flush(writer)?;
+    print_report(&closed.volume, &mut text, writer)?;
     Ok(())
 }
 

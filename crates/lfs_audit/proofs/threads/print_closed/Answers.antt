@@ -1,10 +1,7 @@
 use Rattle.std.proofs.Common.{List, map, subst}
 use Rattle.std.specs.Global.{Vec}
 use Rattle.std.specs.Io.KnownBytes.{Appends, append_known}
-use Rattle.lfs_types.specs.Tree.{opening_world}
 use Rattle.lfs_types.specs.declared.answer.Answer.{Answer}
-use Rattle.lfs_model.specs.Steps.{IsLegal}
-use Rattle.lfs_model.specs.declared.journal.Entry.{Entry}
 use Rattle.lfs_audit.specs.Threads.{transcripts_text}
 use Rattle.lfs_audit.proofs.ThreadLemmas.{closed_written}
 use Rattle.lfs_audit.proofs.threads.print_closed.Goals as goal
@@ -12,15 +9,14 @@ use Rattle.lfs_audit.proofs.threads.print_closed.Goals as goal
 pub returns-clause-written : goal.returns-clause-written
 returns-clause-written g c =
     let closed = c.args.closed.now in
-    let shape = (g.F.FileStore.state closed.volume.store).shape in
     let sessions = subst (λ (ts : List (Vec Answer)).
     Appends (append_known (g.W.Write.contents c.print_transcript.new.writer) c.print_transcript.new.text.items)
     (append_known (g.W.Write.contents c.print_transcripts.new.writer) c.print_transcripts.new.text.items)
     (transcripts_text 1 (map (λ (t : Vec Answer). t.items) ts))) c.as_slice-2.ensures.value c.in_ok-print_transcripts.ensures.written in
+    let told = c.in_ok-print_report.ensures.written in
     record {
-      legal = subst (λ (j : List Entry). IsLegal shape.numbers shape.segments j opening_world) c.journal.ensures.entries c.journal.ensures.legal.legal;
-      written = closed_written closed.volume.journal c.journal.result.now closed.setup.items c.as_slice.result.now (map (λ (t : Vec Answer). t.items) closed.transcripts.items) _ _ _ _ _ _
-          c.print_transcript.new.text.items c.print_transcripts.new.text.items c.append_report.new.out.items c.as_slice-3.result.now
-          c.journal.ensures.entries c.as_slice.ensures.value c.new-text.ensures.items c.in_ok-print_transcript.ensures.written sessions
-          c.in_ok-append_report.ensures c.as_slice-3.ensures.value c.in_ok-write_text.ensures c.in_ok-flush.ensures;
+      legal = told.0;
+      written = closed_written closed.volume.journal closed.setup.items c.as_slice.result.now (map (λ (t : Vec Answer). t.items) closed.transcripts.items) _ _ _ _ _
+          c.print_transcript.new.text.items c.print_transcripts.new.text.items
+          c.as_slice.ensures.value c.new-text.ensures.items c.in_ok-print_transcript.ensures.written sessions told.1;
     }

@@ -1,9 +1,9 @@
-use Rattle.std.proofs.Common.{◌≡◌, length, arith}
+use Rattle.std.proofs.Common.{arith}
 use Rattle.std.proofs.lemmas.List.{length-map}
 use Rattle.std.specs.Global.{Vec}
 use Rattle.lfs_types.specs.declared.answer.Answer.{Answer}
 use Rattle.lfs_settle.specs.Interleaving.{run_of}
-use Rattle.lfs_audit.proofs.ThreadLemmas.{threads_run, transcripts_few}
+use Rattle.lfs_audit.proofs.ThreadLemmas.{late_threads, ok_further, threads_run, transcripts_few}
 use Rattle.lfs_audit.proofs.threads.run_threads_over.Goals as goal
 
 pub print_closed-requires : goal.print_closed-requires
@@ -17,9 +17,9 @@ print_closed-requires g c =
 pub returns-clause-written : goal.returns-clause-written
 returns-clause-written g c =
     let closed = c.in_ok-closed.closed in
-    let scripts = c.in_ok-setup.sessions in
-    let plan = c.in_ok-plan.plan in
-    let split = c.in_ok-setup.ensures in
-    let count : length scripts.items ≡ plan.sessions = omega (arith, split.1, scripts.ok.0) in
-    threads_run (g.R.Read.remaining c.args.reader.now) plan (g.F.FileStore.state closed.volume.store).shape closed.volume.journal c.args.volume.limit closed.volume.limit c.in_ok-setup.setup scripts.items
-    closed.setup.items closed.transcripts.items _ _ c.in_ok-plan.ensures.plan split.0 count split.2 c.in_ok-closed.ensures.settled c.in_ok-closed.ensures.limit c.in_ok-print_closed.ensures.written
+    ok_further _ _ c.print_closed.result c.print_closed.ensures.written (λ written.
+    threads_run (g.R.Read.remaining c.args.reader.now) (g.F.FileStore.state closed.volume.store).shape closed.volume.journal c.args.volume.limit closed.volume.limit c.in_ok-setup.setup c.in_ok-setup.sessions.items
+    closed.setup.items closed.transcripts.items _ _ c.in_ok-setup.ensures c.in_ok-closed.ensures.settled c.in_ok-closed.ensures.limit written)
+
+pub returns-clause-unwritten : goal.returns-clause-unwritten
+returns-clause-unwritten g c = late_threads _ c.print_closed.result c.print_closed.ensures.fault
