@@ -1,22 +1,18 @@
 //! Runs of users' calls on a volume over a log, with a cleaner that keeps segments clean.
 
-ghost use Rattle.std.specs.Prelude.{◌≡◌, length};
-ghost use Rattle.lfs_runs.specs.Counting.{total};
-
 use crate::measure::Measure;
-use crate::store::log_volume;
+use crate::playing::Server;
+use crate::store::{SESSION, log_volume};
+use crate::timing::{make_tree, time_answers, time_calls};
 use anyhow::{Result, bail};
-use lfs_logstore::LogStore;
-use lfs_runs::counts::Counts;
-use lfs_runs::playing::{Call, SESSION, counts_of};
-use lfs_runs::scale::Scale;
 use lfs_server::pass::Pass;
 use lfs_types::answer::Answer;
+use lfs_types::cleaned::CleanedStore;
 use lfs_types::cred::Cred;
 use lfs_volume::volume::Volume;
-use lfs_workloads::calls::calls_of;
+use lfs_workloads::calls::{Call, calls_of};
+use lfs_workloads::scale::Scale;
 use lfs_workloads::series::Series;
-use std::alloc::{AllocError, Global};
 use std::rt::Clock;
 use std::time::Instant;
 
@@ -41,13 +37,23 @@ pub enum Way {
     Kept,
 }
 
-/// What calls with passes of the cleaner between them gave.
-#[derive(Clone, Copy)]
-struct Played {
-    /// What was answered.
-    counts: Counts,
+/// A volume with a cleaner beside it: a pass goes before each call that finds few clean segments.
+#[derive(Drop)]
+struct Cleaned<'a, R, F: CleanedStore + Drop> {
+    /// What tells the time.
+    rt: &'a R,
+    /// The volume.
+    volume: Volume<F>,
     /// How many seconds the passes took; nothing where the clock failed.
     passes: Option<f64>,
+}
+
+impl<R: Clock, F: CleanedStore + Drop> Server for Cleaned<'_, R, F> {
+    fn answer(&mut self, call: Call) -> Answer {
+        self.passes = with_pass(self.rt, &mut self.volume, self.passes);
+        let (cred, request) = call;
+        self.volume.call(SESSION, &cred, request)
+    }
 }
 
 /// Runs a series of calls over a log. A pass of the cleaner goes before each call that finds few clean segments.
@@ -57,68 +63,62 @@ pub fn run_cleaned<R: Clock + AllocGlobal>(
     series: Series,
     way: Way,
 ) -> Result<Measure> {
-    let mut volume = log_volume(rt.alloc(), scale, series.count(scale))?;
-    time_cleaned(rt, &mut volume, scale, series, way)
+    let volume = log_volume(rt.alloc(), scale, series.count(scale))?;
+    time_over(rt, volume, scale, series, way)
 }
 
-/// Makes the tree, and times the calls behind it.
-fn time_cleaned<R: Clock + AllocGlobal>(
+/// Times a series of calls over a volume with a cleaner beside it.
+fn time_over<R: Clock + AllocGlobal, F: CleanedStore + Drop>(
     rt: &R,
-    volume: &mut Volume<LogStore>,
+    volume: Volume<F>,
     scale: &Scale,
     series: Series,
     way: Way,
 ) -> Result<Measure> {
-    let before = calls_of(rt.alloc(), scale, &Series::TREE)?;
-    play_cleaned(rt, volume, before).counts.all_served()?;
+    let passes = Some(0.0);
+    let mut server = Cleaned { rt, volume, passes };
+    time_cleaned(rt, &mut server, scale, series, way)
+}
+
+/// Makes the tree, and times the calls behind it.
+fn time_cleaned<R: Clock + AllocGlobal, F: CleanedStore + Drop>(
+    rt: &R,
+    server: &mut Cleaned<'_, R, F>,
+    scale: &Scale,
+    series: Series,
+    way: Way,
+) -> Result<Measure> {
+    make_tree(rt.alloc(), server, scale)?;
     let calls = calls_of(rt.alloc(), scale, &[series])?;
     match way {
-        Way::Kept => time_answers(rt, volume, calls.as_slice()),
-        Way::Timed | Way::Untimed => time_played(rt, volume, calls, way),
+        Way::Timed => time_calls(rt, server, calls),
+        Way::Untimed => time_alone(rt, server, calls),
+        Way::Kept => time_answers(rt, server, calls.as_slice()),
     }
 }
 
-/// Times calls that are made one after another, and whose answers are counted.
-fn time_played<R: Clock>(
+/// Times calls without the passes between them.
+fn time_alone<R: Clock, F: CleanedStore + Drop>(
     rt: &R,
-    volume: &mut Volume<LogStore>,
+    server: &mut Cleaned<'_, R, F>,
     calls: Vec<Call>,
-    way: Way,
 ) -> Result<Measure> {
-    let start = Instant::now(rt)?;
-    let played = play_cleaned(rt, volume, calls);
-    let mut measure = Measure::since(rt, start, played.counts)?;
-    let Some(passes) = played.passes else {
+    server.passes = Some(0.0);
+    let mut measure = time_calls(rt, server, calls)?;
+    let Some(passes) = server.passes else {
         bail!("the passes were not timed");
     };
-    if let Way::Untimed = way {
-        measure.seconds -= passes;
-    }
+    measure.seconds -= passes;
     Ok(measure)
 }
 
-/// Makes calls one after another, and counts their answers.
-fn play_cleaned<R: Clock>(rt: &R, volume: &mut Volume<LogStore>, calls: Vec<Call>) -> Played
-    ensures { total result.counts ≡ length calls.items }
-{
-    let mut counts = Counts::default();
-    let mut passes = Some(0.0);
-    for call in calls {
-        passes = with_pass(rt, volume, passes);
-        counts.add(&answer_to(volume, call));
-    }
-    Played { counts, passes }
-}
-
-/// Makes a call.
-fn answer_to(volume: &mut Volume<LogStore>, call: Call) -> Answer {
-    let (cred, request) = call;
-    volume.call(SESSION, &cred, request)
-}
-
 /// Makes a pass of the cleaner where few segments are clean, and adds its seconds to those of earlier ones.
-fn with_pass<R: Clock>(rt: &R, volume: &mut Volume<LogStore>, passes: Option<f64>) -> Option<f64> {
-    if !wants_pass(volume) {
+fn with_pass<R: Clock, F: CleanedStore + Drop>(
+    rt: &R,
+    volume: &mut Volume<F>,
+    passes: Option<f64>,
+) -> Option<f64> {
+    if volume.clean_segments() > FEW {
         return passes;
     }
     let start = Instant::now(rt).ok();
@@ -127,43 +127,8 @@ fn with_pass<R: Clock>(rt: &R, volume: &mut Volume<LogStore>, passes: Option<f64
     Some(passes? + seconds)
 }
 
-/// Times calls that are made of copies, and whose answers are kept.
-fn time_answers<R: Clock + AllocGlobal>(
-    rt: &R,
-    volume: &mut Volume<LogStore>,
-    calls: &[Call],
-) -> Result<Measure> {
-    let start = Instant::now(rt)?;
-    let answers = answers_to(rt.alloc(), volume, calls)?;
-    let seconds = start.elapsed(rt)?.as_secs_f64();
-    let counts = counts_of(answers.as_slice());
-    Ok(Measure { counts, seconds })
-}
-
-/// Makes calls of copies one after another, and gives the answers.
-fn answers_to(
-    alloc: Global,
-    volume: &mut Volume<LogStore>,
-    calls: &[Call],
-) -> Result<Vec<Answer>, AllocError> {
-    let mut answers = Vec::with_capacity(alloc, calls.len())?;
-    for (cred, request) in calls {
-        let copy = (*cred, request.try_clone(alloc)?);
-        if wants_pass(volume) {
-            make_pass(volume);
-        }
-        answers.push(answer_to(volume, copy))?;
-    }
-    Ok(answers)
-}
-
-/// Whether few segments are clean.
-fn wants_pass(volume: &Volume<LogStore>) -> bool {
-    volume.clean_segments() <= FEW
-}
-
 /// Makes the calls of a pass of the cleaner.
-fn make_pass(volume: &mut Volume<LogStore>) {
+fn make_pass<F: CleanedStore + Drop>(volume: &mut Volume<F>) {
     let cleaner = Cred::new(0, &[0], false).unwrap();
     let mut pass = Pass::new();
     let mut last = None;

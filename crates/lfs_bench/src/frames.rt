@@ -3,12 +3,12 @@
 ghost use Rattle.std.specs.Prelude.{◌≡◌, ◌≤◌, ◌<◌};
 ghost use Rattle.lfs_recency.specs.FrameLists.{frame_count};
 
+use crate::counts::Counts;
 use crate::measure::Measure;
 use anyhow::Result;
 use lfs_cache::{Cache, Key};
 use lfs_recency::{Frames, Queue};
-use lfs_runs::counts::Counts;
-use lfs_runs::scale::Scale;
+use lfs_workloads::scale::Scale;
 use std::rt::Clock;
 use std::time::Instant;
 
@@ -19,9 +19,16 @@ const TURNS: u32 = 512;
 /// as served.
 pub fn run_moves<R: Clock + AllocGlobal>(rt: &R, scale: &Scale) -> Result<Measure> {
     let mut frames = Frames::new(rt.alloc(), scale.frames)?;
+    time_moves(rt, &mut frames, scale)
+}
+
+/// Times moves.
+fn time_moves<R: Clock>(rt: &R, frames: &mut Frames, scale: &Scale) -> Result<Measure>
+    requires { scale.now.frames ≤ frame_count frames.old }
+{
     let rounds = rounds_of(scale);
     let start = Instant::now(rt)?;
-    move_all(&mut frames, scale.frames, rounds);
+    move_all(frames, scale.frames, rounds);
     Measure::since(
         rt,
         start,
@@ -33,8 +40,13 @@ pub fn run_moves<R: Clock + AllocGlobal>(rt: &R, scale: &Scale) -> Result<Measur
 pub fn run_look_ups<R: Clock + AllocGlobal>(rt: &R, scale: &Scale) -> Result<Measure> {
     let mut cache = Cache::new(rt.alloc(), scale.frames)?;
     fill_all(&mut cache, scale.frames);
+    time_look_ups(rt, &mut cache, scale)
+}
+
+/// Times look-ups.
+fn time_look_ups<R: Clock>(rt: &R, cache: &mut Cache, scale: &Scale) -> Result<Measure> {
     let start = Instant::now(rt)?;
-    let held = held_in_all(&mut cache, scale.frames, rounds_of(scale));
+    let held = held_in_all(cache, scale.frames, rounds_of(scale));
     Measure::since(rt, start, served(held))
 }
 

@@ -6,13 +6,16 @@
 #![tactic(auto)]
 
 mod cleaned;
+mod counts;
 mod frames;
 mod measure;
 mod options;
+mod playing;
 mod rows;
 mod sessions;
 mod stopwatch;
 mod store;
+mod timing;
 
 use options::{Options, matches_of, options_in};
 use std::env::{self, Env};
@@ -24,19 +27,20 @@ use std::thread::Threads;
 
 fn main(rt: HostRuntime) -> anyhow::Result<ExitCode> {
     let words = program_words(&rt)?;
-    let matches = match matches_of(rt.alloc(), words.as_slice()) {
-        Ok(matches) => matches,
-        Err(error) => {
-            error.print(&rt)?;
-            return Ok(ExitCode::from(error.exit_code() as u8));
-        }
-    };
-    print_tables(&rt, &options_in(&matches))?;
-    Ok(ExitCode::SUCCESS)
+    match matches_of(rt.alloc(), words.as_slice()) {
+        Ok(matches) => print_tables(&rt, &options_in(&matches)),
+        Err(error) => print_error(&rt, &error),
+    }
+}
+
+/// Prints what is wrong with the arguments, or the help that they ask for.
+fn print_error<R: Print + Eprint>(rt: &R, error: &clap::Error) -> anyhow::Result<ExitCode> {
+    error.print(rt)?;
+    Ok(ExitCode::from(error.exit_code() as u8))
 }
 
 /// Prints the tables of what is asked for.
-fn print_tables<R>(rt: &R, options: &Options<'_>) -> anyhow::Result<()>
+fn print_tables<R>(rt: &R, options: &Options<'_>) -> anyhow::Result<ExitCode>
 where
     R: Threads + Wait + Sync + Clock + AllocGlobal + Print + Eprint,
 {
@@ -46,7 +50,7 @@ where
     if options.has_sessions() {
         sessions::print_sessions(rt, options)?;
     }
-    Ok(())
+    Ok(ExitCode::SUCCESS)
 }
 
 /// The words of the command line, the program's name first.

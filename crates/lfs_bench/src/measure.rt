@@ -1,7 +1,7 @@
 //! What a run gave.
 
+use crate::counts::Counts;
 use anyhow::Result;
-use lfs_runs::counts::Counts;
 use std::num::nearest_u64_to_f64;
 use std::rt::Clock;
 use std::time::Instant;

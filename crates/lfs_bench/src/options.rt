@@ -4,7 +4,7 @@ ghost use Rattle.std.specs.Prelude.{◌≤◌};
 
 use clap::builder::ValueParser;
 use clap::{Arg, ArgAction, ArgMatches, Command, Error};
-use lfs_runs::scale::CALLS_MAX;
+use lfs_workloads::scale::CALLS_MAX;
 use lfs_workloads::workload::{SESSIONS, Workload};
 use std::alloc::{AllocError, Global};
 use std::convert::AsStr;
@@ -86,32 +86,38 @@ pub fn options_in<'a>(matches: &'a ArgMatches<'_>) -> Options<'a> {
 
 /// The program's options.
 fn command<'a>(alloc: Global) -> Result<Command<'a>, AllocError> {
-    let mut command = Command::new(alloc, "lfs_bench")
+    let [calls, runs] = NUMBERS;
+    Command::new(alloc, "lfs_bench")
         .about("Times calls of the file server as what may grow grows")
-        .arg(workload(alloc))?;
-    for number in NUMBERS {
-        command = command.arg(number.arg(alloc))?;
-    }
-    Ok(command)
+        .arg(workload(alloc))?
+        .arg(calls.arg(alloc))?
+        .arg(runs.arg(alloc))
 }
 
 /// The names of what is timed.
 fn workload<'a>(alloc: Global) -> Arg<'a> {
-    Arg::new(alloc, "workload")
+    taking_names(alloc, "workload")
+        .value_parser(ValueParser::Names(&Workload::NAMES))
+        .help("The workloads; by default all")
+}
+
+/// An argument of this name that takes any number of names.
+fn taking_names<'a>(alloc: Global, name: &'a str) -> Arg<'a> {
+    Arg::new(alloc, name)
         .value_name("NAME")
         .num_args(0..)
         .action(ArgAction::Append)
-        .value_parser(ValueParser::Names(&Workload::NAMES))
-        .help("The workloads; by default all")
+}
+
+/// An option of this name that takes a number.
+fn taking_number<'a>(alloc: Global, name: &'a str) -> Arg<'a> {
+    Arg::new(alloc, name).long(name).value_name("N")
 }
 
 impl NumberOption {
     /// The option for the command line.
     fn arg<'a>(self, alloc: Global) -> Arg<'a> {
-        Arg::new(alloc, self.name)
-            .long(self.name)
-            .value_name("N")
-            .action(ArgAction::Set)
+        taking_number(alloc, self.name)
             .value_parser(ValueParser::Unsigned(1, self.most))
             .help(self.help)
     }

@@ -7,7 +7,7 @@ use crate::measure::Measure;
 use crate::options::Options;
 use crate::store::{Store, run_on};
 use anyhow::Result;
-use lfs_runs::scale::{Factor, Growth, Scale};
+use lfs_workloads::scale::{Factor, Growth, Scale};
 use lfs_workloads::workload::{UserLoad, Workload};
 use std::fmt;
 use std::rt::Clock;
@@ -129,20 +129,26 @@ fn print_subject<R: Clock + AllocGlobal + Print + Eprint>(
     subject: Subject<'_>,
 ) -> Result<()> {
     for growth in subject.runs.growths() {
-        let growth = *growth;
-        let from = subject
-            .runs
-            .scale(options.calls, growth, Factor::One)
-            .of(growth);
-        let one = nanoseconds(rt, options, subject, growth, Factor::One)?;
-        let four = nanoseconds(rt, options, subject, growth, Factor::Four)?;
-        let sixteen = nanoseconds(rt, options, subject, growth, Factor::Sixteen)?;
-        let (growth, ratio) = (growth.name(), sixteen / one);
-        eprintln!(rt;
-            "| {subject} | {growth} | {from} | {one:.0} | {four:.0} | {sixteen:.0} | {ratio:.2} |"
-        )?;
+        print_row(rt, options, subject, *growth)?;
     }
     Ok(())
+}
+
+/// Prints a row of a subject.
+fn print_row<R: Clock + AllocGlobal + Print + Eprint>(
+    rt: &R,
+    options: &Options<'_>,
+    subject: Subject<'_>,
+    growth: Growth,
+) -> Result<()> {
+    let first = subject.runs.scale(options.calls, growth, Factor::One);
+    let one = nanoseconds(rt, options, subject, growth, Factor::One)?;
+    let four = nanoseconds(rt, options, subject, growth, Factor::Four)?;
+    let sixteen = nanoseconds(rt, options, subject, growth, Factor::Sixteen)?;
+    let (word, from, ratio) = (growth.name(), first.of(growth), sixteen / one);
+    Ok(eprintln!(rt;
+        "| {subject} | {word} | {from} | {one:.0} | {four:.0} | {sixteen:.0} | {ratio:.2} |"
+    )?)
 }
 
 /// The nanoseconds of a call, at best. What was answered is counted on standard output.

@@ -4,14 +4,13 @@
 ghost use Rattle.std.specs.Prelude.{◌≤◌};
 
 use crate::cleaned::{Way, run_cleaned};
+use crate::counts::Counts;
 use crate::measure::Measure;
 use crate::options::Options;
+use crate::playing::{counts_of, gathered};
 use crate::stopwatch::Stopwatch;
 use crate::store::log_params;
 use anyhow::Result;
-use lfs_runs::counts::Counts;
-use lfs_runs::playing::{counts_of, gathered};
-use lfs_runs::scale::{Factor, Growth, Scale};
 use lfs_server::serve::serve;
 use lfs_server::serving::Closed;
 use lfs_types::answer::Answer;
@@ -19,8 +18,9 @@ use lfs_types::script::Script;
 use lfs_types::store::FileStore;
 use lfs_workloads::calls::calls_of;
 use lfs_workloads::meeting::{each_of, scripts_of};
+use lfs_workloads::scale::{Factor, Growth, Scale};
 use lfs_workloads::series::Series;
-use std::fmt;
+use std::alloc::Global;
 use std::rt::Clock;
 use std::sync::Wait;
 use std::thread::Threads;
@@ -70,18 +70,6 @@ impl Race {
     }
 }
 
-impl fmt::Display for Race {
-    fn fmt<W: fmt::Write>(&self, f: &mut fmt::Formatter<W>) -> fmt::Result {
-        let Race { calls, one, eight } = *self;
-        let (alone, beside) = (one.served_a_second(), eight.served_a_second());
-        let (ratio, served) = (beside / alone, eight.counts.served);
-        write!(
-            f,
-            "| {calls} | {alone:.0} | {beside:.0} | {ratio:.2} | {served} |"
-        )
-    }
-}
-
 /// Prints a row for each number of calls: how many were served in a second, of one session's and of eight sessions'.
 /// What was answered is counted on standard output; it varies with the schedule only where clean segments run out.
 pub fn print_sessions<R>(rt: &R, options: &Options<'_>) -> Result<()>
@@ -109,13 +97,30 @@ fn print_race<R>(rt: &R, scale: Scale, runs: u32) -> Result<()>
 where
     R: Threads + Wait + Sync + Clock + AllocGlobal + Print + Eprint,
 {
-    let mut race = Race::new(rt, &scale)?;
-    for _ in 1..runs {
-        race = race.faster(Race::new(rt, &scale)?);
-    }
+    let race = best_of(rt, &scale, runs)?;
     print_counts(rt, race.calls, "one session", race.one.counts)?;
     print_counts(rt, race.calls, "eight sessions", race.eight.counts)?;
-    Ok(rt.eprintln(race)?)
+    print_rates(rt, race)
+}
+
+/// Prints the row of what was served in a second.
+fn print_rates<R: Eprint>(rt: &R, race: Race) -> Result<()> {
+    let Race { calls, one, eight } = race;
+    let (alone, beside) = (one.served_a_second(), eight.served_a_second());
+    let (ratio, served) = (beside / alone, eight.counts.served);
+    Ok(eprintln!(rt; "| {calls} | {alone:.0} | {beside:.0} | {ratio:.2} | {served} |")?)
+}
+
+/// Of each the one with the most calls served in a second, of so many runs.
+fn best_of<R>(rt: &R, scale: &Scale, runs: u32) -> Result<Race>
+where
+    R: Threads + Wait + Sync + Clock + AllocGlobal,
+{
+    let mut race = Race::new(rt, scale)?;
+    for _ in 1..runs {
+        race = race.faster(Race::new(rt, scale)?);
+    }
+    Ok(race)
 }
 
 /// Prints how the calls of some sessions were answered.
@@ -140,12 +145,25 @@ fn counts_beside<R>(rt: &R, scale: &Scale, watch: &Stopwatch<'_, R>) -> Result<C
 where
     R: Threads + Wait + Sync + Clock + AllocGlobal,
 {
-    let alloc = rt.alloc();
-    let setup = Script::from(calls_of(alloc, scale, &Series::TREE)?);
-    let sessions = scripts_of(alloc, scale)?;
+    let transcripts = answers_beside(rt, scale, watch)?;
+    Ok(counts_of(gathered(rt.alloc(), transcripts)?))
+}
+
+/// Makes the calls of eight sessions on threads, and gives the answers of each.
+fn answers_beside<R>(rt: &R, scale: &Scale, watch: &Stopwatch<'_, R>) -> Result<Vec<Vec<Answer>>>
+where
+    R: Threads + Wait + Sync + Clock + AllocGlobal,
+{
     let params = log_params(scale, Series::Lone.count(scale));
-    let transcripts = transcripts_of(serve(rt, alloc, params, setup, sessions, watch)?);
-    Ok(counts_of(gathered(alloc, transcripts)?.as_slice()))
+    let (setup, sessions) = setup_and_scripts(rt.alloc(), scale)?;
+    let closed = serve(rt, rt.alloc(), params, setup, sessions, watch)?;
+    Ok(transcripts_of(closed))
+}
+
+/// The calls that make the tree, and the scripts of all sessions.
+fn setup_and_scripts(alloc: Global, scale: &Scale) -> Result<(Script, Vec<Script>)> {
+    let setup = Script::from(calls_of(alloc, scale, &Series::TREE)?);
+    Ok((setup, scripts_of(alloc, scale)?))
 }
 
 /// The answers of the sessions of a run.

@@ -2,19 +2,23 @@
 
 use crate::cleaned::{Way, run_cleaned};
 use crate::measure::Measure;
+use crate::playing::Server;
+use crate::timing::time_series;
 use anyhow::{Result, bail};
 use lfs_logstore::LogStore;
-use lfs_runs::playing::play;
-use lfs_runs::scale::Scale;
+use lfs_types::answer::Answer;
 use lfs_types::store::Params;
 use lfs_volume::flat_files::FlatFiles;
 use lfs_volume::volume::Volume;
-use lfs_workloads::calls::calls_of;
+use lfs_workloads::calls::Call;
+use lfs_workloads::scale::Scale;
 use lfs_workloads::series::Series;
 use lfs_workloads::workload::UserLoad;
 use std::alloc::Global;
 use std::rt::Clock;
-use std::time::Instant;
+
+/// The session that makes all calls, where there is one.
+pub const SESSION: u8 = 1;
 
 /// How many entries of the journal there is room for over a log, for each call of a user.
 const CLEANER_CALLS: u32 = 16;
@@ -44,6 +48,13 @@ impl Store {
     }
 }
 
+impl Server for Volume<FlatFiles> {
+    fn answer(&mut self, call: Call) -> Answer {
+        let (cred, request) = call;
+        self.call(SESSION, &cred, request)
+    }
+}
+
 /// Runs a workload at a scale on a fresh volume over a store.
 pub fn run_on<R: Clock + AllocGlobal>(
     rt: &R,
@@ -63,27 +74,13 @@ pub fn run_on<R: Clock + AllocGlobal>(
 fn run_plain<R: Clock + AllocGlobal>(rt: &R, scale: &Scale, series: Series) -> Result<Measure> {
     let journal = Series::tree_count(scale).saturating_add(series.count(scale));
     let mut volume = plain_volume(rt.alloc(), scale, journal)?;
-    time_plain(rt, &mut volume, scale, series)
+    time_series(rt, &mut volume, scale, series)
 }
 
 /// A fresh volume over the plain store, with room for so many calls.
 fn plain_volume(alloc: Global, scale: &Scale, journal: u32) -> Result<Volume<FlatFiles>> {
     let files = FlatFiles::new(alloc, scale.inodes)?;
     Ok(Volume::new(alloc, files, journal)?)
-}
-
-/// Makes the tree, and times the calls behind it.
-fn time_plain<R: Clock + AllocGlobal>(
-    rt: &R,
-    volume: &mut Volume<FlatFiles>,
-    scale: &Scale,
-    series: Series,
-) -> Result<Measure> {
-    play(volume, calls_of(rt.alloc(), scale, &Series::TREE)?).all_served()?;
-    let calls = calls_of(rt.alloc(), scale, &[series])?;
-    let start = Instant::now(rt)?;
-    let counts = play(volume, calls);
-    Measure::since(rt, start, counts)
 }
 
 /// A fresh volume over a log, with room for the calls that make the tree and so many behind them.

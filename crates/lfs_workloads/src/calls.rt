@@ -1,10 +1,9 @@
 //! The calls of series, with their paths and bytes.
 
+use crate::scale::Scale;
 use crate::series::Series;
 use crate::step::{OWNER, Spot, Step, Verb};
 use anyhow::{Result, bail};
-use lfs_runs::playing::Call;
-use lfs_runs::scale::Scale;
 use lfs_types::cred::Cred;
 use lfs_types::mode::Mode;
 use lfs_types::path::Path;
@@ -12,6 +11,9 @@ use lfs_types::payload::Payload;
 use lfs_types::request::Request;
 use std::alloc::Global;
 use std::fmt;
+
+/// A user's cred and what he asks for.
+pub type Call = (Cred, Request);
 
 /// The calls of some series, one series after another.
 pub fn calls_of(alloc: Global, scale: &Scale, all: &[Series]) -> Result<Vec<Call>> {
@@ -95,9 +97,7 @@ impl fmt::Display for Spelled {
             Spot::Directory(depth) => depth,
             _ => self.depth,
         };
-        for _ in 0..depth {
-            f.write_str("/dir")?;
-        }
+        write_directories(f, depth)?;
         match self.spot {
             Spot::Root | Spot::Directory(_) => Ok(()),
             Spot::File(number) => write!(f, "/file{number:03}"),
@@ -106,4 +106,12 @@ impl fmt::Display for Spelled {
             Spot::Moved => f.write_str("/moved"),
         }
     }
+}
+
+/// Writes the path of so many directories.
+fn write_directories<W: fmt::Write>(f: &mut fmt::Formatter<W>, depth: u32) -> fmt::Result {
+    for _ in 0..depth {
+        f.write_str("/dir")?;
+    }
+    Ok(())
 }

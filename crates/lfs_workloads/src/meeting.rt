@@ -3,11 +3,11 @@
 ghost use Rattle.std.specs.Prelude.{◌≤◌};
 
 use crate::calls::calls_of;
+use crate::scale::Scale;
 use crate::series::Series;
 use crate::step::{Spot, Step, Verb};
 use crate::timed::{SMALL, read, write};
 use anyhow::Result;
-use lfs_runs::scale::Scale;
 use lfs_types::request::Place;
 use lfs_types::script::Script;
 use std::alloc::Global;

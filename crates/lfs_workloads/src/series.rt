@@ -1,10 +1,10 @@
 //! Series of calls on a tree: a directory at the end of a path of directories, and files in it. All are the owner's.
 
 use crate::meeting::{SESSIONS, each_of, session_step};
+use crate::scale::Scale;
 use crate::step::{SUPERUSER, Spot, Step, Verb};
 use crate::timed::{LARGE, timed_step};
 use crate::workload::UserLoad;
-use lfs_runs::scale::Scale;
 use lfs_types::request::Place;
 
 /// Calls that are made one after another.

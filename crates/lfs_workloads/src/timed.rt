@@ -2,9 +2,9 @@
 
 ghost use Rattle.std.specs.Prelude.{◌<◌};
 
+use crate::scale::Scale;
 use crate::step::{STRANGER, Spot, Step, Verb};
 use crate::workload::UserLoad;
-use lfs_runs::scale::Scale;
 use lfs_types::limits::TRANSFER_BYTES;
 use lfs_types::request::Place;
 

@@ -4,31 +4,48 @@ ghost use Rattle.std.specs.Prelude.{◌≡◌, IfOk, length};
 ghost use Rattle.std.specs.Global.{Vec};
 ghost use Rattle.std.specs.List.{flat_map};
 ghost use Rattle.lfs_types.specs.declared.answer.Answer.{Answer};
-ghost use Rattle.lfs_runs.specs.Counting.{total};
+ghost use Rattle.lfs_bench.specs.Counting.{total};
 
 use crate::counts::Counts;
 use lfs_types::answer::Answer;
-use lfs_types::cred::Cred;
-use lfs_types::request::Request;
-use lfs_types::store::FileStore;
-use lfs_volume::volume::Volume;
+use lfs_workloads::calls::Call;
 use std::alloc::{AllocError, Global};
 
-/// A user's cred and what he asks for.
-pub type Call = (Cred, Request);
-
-/// The session that makes all calls, where there is one.
-pub const SESSION: u8 = 1;
+/// What answers calls.
+pub trait Server {
+    /// Makes a call.
+    fn answer(&mut self, call: Call) -> Answer;
+}
 
 /// Makes calls one after another, and counts their answers.
-pub fn play<F: FileStore + Drop>(volume: &mut Volume<F>, calls: Vec<Call>) -> Counts
+pub fn play<S: Server>(server: &mut S, calls: Vec<Call>) -> Counts
     ensures { total result ≡ length calls.items }
 {
     let mut counts = Counts::default();
-    for (cred, request) in calls {
-        counts.add(&volume.call(SESSION, &cred, request));
+    for call in calls {
+        counts.add(&server.answer(call));
     }
     counts
+}
+
+/// Makes calls of copies one after another, and gives the answers.
+pub fn answers_to<S: Server>(
+    alloc: Global,
+    server: &mut S,
+    calls: &[Call],
+) -> Result<Vec<Answer>, AllocError> {
+    let mut answers = Vec::with_capacity(alloc, calls.len())?;
+    for call in calls {
+        answers.push(answer_to(alloc, server, call)?)?;
+    }
+    Ok(answers)
+}
+
+/// Makes a call of a copy.
+fn answer_to<S: Server>(alloc: Global, server: &mut S, call: &Call) -> Result<Answer, AllocError> {
+    let (cred, request) = call;
+    let copy = request.try_clone(alloc)?;
+    Ok(server.answer((*cred, copy)))
 }
 
 /// The answers of all sessions as one list; an error where a growth was refused.
@@ -44,7 +61,14 @@ pub fn gathered(alloc: Global, transcripts: Vec<Vec<Answer>>) -> Result<Vec<Answ
 }
 
 /// Counts answers.
-pub fn counts_of(answers: &[Answer]) -> Counts
+pub fn counts_of(answers: Vec<Answer>) -> Counts
+    ensures { total result ≡ length answers.items }
+{
+    count(answers.as_slice())
+}
+
+/// Counts answers.
+fn count(answers: &[Answer]) -> Counts
     ensures { total result ≡ length answers.now }
 {
     let mut counts = Counts::default();

@@ -1,6 +1,6 @@
 //! How large a run is.
 
-ghost use Rattle.std.specs.Prelude.{◌≤◌, ◌<◌};
+ghost use Rattle.std.specs.Prelude.{◌≤◌, ◌<◌, ◌*◌};
 
 /// The most calls of a run before they grow.
 pub const CALLS_MAX: u32 = 65_536;
@@ -97,6 +97,28 @@ impl Growth {
     }
 }
 
+/// What grows, and how far.
+#[derive(Clone, Copy)]
+struct Grown {
+    growth: Growth,
+    factor: Factor,
+}
+
+impl Grown {
+    /// How much there is of this where there is so much before it grows.
+    fn of(self, of: Growth, amount: u32) -> u32
+        requires { amount ≤ 65536 }
+        ensures least { amount ≤ result }
+        ensures most { result ≤ 16 * amount }
+    {
+        if of == self.growth {
+            amount * self.factor.number()
+        } else {
+            amount
+        }
+    }
+}
+
 /// How large a run is.
 #[derive(Clone, Copy)]
 pub struct Scale {
@@ -129,16 +151,16 @@ impl Scale {
         requires few_calls { calls ≤ 65536 }
         requires few_components { components ≤ 7 }
     {
-        let times = |of: Growth| { if of == growth { factor.number() } else { 1 } };
+        let grown = Grown { growth, factor };
         Scale {
-            calls: calls * times(Growth::Calls),
-            names: 15 * times(Growth::Names),
-            components: components * times(Growth::Components),
-            bytes: (10_000 * times(Growth::Bytes)).min(BYTES_MAX),
-            inodes: 256 * times(Growth::Inodes),
-            entries: 1024 * times(Growth::Entries),
-            frames: 32 * times(Growth::Frames),
-            segments: 64 * times(Growth::Segments),
+            calls: grown.of(Growth::Calls, calls),
+            names: grown.of(Growth::Names, 15),
+            components: grown.of(Growth::Components, components),
+            bytes: grown.of(Growth::Bytes, 10_000).min(BYTES_MAX),
+            inodes: grown.of(Growth::Inodes, 256),
+            entries: grown.of(Growth::Entries, 1024),
+            frames: grown.of(Growth::Frames, 32),
+            segments: grown.of(Growth::Segments, 64),
         }
     }
 

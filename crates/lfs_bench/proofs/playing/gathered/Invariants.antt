@@ -2,7 +2,7 @@ use Rattle.std.proofs.Common.{◌≡◌, ◌++◌}
 use Rattle.std.specs.Global.{Vec}
 use Rattle.std.specs.List.{flat_map}
 use Rattle.lfs_types.specs.declared.answer.Answer.{Answer}
-use Rattle.lfs_runs.proofs.playing.gathered.Given as goal
+use Rattle.lfs_bench.proofs.playing.gathered.Given as goal
 
 abbrev pub invariant-loop-transcript : goal.invariant-loop-transcript
 invariant-loop-transcript l =

@@ -2,7 +2,7 @@
 use Rattle.std.specs.Prelude.{ℕ, ◌+◌}
 use Rattle.lfs_types.specs.declared.answer.Answer.{Answer}
 use Rattle.lfs_types.specs.declared.answer.Answer.TheVariants.{Served, Denied, Refused}
-use Rattle.lfs_runs.specs.declared.counts.Counts.{Counts}
+use Rattle.lfs_bench.specs.declared.counts.Counts.{Counts}
 
 -- the counts of one answer more
 abbrev pub counted : Answer → Counts → Counts

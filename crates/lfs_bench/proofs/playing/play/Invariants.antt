@@ -1,6 +1,6 @@
 use Rattle.std.proofs.Common.{◌≡◌, ◌++◌, length}
-use Rattle.lfs_runs.specs.Counting.{total}
-use Rattle.lfs_bench.proofs.cleaned.play_cleaned.Given as goal
+use Rattle.lfs_bench.specs.Counting.{total}
+use Rattle.lfs_bench.proofs.playing.play.Given as goal
 
 abbrev pub invariant-loop-call : goal.invariant-loop-call
 invariant-loop-call g l =

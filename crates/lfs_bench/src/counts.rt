@@ -1,7 +1,7 @@
 //! Counts of answers.
 
 ghost use Rattle.std.specs.Prelude.{◌≡◌, ◌-◌, ◌<◌, ◌^◌};
-ghost use Rattle.lfs_runs.specs.Counting.{counted, total};
+ghost use Rattle.lfs_bench.specs.Counting.{counted, total};
 
 use anyhow::{Result, bail};
 use lfs_types::answer::Answer;
