@@ -10,7 +10,6 @@ use Rattle.lfs_words.specs.Numbers.{long_of}
 use Rattle.lfs_words.specs.declared.fault.FaultKind.TheVariants.{Words}
 use Rattle.lfs_text.specs.CleanerCalls.{cleaner_said, segment_of}
 use Rattle.lfs_text.specs.Requests.{path_and_mode, place_of, request_said, write_words}
-use Rattle.lfs_text.specs.declared.verb.RequestKind.{RequestKind}
 use Rattle.lfs_text.specs.declared.verb.RequestKind.TheVariants as kind
 
 -- a place at a byte
@@ -18,9 +17,9 @@ pub place_there : (word : List ℕ) (off : ℕ) → long_of word ≡ Ok off → 
 place_there word off read = rw read refl
 
 -- a new directory
-pub mkdir_there : {A : Type 0} (f : A → List ℕ) (words : List A) (asked : RequestKind) (path : List (List ℕ)) (mode : ℕ) → asked ≡ kind.Mkdir
-    → path_and_mode (map f words) ≡ Ok (path, mode) → request_said asked (map f words) ≡ Ok (Mkdir path mode)
-mkdir_there f words asked path mode is read = rw (is, read) refl
+pub mkdir_there : {A : Type 0} (f : A → List ℕ) (words : List A) (path : List (List ℕ)) (mode : ℕ) → path_and_mode (map f words) ≡ Ok (path, mode)
+    → request_said kind.Mkdir (map f words) ≡ Ok (Mkdir path mode)
+mkdir_there f words path mode read = rw read refl
 
 -- the infos of a segment
 pub infos_there : {A : Type 0} (f : A → List ℕ) (words : List A) (asked : CleanerKind) (segment : ℕ) → asked ≡ cleaner.Infos

@@ -35,10 +35,7 @@ pub fn request(alloc: Global, kind: RequestKind, words: &[&str]) -> Result<Reque
             let (path, mode) = path_and_mode(alloc, words)?;
             Ok(Request::Create { path, mode })
         }
-        RequestKind::Mkdir => {
-            let (path, mode) = path_and_mode(alloc, words)?;
-            Ok(Request::Mkdir { path, mode })
-        }
+        RequestKind::Mkdir => mkdir(alloc, words),
         RequestKind::Unlink => Ok(Request::Unlink {
             path: lone_path(alloc, words)?,
         }),
@@ -125,6 +122,14 @@ fn set_length(alloc: Global, words: &[&str]) -> Result<Request, FaultKind>
     let path = path_of(alloc, path)?;
     let len = decimal(len)?;
     Ok(Request::SetLength { path, len })
+}
+
+/// A `mkdir` of a path and a mode.
+fn mkdir(alloc: Global, words: &[&str]) -> Result<Request, FaultKind>
+    ensures { Reads (request_said kind.Mkdir (map (λ x. x.now) words.now)) result }
+{
+    let (path, mode) = path_and_mode(alloc, words)?;
+    Ok(Request::Mkdir { path, mode })
 }
 
 /// A `rename` of a path to another.
