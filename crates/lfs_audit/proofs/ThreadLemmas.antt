@@ -86,17 +86,18 @@ vectors_grow transcripts k transcript told start known left lt here tells printe
     transcripts_grow lists k told start known left within (item-answers transcripts k transcript lt here ∙ sym tells) printed then
 
 -- the setup's lines, those of the sessions and the report are all written
-pub closed_written : (journal : List Entry) (setup told : List Answer) (transcripts : List (List Answer)) (start known more left : Option (List ℕ)) (empty text after : List ℕ)
-    → told ≡ setup → empty ≡ [] → Appends (append_known start empty) (append_known known text) (transcript_text 0 told)
+pub closed_written : (journal : List Entry) (setup told : List Answer) (transcripts : List (List Answer)) (start known more left : Option (List ℕ)) (empty text after : List ℕ) (first : ℕ)
+    → told ≡ setup → empty ≡ [] → Appends (append_known start empty) (append_known known text) (transcript_text first told) → first ≡ 0
     → Appends (append_known known text) (append_known more after) (transcripts_text 1 transcripts)
     → Appends (append_known more after) left (report_text journal) → Appends start left (closed_text journal setup transcripts)
-closed_written journal setup told transcripts start known more left empty text after tells nothing first then last =
+closed_written journal setup told transcripts start known more left empty text after first tells nothing printed is_first then last =
     let a = transcript_text 0 setup in
     let b = transcripts_text 1 transcripts in
     let report = report_text journal in
     let from_empty : Appends (append_known start []) (append_known known text) a =
     subst (λ (t : List Answer). Appends (append_known start []) (append_known known text) (transcript_text 0 t)) tells
-    (subst (λ (e : List ℕ). Appends (append_known start e) (append_known known text) (transcript_text 0 told)) nothing first) in
+    (subst (λ (e : List ℕ). Appends (append_known start e) (append_known known text) (transcript_text 0 told)) nothing
+    (subst (λ (n : ℕ). Appends (append_known start empty) (append_known known text) (transcript_text n told)) is_first printed)) in
     let both : Appends (append_known start []) (append_known more after) (a ++ b) = Appends-trans (append_known start []) (append_known known text) (append_known more after) a b from_empty then in
     from_start start left (a ++ b ++ report) (Appends-trans (append_known start []) (append_known more after) left (a ++ b) report both last)
 

@@ -1,4 +1,4 @@
-use Rattle.std.proofs.Common.{List, map, subst}
+use Rattle.std.proofs.Common.{List, map, refl, subst}
 use Rattle.std.specs.Global.{Vec}
 use Rattle.std.specs.Io.KnownBytes.{Appends, append_known}
 use Rattle.lfs_types.specs.declared.answer.Answer.{Answer}
@@ -17,6 +17,6 @@ returns-clause-written g c =
     record {
       legal = told.0;
       written = closed_written closed.volume.journal closed.setup.items c.as_slice.result.now (map (λ (t : Vec Answer). t.items) closed.transcripts.items) _ _ _ _ _
-          c.print_transcript.new.text.items c.print_transcripts.new.text.items
-          c.as_slice.ensures.value c.new-text.ensures.items c.in_ok-print_transcript.ensures.written sessions told.1;
+          c.print_transcript.new.text.items c.print_transcripts.new.text.items _
+          c.as_slice.ensures.value c.new-text.ensures.items c.in_ok-print_transcript.ensures.written refl sessions told.1;
     }
