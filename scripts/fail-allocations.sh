@@ -1,89 +1,148 @@
-#!/bin/sh
-# Lets one allocation of each test of lfs_layer_trials fail, the first, the second and so on, and tells what the tests of
-# each named module of `stores` answered. With no names: recency and cache. There every test begins with a call of `new`,
-# and only that takes memory. So all tests have to end in AllocError, once for each allocation of `new`, and from then on
-# all have to pass. Anything else is a failure: a fault, a signal, another error, or tests of which some pass. A leak isn't
-# seen, and what the tests of other modules answer counts for nothing. RT names the command to run in place of `rt`.
-set -u
-cd "$(dirname "$0")/../crates/lfs_layer_trials" || exit 2
+#!/usr/bin/env bash
+# Lets one allocation of each thing that lfs_scarcity does fail, the first, the second and so on, and asks what came of it.
+# With no words: all that the program knows. A case is one thing with one allocation that fails; all cases are run by one
+# call of `rt try`, on the interpreter and compiled. Of each it asks
+#
+# - that the run ends with status 0, alike on both runners;
+# - of `run`, that it prints what it prints with ample memory, or that a Read is refused NoMemory, left out of the report
+#   and nothing else is, or one line: `no memory`, `script line N: Memory` or `format Memory`;
+# - of each other word, that each line is that of ample memory, but that at most one is the named refusal, and then the
+#   same call, made again, is given.
+#
+# A word is done where three cases come to their end with no allocation that failed; else the script fails, and ROOM, how
+# many allocations are tried of a word, is to be raised. RT names the command to run in place of `rt`.
+set -euo pipefail
+cd "$(dirname "$0")/../crates/lfs_scarcity"
 
-# So many allocations in a row have to make no difference, for the last one to be found.
-beyond=3
-limit=40
+room=${ROOM:-64}
+# Which allocation fails: the others before it are spent.
+failing=$((room + 40))
+[ $# -gt 0 ] || set -- run frames cache formats names paths script
 
-# What was told of the tests where each allocation fails, in a file for each, since it is asked for by each module.
-folder=$(mktemp -d) || exit 2
-trap 'rm -rf "$folder"' EXIT
+folder=$(mktemp -d)
+trap 'rm -r "$folder"' EXIT
+mkdir "$folder/cases"
 
-# Has all tests run, with allocation $1 failing, unless that was done.
-run_tests() {
-    [ -e "$folder/$1" ] || "${RT:-rt}" try --test --fail-alloc "$1" >"$folder/$1" 2>&1
-}
+# The script that is run or parsed.
+script='as 0 0
+create /a 0644
+write /a at 0 616263
+as 5 5
+read /a 0 10
+write /a at 0 64'
 
-# What the tests of module $1 answer where allocation $2 fails: 'passed', 'AllocError' or 'other'. Below its name each
-# test that fails has the lines that say why.
-answer() {
-    run_tests "$2"
-    awk -v "of=test tests::stores::$1::" '
-        /^test / { of_module = index($0, of) == 1 }
-        /^test / && of_module {
-            if ($NF == "ok") passed++
-            else if ($NF == "FAILED") failed++
-            else other++
-        }
-        /^    / && of_module {
-            if ($0 == "    error: AllocError") errors++
-            else if ($0 == "    the test failed: its result gives status 1") results++
-            else if ($0 == "    the test exited with status 101") exits++
-            else other++
-        }
-        /^run=ended status=(0|101) / { ended++ }
-        END {
-            if (ended != 1 || other) print "other"
-            else if (passed && !failed && !errors && !results && !exits) print "passed"
-            else if (failed && !passed && errors == failed && results == failed && exits == failed) print "AllocError"
-            else print "other"
-        }' "$folder/$2"
-}
+# Every kind of line.
+lines='# all kinds
+as 7 7,8,9
+stat /a
+create /a 0644
+read /a 0 10
+write /a at 0 616263
+write /a end 64
+list /
+length /a 9
+mkdir /d 0755
+unlink /a
+rmdir /d
+rename /a /nnnnnnnnnnnnnnnnnnnnnnnnn
+chmod /a 0600
+chown /a 7 8
+chflags /a 2
+level 1
+sync
+session 3
+ifile
+infos 0
+segclean 0
+bmapv 4:1:0:0
+markv 4:1:0:0
+pass'
 
-# Lets each allocation of the tests of module $1 fail.
-fail_each() {
-    number=1
-    denied=0
-    passed=0
-    while [ "$passed" -lt "$beyond" ]; do
-        if [ "$number" -gt "$limit" ]; then
-            echo "$1: more than $limit allocations"
-            return 1
-        fi
-        said=$(answer "$1" "$number")
-        echo "$1, allocation $number: $said"
-        case $said in
-            passed) passed=$((passed + 1)) ;;
-            AllocError)
-                if [ "$passed" -gt 0 ]; then
-                    echo "$1: the failure of an earlier allocation was passed over"
-                    return 1
-                fi
-                denied=$number
-                ;;
-            *)
-                cat "$folder/$number"
-                return 1
-                ;;
-        esac
-        number=$((number + 1))
+for word; do
+    own=1
+    [ "$word" != run ] || own=2
+    for ((tried = 0; tried < room; tried++)); do
+        {
+            echo "$((failing - 1 - own - tried)) $word"
+            case $word in
+                run) echo "$script" ;;
+                script) echo "$lines" ;;
+            esac
+        } >"$folder/cases/$word-$(printf %03d "$tried")"
     done
-    if [ "$denied" -eq 0 ]; then
-        echo "$1: no allocation failed"
-        return 1
-    fi
-    echo "$1: AllocError for each allocation up to $denied, and no difference from then on"
-}
-
-[ $# -gt 0 ] || set -- recency cache
-result=0
-for module; do
-    fail_each "$module" || result=1
 done
-exit $result
+
+"${RT:-rt}" try --fail-alloc "$failing" --cases "$folder/cases" >"$folder/told" 2>&1 || true
+
+awk -v failing="$failing" -v words="$*" '
+    # What is printed with ample memory; each line but those of `run` says what was asked for first.
+    function ample(word) {
+        if (word == "run") return "0 ok\n0 ok\n0 bytes 616263\n0 denied M2 EACCES 0 1\n" \
+            "entries 4\nserved 3\ndenied 1\nrefused 0\ncleaner 0\nrule M2 1\ndone\n"
+        if (word == "frames") return "frames ok\nframes ok\n"
+        if (word == "cache") return "cache ok\n"
+        if (word == "formats") return "segments ok\nifile ok\nlog ok\nplain ok\n"
+        if (word == "names") return "name ok\nname ok\n"
+        if (word == "paths") return "path ok\npath ok\npath ok\n"
+        if (word == "script") return "script ok\n"
+    }
+    function without_read() {
+        return "0 ok\n0 ok\n0 refused NoMemory\n0 denied M2 EACCES 0 1\n" \
+            "entries 3\nserved 2\ndenied 1\nrefused 0\ncleaner 0\nrule M2 1\ndone\n"
+    }
+    # Whether a line says that what it asks for was refused for want of memory.
+    function is_refusal(line) {
+        if (line ~ /^(frames|cache) AllocError$/) return 1
+        if (line ~ /^(segments|ifile|log|plain|name|path) Memory$/) return 1
+        return line ~ /^script ScriptFault \{ line: [0-9]+, kind: Memory \}$/
+    }
+    # How the case came out: same, refused or other.
+    function outcome(word, text,    lines, count, i, refusals, rest) {
+        if (text == ample(word)) return "same"
+        if (word == "run") {
+            if (text == without_read()) return "refused"
+            if (text ~ /^lfsd: (no memory|format Memory|script line [1-6]: Memory)\n$/) return "refused"
+            return "other"
+        }
+        count = split(text, lines, "\n")
+        for (i = 1; i < count; i++) {
+            if (is_refusal(lines[i])) refusals++
+            else rest = rest lines[i] "\n"
+        }
+        return refusals == 1 && rest == ample(word) ? "refused" : "other"
+    }
+    function fail(why) {
+        print why
+        failed = 1
+    }
+    /^== / { name = $2; text = ""; spent = 0; next }
+    /^allocations: / { spent = $2; next }
+    /^case=/ {
+        word = name
+        sub(/-[0-9]+$/, "", word)
+        cases[word]++
+        came = outcome(word, text)
+        if ($0 !~ / run=ended status=0 runners=2 /) came = "other"
+        if (came == "other") fail(name ": " $0 "\n" text)
+        if (came == "refused") refused[word]++
+        if (spent < failing) {
+            unfailed[word]++
+            if (came != "same") fail(name ": no allocation failed, and another text came")
+        }
+        next
+    }
+    { text = text $0 "\n" }
+    END {
+        count = split(words, named, " ")
+        for (i = 1; i <= count; i++) {
+            word = named[i]
+            printf "%s: %d cases, %d refused, %d with no allocation that failed\n", word, cases[word], refused[word],
+                unfailed[word]
+            if (!refused[word]) fail(word ": no allocation was refused")
+            if (unfailed[word] < 3) fail(word ": too few allocations were tried; raise ROOM")
+        }
+        exit failed
+    }' "$folder/told" || {
+    grep -v '^==' "$folder/told" | tail -3
+    exit 1
+}

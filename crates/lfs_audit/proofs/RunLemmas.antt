@@ -18,11 +18,11 @@ use Rattle.lfs_model.specs.Steps.{IsLegal, world_of}
 use Rattle.lfs_calls.specs.Volumes.{IsVolume}
 use Rattle.lfs_cleaner.specs.Passing.{Steps, calls_left}
 use Rattle.lfs_cleaner.specs.declared.pass.Pass.{Pass}
-use Rattle.lfs_answers.specs.AnswerText.{answer_line}
-use Rattle.lfs_answers.specs.CleanerText.{cleaner_line}
-use Rattle.lfs_answers.specs.ReportText.{report_text}
-use Rattle.lfs_text.specs.declared.plan.Act.TheVariants as plan
-use Rattle.lfs_text.specs.declared.plan.Step.{Step}
+use Rattle.lfs_print.specs.AnswerText.{answer_line}
+use Rattle.lfs_print.specs.CleanerText.{cleaner_line}
+use Rattle.lfs_print.specs.ReportText.{report_text}
+use Rattle.lfs_script.specs.declared.plan.Act.TheVariants as plan
+use Rattle.lfs_script.specs.declared.plan.Step.{Step}
 use Rattle.lfs_volume.specs.Cleanings.{Cleaner}
 use Rattle.lfs_volume.specs.Seen.{Seen}
 use Rattle.lfs_volume.specs.StepRuns.{AreSteps, IsActMade}
@@ -120,7 +120,7 @@ runs_joined r old middle new made answers more others before then =
     }
 
 -- the lines of what was done and of what was done then
-lines_of_runs : {F : Type 0} (r : Cleaner F) (old middle : Seen F) (made : List Made) (answers : List StepAnswer) (more : List Made) (others : List StepAnswer)
+pub lines_of_runs : {F : Type 0} (r : Cleaner F) (old middle : Seen F) (made : List Made) (answers : List StepAnswer) (more : List Made) (others : List StepAnswer)
     → Runs r old middle made answers → lines_text (made ++ more) (answers ++ others) ≡ lines_text made answers ++ lines_text more others
 lines_of_runs r old middle made answers more others before =
     lines-joined made answers more others (steps_count r old.limit old.journal old.store middle.store made answers before.answered)
@@ -300,14 +300,13 @@ on_ok (Ok a) x next = next x
 on_ok (Err e) x next = tt
 
 -- what is known to be written grows by what was collected and by the report
-pub report_written : (journal shown : List Entry) (start written left : Option (List ℕ)) (text whole out : List ℕ) → shown ≡ journal → whole ≡ text ++ report_text shown → out ≡ whole
+pub report_written : (journal : List Entry) (start written left : Option (List ℕ)) (text whole out : List ℕ) → whole ≡ text ++ report_text journal → out ≡ whole
     → Appends start written out → Keeps written left → Appends (append_known start text) left (report_text journal)
-report_written journal shown None written left text whole out shows grown is w k = tt
-report_written journal shown (Some x) None left text whole out shows grown is w k = absurd w
-report_written journal shown (Some x) (Some y) None text whole out shows grown is w k = absurd k
-report_written journal shown (Some x) (Some y) (Some v) text whole out shows grown is w k =
-    let added : out ≡ text ++ report_text journal = is ∙ grown ∙ ap (λ (j : List Entry). text ++ report_text j) shows in
-    k ∙ w ∙ ap (λ (xs : List ℕ). x ++ xs) added ∙ sym (append_assoc x text (report_text journal))
+report_written journal None written left text whole out grown is w k = tt
+report_written journal (Some x) None left text whole out grown is w k = absurd w
+report_written journal (Some x) (Some y) None text whole out grown is w k = absurd k
+report_written journal (Some x) (Some y) (Some v) text whole out grown is w k =
+    k ∙ w ∙ ap (λ (xs : List ℕ). x ++ xs) (is ∙ grown) ∙ sym (append_assoc x text (report_text journal))
 
 -- nothing is collected first
 pub from_start : (start left : Option (List ℕ)) (text : List ℕ) → Appends (append_known start []) left text → Appends start left text

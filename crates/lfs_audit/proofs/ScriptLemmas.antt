@@ -3,9 +3,9 @@ use Rattle.std.proofs.Common.{◌≡◌, ℕ, List, Option, None, Some, Result, 
 use Rattle.std.specs.Io.KnownBytes.{Appends}
 use Rattle.lfs_staging.specs.declared.parts.Parts.{Parts}
 use Rattle.lfs_logstore.specs.States.{opening_state, state_of}
-use Rattle.lfs_text.specs.PlanTypes.{Planned}
-use Rattle.lfs_text.specs.Plans.{plan_of}
-use Rattle.lfs_text.specs.declared.plan.Step.{Step}
+use Rattle.lfs_script.specs.PlanTypes.{Planned}
+use Rattle.lfs_script.specs.Plans.{plan_of}
+use Rattle.lfs_script.specs.declared.plan.Step.{Step}
 use Rattle.lfs_audit.specs.Faults.{MayHaveWritten}
 use Rattle.lfs_audit.specs.Output.{IsRun}
 use Rattle.lfs_audit.specs.Scripts.{IsLogOutput, IsScriptFault, log_cleaner}

@@ -12,11 +12,11 @@ use Rattle.lfs_types.specs.declared.answer.Answer.{Answer}
 use Rattle.lfs_types.specs.declared.request.Request.{Request}
 use Rattle.lfs_model.specs.declared.journal.Entry.{Entry}
 use Rattle.lfs_settle.specs.Interleaving.{Agrees, IsInterleaving, Run, is_full, later_entries, run_of}
-use Rattle.lfs_answers.specs.AnswerText.{answer_line}
-use Rattle.lfs_text.specs.PlanTypes.{Planned}
-use Rattle.lfs_text.specs.Plans.{plan_of}
-use Rattle.lfs_answers.specs.ReportText.{report_text}
-use Rattle.lfs_text.specs.Splitting.{Sorts, is_of_cleaner}
+use Rattle.lfs_print.specs.AnswerText.{answer_line}
+use Rattle.lfs_script.specs.PlanTypes.{Planned}
+use Rattle.lfs_script.specs.Plans.{plan_of}
+use Rattle.lfs_print.specs.ReportText.{report_text}
+use Rattle.lfs_script.specs.Splitting.{Sorts, is_of_cleaner}
 use Rattle.lfs_audit.specs.declared.fault.ThreadsFault.{ThreadsFault}
 use Rattle.lfs_audit.specs.Threads.{IsClosedText, IsSplit, IsThreadsOutput, MayHaveWrittenThreads, closed_text, transcript_text, transcripts_text}
 use Rattle.lfs_audit.proofs.RunLemmas.{collected, from_start}

@@ -1,10 +1,10 @@
 -- Faults of a run.
 use Rattle.std.specs.Prelude.{ℕ, ◌<◌, List, length, Option, Err, IfSome}
-use Rattle.lfs_streams.specs.declared.read.ReadFault.{ReadFault}
-use Rattle.lfs_streams.specs.declared.read.ReadFault.TheVariants as read
-use Rattle.lfs_text.specs.Parsing.{ParsesScript}
-use Rattle.lfs_text.specs.declared.split.SplitFault.{SplitFault}
-use Rattle.lfs_text.specs.declared.split.SplitFault.TheVariants as split
+use Rattle.lfs_io.specs.declared.read.ReadFault.{ReadFault}
+use Rattle.lfs_io.specs.declared.read.ReadFault.TheVariants as read
+use Rattle.lfs_script.specs.Parsing.{ParsesScript}
+use Rattle.lfs_script.specs.declared.split.SplitFault.{SplitFault}
+use Rattle.lfs_script.specs.declared.split.SplitFault.TheVariants as split
 use Rattle.lfs_audit.specs.declared.fault.RunFault.{RunFault}
 use Rattle.lfs_audit.specs.declared.fault.RunFault.TheVariants.{Read, TooLong, Script, Format, Memory, Write}
 use Rattle.lfs_audit.specs.declared.fault.ThreadsFault.{ThreadsFault}

@@ -5,10 +5,10 @@ use Rattle.lfs_model.specs.declared.steps.Step.{Step as Made}
 use Rattle.lfs_model.specs.declared.steps.StepAnswer.{StepAnswer}
 use Rattle.lfs_model.specs.Runs.{kept_steps}
 use Rattle.lfs_model.specs.Steps.{IsLegal}
-use Rattle.lfs_text.specs.PlanTypes.{Planned}
-use Rattle.lfs_text.specs.Plans.{plan_of}
-use Rattle.lfs_answers.specs.ReportText.{report_text}
-use Rattle.lfs_text.specs.declared.plan.Step.{Step}
+use Rattle.lfs_script.specs.PlanTypes.{Planned}
+use Rattle.lfs_script.specs.Plans.{plan_of}
+use Rattle.lfs_print.specs.ReportText.{report_text}
+use Rattle.lfs_script.specs.declared.plan.Step.{Step}
 use Rattle.lfs_volume.specs.Cleanings.{Cleaner}
 use Rattle.lfs_volume.specs.StepRuns.{AreSteps}
 use Rattle.lfs_audit.specs.Runs.{AreAsked, lines_text}

@@ -14,11 +14,11 @@ use Rattle.lfs_model.specs.Runs.{kept_steps, kind_of}
 use Rattle.lfs_cleaner.specs.Passing.{Steps, calls_left}
 use Rattle.lfs_cleaner.specs.declared.pass.Pass.{Pass}
 use Rattle.lfs_cleaner.specs.declared.pass.Stage.TheVariants.{Ready}
-use Rattle.lfs_answers.specs.AnswerText.{answer_line}
-use Rattle.lfs_answers.specs.CleanerText.{cleaner_line}
-use Rattle.lfs_text.specs.declared.plan.Act.{Act}
-use Rattle.lfs_text.specs.declared.plan.Act.TheVariants as plan
-use Rattle.lfs_text.specs.declared.plan.Step.{Step}
+use Rattle.lfs_print.specs.AnswerText.{answer_line}
+use Rattle.lfs_print.specs.CleanerText.{cleaner_line}
+use Rattle.lfs_script.specs.declared.plan.Act.{Act}
+use Rattle.lfs_script.specs.declared.plan.Act.TheVariants as plan
+use Rattle.lfs_script.specs.declared.plan.Step.{Step}
 use Rattle.lfs_volume.specs.Cleanings.{Cleaner}
 use Rattle.lfs_volume.specs.Seen.{Seen}
 use Rattle.lfs_volume.specs.StepRuns.{AreSteps}

@@ -3,11 +3,11 @@
 ghost use Rattle.std.specs.Prelude.{◌≡◌};
 ghost use Rattle.lfs_audit.specs.declared.fault.RunFault.TheVariants.{Memory};
 
+use lfs_io::output::WriteFault;
+use lfs_io::read::ReadFault;
+use lfs_script::fault::ScriptFault;
+use lfs_script::split::SplitFault;
 use lfs_server::serving::ServeFault;
-use lfs_streams::output::WriteFault;
-use lfs_streams::read::ReadFault;
-use lfs_text::fault::ScriptFault;
-use lfs_text::split::SplitFault;
 use lfs_types::fault::FormatFault;
 use std::alloc::{AllocError, AllocFailed};
 use thiserror::Error;

@@ -2,12 +2,11 @@
 #![tactic(auto)]
 
 pub mod fault;
-mod passing;
+pub mod passing;
 pub mod run;
 pub mod scripts;
-pub mod threaded;
 pub mod threads;
 
-pub use lfs_answers::{print, report};
-pub use lfs_streams::tell;
-pub use lfs_text::{plan, script, split};
+pub use lfs_io::tell;
+pub use lfs_print::{print, report};
+pub use lfs_script::{plan, script, split};

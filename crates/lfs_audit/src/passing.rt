@@ -4,10 +4,10 @@ ghost use Rattle.std.specs.Prelude.{◌≡◌, IfOk, OnOk};
 ghost use Rattle.lfs_volume.specs.Cleanings.{cleaner_of};
 ghost use Rattle.lfs_audit.specs.Runs.{Cleans, Tells};
 
-use lfs_answers::print::{append_answer, append_cleaner};
 use lfs_model::journal::{CleanerAnswer, CleanerKind};
+use lfs_print::print::{append_answer, append_cleaner};
+use lfs_script::plan::{Act, HeldCall, Step};
 use lfs_server::pass::Pass;
-use lfs_text::plan::{Act, HeldCall, Step};
 use lfs_types::cleaned::CleanedStore;
 use lfs_types::cleaner::CleanerCall;
 use lfs_types::cred::Cred;

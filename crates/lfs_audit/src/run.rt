@@ -4,8 +4,8 @@ ghost use Rattle.std.specs.Prelude.{◌≡◌, ◌<◌, ◌^◌, ℕ, List, [], 
 ghost use Rattle.std.specs.Io.KnownBytes.{Appends, Keeps, append_known};
 ghost use Rattle.lfs_types.specs.Tree.{opening_world};
 ghost use Rattle.lfs_model.specs.Steps.{IsLegal};
-ghost use Rattle.lfs_answers.specs.ReportText.{report_text};
-ghost use Rattle.lfs_text.specs.Plans.{plan_of};
+ghost use Rattle.lfs_print.specs.ReportText.{report_text};
+ghost use Rattle.lfs_script.specs.Plans.{plan_of};
 ghost use Rattle.lfs_volume.specs.Cleanings.{cleaner_of};
 ghost use Rattle.lfs_audit.specs.Faults.{IsFaultOf, MayHaveWritten};
 ghost use Rattle.lfs_audit.specs.Output.{IsOutput, IsRun};
@@ -13,11 +13,11 @@ ghost use Rattle.lfs_audit.specs.Runs.{Writes};
 
 use crate::fault::RunFault;
 use crate::passing::run_step;
-use lfs_answers::report::append_report;
-use lfs_streams::output::{flush, write_full, write_text};
-use lfs_streams::read::read_script;
-use lfs_text::plan::{Plan, Step};
-use lfs_text::script::parse_script;
+use lfs_io::output::{flush, write_full, write_text};
+use lfs_io::read::read_script;
+use lfs_print::report::append_counts;
+use lfs_script::plan::{Plan, Step};
+use lfs_script::script::parse_script;
 use lfs_types::cleaned::CleanedStore;
 use lfs_types::store::FileStore;
 use lfs_volume::volume::Volume;
@@ -101,7 +101,7 @@ fn print_steps<F: CleanedStore + Drop, W: Write>(
 }
 
 /// Adds the report over a volume's journal to a text, and writes the text whole.
-pub(crate) fn print_report<F: FileStore + Drop, W: Write>(
+pub fn print_report<F: FileStore + Drop, W: Write>(
     volume: &Volume<F>,
     text: &mut Vec<u8>,
     writer: &mut W,
@@ -113,7 +113,7 @@ pub(crate) fn print_report<F: FileStore + Drop, W: Write>(
         (W.contents writer.new) (report_text volume.now.journal)) }
     ensures fault { IfErr result MayHaveWritten }
 {
-    append_report(text, volume.journal())?;
+    append_counts(text, volume.counts())?;
     write_text(writer, text.as_slice())?;
     flush(writer)?;
     Ok(())

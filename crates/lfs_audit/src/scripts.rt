@@ -38,7 +38,7 @@ pub fn run_script<R: Read, W: Write>(
 }
 
 /// A fresh volume over the log store.
-fn fresh_volume(alloc: Global, params: Params) -> Result<Volume<LogStore>, RunFault>
+pub fn fresh_volume(alloc: Global, params: Params) -> Result<Volume<LogStore>, RunFault>
     ensures fresh { IfOk result (λ volume. (volume.journal ≡ []) × (volume.limit ≡ params.journal)
         × (state_of volume.store ≡ opening_state params.segments params.inodes)) }
     ensures ranges { OnOk result (IsInRange params.segments params.inodes params.frames) }

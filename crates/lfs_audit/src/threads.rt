@@ -1,6 +1,6 @@
 //! Running a script with its sessions on threads.
 
-ghost use Rattle.std.specs.Prelude.{◌≤◌, ℕ, List, length, map, IfErr, IfOk, IfSome, OnOk};
+ghost use Rattle.std.specs.Prelude.{◌≡◌, ◌≤◌, ℕ, List, length, map, IfErr, IfOk, IfSome, OnOk};
 ghost use Rattle.std.specs.Global.{Vec};
 ghost use Rattle.std.specs.Io.KnownBytes.{Appends, Keeps, append_known};
 ghost use Rattle.lfs_types.specs.declared.answer.Answer.{Answer};
@@ -9,45 +9,46 @@ ghost use Rattle.lfs_audit.specs.Threads.{IsClosedText, IsSplit, IsThreadsOutput
 
 use crate::fault::{RunFault, ThreadsFault};
 use crate::run::{print_report, read_plan};
-use lfs_answers::print::append_answer;
-use lfs_server::serving::{Closed, serve_over};
-use lfs_streams::output::write_full;
+use lfs_io::output::write_full;
+use lfs_print::print::append_answer;
+use lfs_server::serve::serve;
+use lfs_server::serving::Closed;
 use lfs_types::answer::Answer;
 use lfs_types::cleaned::CleanedStore;
 use lfs_types::script::Script;
-use lfs_volume::volume::Volume;
+use lfs_types::store::Params;
 use std::alloc::Global;
 use std::io::{Read, Write};
 use std::sync::Wait;
 use std::thread::Threads;
 
 /// Reads a script whole, parses it whole, runs the calls of session 0 and then those of the other sessions on threads, with
-/// the cleaner beside them, on a volume, and writes the setup's answers, each session's in turn, and the report.
-pub fn run_threads_over<S, F, R, W>(
+/// the cleaner beside them, on a fresh volume over the log store, and writes the setup's answers, each session's in turn,
+/// and the report.
+pub fn run_threads<S, R, W>(
     rt: &S,
     alloc: Global,
     reader: &mut R,
     writer: &mut W,
-    volume: Volume<F>,
+    params: Params,
 ) -> Result<(), ThreadsFault>
 where
     S: Threads + Wait + Sync,
-    F: CleanedStore + Send + Drop,
     R: Read,
     W: Write,
     ensures written { OnOk result (IfSome (R.remaining reader.old) (λ script. (text : List ℕ)
-        × IsThreadsOutput script volume.limit text
+        × IsThreadsOutput script params.journal text
         × Appends (W.contents writer.old) (W.contents writer.new) text)) }
     ensures unwritten { IfErr result (λ fault. (MayHaveWrittenThreads fault → ⊥)
         → Keeps (W.contents writer.old) (W.contents writer.new)) }
 {
     let (setup, sessions) = read_sessions(alloc, reader)?;
-    let closed = serve_over(rt, alloc, volume, setup, sessions, &())?;
+    let closed = serve(rt, alloc, params, setup, sessions, &())?;
     print_closed(alloc, &closed, writer)
 }
 
 /// Reads a script whole, and gives the calls of session 0 and those of each other session.
-pub(crate) fn read_sessions<R: Read>(
+fn read_sessions<R: Read>(
     alloc: Global,
     reader: &mut R,
 ) -> Result<(Script, Vec<Script>), ThreadsFault>
@@ -60,7 +61,7 @@ pub(crate) fn read_sessions<R: Read>(
 
 /// Writes the answers of the setup, those of each session in turn, and the report. A fault is one after which something may
 /// have been written.
-pub(crate) fn print_closed<F: CleanedStore + Drop, W: Write>(
+fn print_closed<F: CleanedStore + Drop, W: Write>(
     alloc: Global,
     closed: &Closed<F>,
     writer: &mut W,

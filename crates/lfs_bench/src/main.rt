@@ -1,6 +1,9 @@
 //! Times calls of the file server over each store, and the frames of its cache, as what may grow grows; and calls of
 //! eight sessions on threads against those of one.
 //!
+//! Over a log what a call changes waits, and is written together with what other calls change. So `write-4k` and
+//! `write-small`, which overwrite the blocks of one file, hardly reach it or never; `write-sync` does with each Sync.
+//!
 //! What the calls were answered is counted on standard output. The times go to standard error, as the table that
 //! `docs/SPEED.md` keeps.
 #![tactic(auto)]

@@ -21,7 +21,7 @@ without_missing k (e ∷ es) none =
     ]
 
 -- a key that a list lacks has no block in it
-lacks_missing : (k : Key) (es : List (Key × List ℕ)) → Lacks k (keys_of es) → block_in k es ≡ None
+pub lacks_missing : (k : Key) (es : List (Key × List ℕ)) → Lacks k (keys_of es) → block_in k es ≡ None
 lacks_missing k [] lacks = refl
 lacks_missing k (e ∷ es) lacks = ap (λ b. cond b (Some e.1) (block_in k es)) lacks.0 ∙ lacks_missing k es lacks.1
 
@@ -50,7 +50,7 @@ lacks_left : (k : Key) (ds es : List (Key × List ℕ)) → Lacks k (keys_of (ds
 lacks_left k [] es lacks = tt
 lacks_left k (d ∷ ds) es lacks = (lacks.0, lacks_left k ds es lacks.1)
 
-apart_left : (ds es : List (Key × List ℕ)) → AreApart (keys_of (ds ++ es)) → AreApart (keys_of ds)
+pub apart_left : (ds es : List (Key × List ℕ)) → AreApart (keys_of (ds ++ es)) → AreApart (keys_of ds)
 apart_left [] es apart = tt
 apart_left (d ∷ ds) es apart = (lacks_left d.0 ds es apart.0, apart_left ds es apart.1)
 

@@ -74,6 +74,16 @@ module _ (l : FrameLists) (keys : List (Option Key)) (names : List Key) (capacit
       elim one_queue as (λ _. block_of k s ≡ Some b)
       [ inl some ↦ ap (λ o. or_else o (block_in k s.lru)) (found_locked some) | inr some ↦ ap (λ o. or_else o (block_in k s.lru)) (found_lru some).0 ∙ (found_lru some).1 ]
 
+  -- it is dirty just where its frame is in LOCKED
+  pub dirty_held : (q : Queue) → 0 < times f (listed q l) → q ≡ Locked → block_in k s.locked ≡ Some b
+  dirty_held q some is_locked = found_locked (subst (λ r. 0 < times f (listed r l)) is_locked some)
+
+  pub clean_held : (q : Queue) → 0 < times f (listed q l) → q ≢ Locked → block_in k s.locked ≡ None
+  clean_held Locked some ne = absurd (ne refl)
+  clean_held Lru some ne = (found_lru some).0
+  clean_held Age some ne = absurd (let none = not_free l keys f names k h.are is in omega arith)
+  clean_held Empty some ne = absurd (let none = not_free l keys f names k h.are is in omega arith)
+
   inner : AreHeld l keys f names
   inner = but_held l keys f names k h.are is
 

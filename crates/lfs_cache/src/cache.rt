@@ -135,6 +135,18 @@ impl Cache {
         Some(self.frames.bytes(number))
     }
 
+    /// The block of a key that is dirty, whose frame stays where it is. `None` where the key is clean or not held.
+    pub fn dirty(&self, key: Key) -> Option<&Block>
+        ensures value { option_copied result ≡ block_in key self.now.locked }
+        ensures formed { IsContents self.now }
+    {
+        let frame = self.index.find(key)?;
+        match self.frames.queue(frame) {
+            Queue::Locked => Some(self.frames.bytes(frame)),
+            Queue::Lru | Queue::Age | Queue::Empty => None,
+        }
+    }
+
     /// Takes a frame for a clean block whose key is not held.
     pub fn fill(&mut self, key: Key, block: &Block)
         requires { block_of key self.old ≡ None }

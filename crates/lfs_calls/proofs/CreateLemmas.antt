@@ -98,7 +98,7 @@ module _ {c : Content} {w : World} (shows : Shows c w) {path : List (List ℕ)} 
 
     -- the rows with the new one are a tree
     pub tree_after : IsTree (with_new numbers w caller path kind mode).rows
-    tree_after = subst (λ (x : World). IsTree x.rows) (sym world_is) (IsTree-grown w.rows tree number new_row d.row absent below is.free d.there row_kind refl)
+    tree_after = subst (λ (x : World). IsTree x.rows) (sym world_is) (IsTree-grown w.rows tree number new_row d.row absent below is.free d.there row_kind refl least.0)
 
     module _ {room : Room} {k : ℕ} (fits : IsRoom (bytes_of c dir.number) number (last path) room k) where
       room_size : length room.block ≡ 512

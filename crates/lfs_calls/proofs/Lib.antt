@@ -1,3 +1,4 @@
+pub mod ArrivalLemmas
 pub mod AskLemmas
 pub mod AttributeLemmas
 pub mod CallLemmas
@@ -11,6 +12,7 @@ pub mod GrownStore
 pub mod LastNames
 pub mod ListLemmas
 pub mod Listings
+pub mod ListingsSwapped
 pub mod ListingsTaken
 pub mod MakeLemmas
 pub mod MakeOutcomes
@@ -19,15 +21,20 @@ pub mod MovedBlocks
 pub mod MovedPlaces
 pub mod MovedStore
 pub mod PathLemmas
+pub mod PlacedBlocks
 pub mod ReadLemmas
 pub mod RemoveLemmas
 pub mod RenameEffects
 pub mod RenameLemmas
+pub mod RenameOutcomes
 pub mod RowLemmas
 pub mod ShrunkStore
 pub mod StateLemmas
 pub mod StepLemmas
+pub mod SwappedRows
+pub mod SwappedStore
 pub mod TakeLemmas
+pub mod ThereLemmas
 pub mod Visible
 pub mod WithBlock
 pub mod WriteLemmas

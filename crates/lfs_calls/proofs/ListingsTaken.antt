@@ -28,7 +28,7 @@ without-append name (e ∷ es) fs = ⊎_elim
     (cases_Bool (has_name name e))
 
 -- a name that is in entries isn't among those before them
-absent_before : (name : List ℕ) (es fs : List Entry) → AreEntries (es ++ fs) → IsSome (number_in name fs) → number_in name es ≡ None
+pub absent_before : (name : List ℕ) (es fs : List Entry) → AreEntries (es ++ fs) → IsSome (number_in name fs) → number_in name es ≡ None
 absent_before name [] fs a some = number_in-nil name
 absent_before name (e ∷ es) fs a some = ⊎_elim
     (λ t.
@@ -39,7 +39,7 @@ absent_before name (e ∷ es) fs a some = ⊎_elim
     (cases_Bool (has_name name e))
 
 -- nor among those behind them
-absent_after : (name : List ℕ) (es fs : List Entry) → AreEntries (es ++ fs) → IsSome (number_in name es) → number_in name fs ≡ None
+pub absent_after : (name : List ℕ) (es fs : List Entry) → AreEntries (es ++ fs) → IsSome (number_in name es) → number_in name fs ≡ None
 absent_after name [] fs a some =
     let none = number_in-nil name in
     let found = (there_of (number_in name []) some).is in
@@ -49,7 +49,7 @@ absent_after name (e ∷ es) fs a some = ⊎_elim
     (λ t. absent_after name es fs a.2 (subst IsSome (number_in-later name e es t) some))
     (cases_Bool (has_name name e))
 
-AreEntries-front : (es fs : List Entry) → AreEntries (es ++ fs) → AreEntries es
+pub AreEntries-front : (es fs : List Entry) → AreEntries (es ++ fs) → AreEntries es
 AreEntries-front [] fs a = tt
 AreEntries-front (e ∷ es) fs a = (a.0, (number_in-both e.1 es fs a.1).0, AreEntries-front es fs a.2)
 

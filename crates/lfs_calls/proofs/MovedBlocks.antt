@@ -1,23 +1,24 @@
 -- What a store is asked where two blocks of directories are written.
-use Rattle.std.proofs.Common.{◌≡◌, ℕ, ◌+◌, ◌%◌, ◌<◌, ◌≤◌, List, [], ◌∷◌, ◌++◌, length, take, drop, Some, sym, ap, subst, ◌∙◌, ⊎_elim, arith, length-append}
+use Rattle.std.proofs.Common.{◌≡◌, ℕ, ◌+◌, ◌%◌, ◌<◌, ◌≤◌, List, [], ◌∷◌, ◌++◌, length, take, drop, Option, None, Some, refl, sym, ap, subst, ◌∙◌, ⊎_elim, arith, length-append}
 use Rattle.std.proofs.lemmas.Bool.{cases_eq}
-use Rattle.std.specs.Prelude.{IsSomeAnd}
+use Rattle.std.specs.Prelude.{IsSome, IsSomeAnd}
 use Rattle.std.specs.Borrow.{Bor}
 use Rattle.std.proofs.lemmas.Slice.{drop-append-drop}
 use Rattle.std.specs.FinMap as map
-use Rattle.lfs_types.specs.Changes.{IsLength, CanApply}
+use Rattle.lfs_types.specs.Changes.{IsLength, CanApply, changed_at}
 use Rattle.lfs_types.specs.Splicing.{splice}
 use Rattle.lfs_types.specs.Stored.{bytes_of, bytes_of_file}
 use Rattle.lfs_types.specs.Tree.{File, Content}
 use Rattle.lfs_types.specs.declared.attrs.Kind.TheVariants.{Directory}
-use Rattle.lfs_types.specs.declared.store.Change.TheVariants.{Put}
+use Rattle.lfs_types.specs.declared.store.Change.TheVariants.{Put, Remove}
 use Rattle.lfs_calls.specs.declared.making.Room.{Room}
 use Rattle.lfs_calls.specs.Makes.{IsBlockOf}
-use Rattle.lfs_calls.specs.Renames.{block_put, WritesBlocks}
+use Rattle.lfs_calls.specs.Renames.{block_put, SwapsBlocks, WritesBlocks}
 use Rattle.lfs_calls.proofs.MakeLemmas.{grown_length}
 use Rattle.lfs_calls.proofs.MovedStore.{block_there, block_others}
+use Rattle.lfs_types.proofs.Maps.{get-insert_same, get-insert_other, get-remove_same, get-remove_other}
 use Rattle.lfs_types.proofs.Pieces.{put_over, splice-put_over, length-put_over, front_length, piece-before}
-use Rattle.lfs_types.proofs.Somewhere.{Some_and, some_and, is_some_and}
+use Rattle.lfs_types.proofs.Somewhere.{Some_and, some_and, is_some_and, present}
 
 -- ---- a block that is written over another
 
@@ -42,6 +43,21 @@ module _ (old : List ℕ) (off : ℕ) (a b : List ℕ) (within : off ≤ length 
 
 -- ---- the two blocks
 
+-- a file that is there still is after another was changed
+changed_kept : (c : Content) (d : ℕ) (o : Option File) (change : File → File) (n : ℕ) → IsSome (map.get c n) → IsSome (map.get (changed_at o d change c) n)
+changed_kept c d None change n some = some
+changed_kept c d (Some f) change n some = ⊎_elim
+    (λ e. present (ap (map.get (map.insert c d (change f))) e ∙ get-insert_same c d (change f)))
+    (λ apart. subst IsSome (sym (get-insert_other c d (change f) n apart)) some)
+    (cases_eq n d)
+
+-- contents that have the same files do so without one of them
+remove_alike : (a b : Content) (gone : ℕ) → ((q : ℕ) → map.get a q ≡ map.get b q) → (q : ℕ) → map.get (map.remove a gone) q ≡ map.get (map.remove b gone) q
+remove_alike a b gone same q = ⊎_elim
+    (λ e. ap (map.get (map.remove a gone)) e ∙ get-remove_same a gone ∙ sym (ap (map.get (map.remove b gone)) e ∙ get-remove_same b gone))
+    (λ apart. get-remove_other a gone q apart ∙ same q ∙ sym (get-remove_other b gone q apart))
+    (cases_eq q gone)
+
 module _ (c : Content) (p : ℕ) (taken : Room) (old : IsBlockOf c p taken) where
   abbrev f : Some_and (map.get c p) (λ f. (f.kind ≡ Directory) × (length f.bytes % 512 ≡ 0) × (length f.bytes ≤ 71680) × (taken.off ≤ length f.bytes))
   f = some_and (map.get c p) _ old.directory
@@ -64,6 +80,24 @@ module _ (c : Content) (p : ℕ) (taken : Room) (old : IsBlockOf c p taken) wher
         (λ apart. block_others c p f.value f.is f.holds.0 room q apart ∙ sym (block_others c p f.value f.is f.holds.0 taken q apart)
         ∙ sym (block_others (block_put p taken c) p (record f.value { bytes = splice f.value.bytes taken.off taken.block }) (block_there c p f.value f.is f.holds.0 taken) f.holds.0 room q apart))
         (cases_eq q p)
+
+    -- and so where a file is removed then
+    pub swaps_one : (new : Content) (gone : ℕ) → new ≡ map.remove (block_put p room c) gone → SwapsBlocks c new p taken p room gone
+    swaps_one new gone is q = ap (λ x. map.get x q) is
+        ∙ remove_alike (block_put p room c) (block_put p room (block_put p taken c)) gone (writes_one (block_put p room c) refl) q
+
+  -- a store may be asked for a block and a removal
+  pub can_put_one : (numbers : ℕ) (pointed : Bor (List ℕ)) → pointed.now ≡ taken.block → (gone : ℕ) → IsSome (map.get c gone) → CanApply numbers (Put p taken.off pointed ∷ Remove gone ∷ []) c
+  can_put_one numbers pointed e gone used = record {
+    few = omega arith;
+    few_puts = omega arith;
+    few_lengths = omega arith;
+    few_bytes = omega (arith, ap (λ (bs : List ℕ). length bs) e, old.size);
+    each = (
+      is_some_and _ f.is (subst (λ bs. IsLength f.value.kind (length (splice f.value.bytes taken.off bs))) (sym e) long_block),
+      (changed_kept c p (map.get c p) _ gone used, tt),
+    );
+  }
 
   module _ (inside : taken.off + 512 ≤ length (bytes_of c p)) (q : ℕ) (room : Room) (new : IsBlockOf c q room) where
     abbrev h : Some_and (map.get c q) (λ f. (f.kind ≡ Directory) × (length f.bytes % 512 ≡ 0) × (length f.bytes ≤ 71680) × (room.off ≤ length f.bytes))
@@ -117,3 +151,16 @@ module _ (c : Content) (p : ℕ) (taken : Room) (old : IsBlockOf c p taken) wher
         ),
       );
     }
+
+    -- and for a removal behind them
+    pub can_swap_blocks : (numbers : ℕ) (first second : Bor (List ℕ)) → first.now ≡ taken.block → second.now ≡ room.block → (gone : ℕ) → IsSome (map.get c gone)
+        → CanApply numbers (Put p taken.off first ∷ Put q room.off second ∷ Remove gone ∷ []) c
+    can_swap_blocks numbers first second e1 e2 gone used =
+        let two = can_put_blocks numbers first second e1 e2 in
+        record {
+          few = omega arith;
+          few_puts = omega arith;
+          few_lengths = omega arith;
+          few_bytes = two.few_bytes;
+          each = (two.each.0, (two.each.1.0, (changed_kept _ q _ _ gone (changed_kept c p (map.get c p) _ gone used), tt)));
+        }

@@ -1,5 +1,5 @@
 -- The blocks in which a moved row's names are looked for.
-use Rattle.std.proofs.Common.{◌≡◌, ◌≢◌, ℕ, ◌+◌, ◌*◌, ◌/◌, ◌<◌, ◌==◌, List, [], ◌∷◌, length, take, drop, Option, None, Some, sym, ap, subst, ◌∙◌, ⊎_elim, arith}
+use Rattle.std.proofs.Common.{◌≡◌, ◌≢◌, ℕ, ◌+◌, ◌*◌, ◌/◌, ◌^◌, ◌<◌, ◌==◌, List, [], ◌∷◌, length, take, drop, Option, None, Some, sym, ap, subst, ◌∙◌, ⊎_elim, arith}
 use Rattle.std.specs.Prelude.{IsSomeAnd}
 use Rattle.std.specs.Bool.{then_some}
 use Rattle.std.specs.Borrow.{Bor}
@@ -20,18 +20,18 @@ use Rattle.lfs_model.specs.World.{child, IsChild, IsTree}
 use Rattle.lfs_calls.specs.Content.{Shows, IsListing, FitsNowhere, block_at, left_of, listed}
 use Rattle.lfs_calls.specs.Makes.{IsRoom, StandsIn, with_block}
 use Rattle.lfs_calls.specs.Removes.{IsTaking}
-use Rattle.lfs_calls.specs.Renames.{GoesTo, block_put, name_left}
-use Rattle.lfs_model.proofs.Children.{child-is}
+use Rattle.lfs_calls.specs.Renames.{Leaves, block_put, name_left}
+use Rattle.lfs_model.proofs.Children.{child-answer, child-is}
 use Rattle.lfs_calls.proofs.Directories.{dir_file, file_kind, file_bytes, bytes_length, bytes_listing}
 use Rattle.lfs_calls.proofs.Listings.{absent_in_block}
 use Rattle.lfs_model.proofs.MovedRows.{free_still}
 use Rattle.lfs_calls.proofs.MovedStore.{block_there, block_others, taken_listed}
-use Rattle.lfs_model.proofs.Shrunk.{child-removed}
+use Rattle.lfs_model.proofs.Shrunk.{child-removed, hangs_still, unique-shrunk}
 use Rattle.lfs_types.proofs.Somewhere.{Some_and, some_and, is_some_and}
 use Rattle.lfs_calls.proofs.StepLemmas.{ShownFile}
 use Rattle.lfs_calls.proofs.WithBlock.{stood-here, stood-other, length-stood}
 
-module _ {c : Content} {w : World} (shows : Shows c w) (tree : IsTree w.rows) {move : Move} {old new : List ℕ} (goes : GoesTo c w.rows move old new) where
+module _ {c : Content} {w : World} (shows : Shows c w) (tree : IsTree w.rows) {move : Move} {old : List ℕ} (goes : Leaves c w.rows move old) where
   abbrev p : ℕ
   p = move.removal.dir.number
 
@@ -65,8 +65,16 @@ module _ {c : Content} {w : World} (shows : Shows c w) (tree : IsTree w.rows) {m
   old_is_listed = old_listing.names old ∙ goes.hangs.hangs
 
   -- the row's number is that of an entry
+  is_entry : IsEntry (n, old)
+  is_entry = All-contains IsEntry (listed old_bytes) (n, old) (AreEntries-each (listed old_bytes) old_listing.distinct) (Contains-number_in old n (listed old_bytes) old_is_listed)
+
+  -- it isn't 0
   pub above : 0 < n
-  above = (All-contains IsEntry (listed old_bytes) (n, old) (AreEntries-each (listed old_bytes) old_listing.distinct) (Contains-number_in old n (listed old_bytes) old_is_listed)).above
+  above = is_entry.above
+
+  -- and fits an entry
+  pub small : n < 2 ^ 32
+  small = is_entry.fits
 
   module _ {taken : Room} {k : ℕ} (taking : IsTaking old_bytes old taken k) where
     -- the content with the old entry taken away
@@ -130,8 +138,13 @@ module _ {c : Content} {w : World} (shows : Shows c w) (tree : IsTree w.rows) {m
     seen_through now same o b is chosen = ap (λ x. with_block (bytes_of x q) o) same ∙ ap (with_block new_bytes) chosen ∙ seen_is b is
 
     -- the new name isn't among the listed ones
-    pub seen_free : number_in new (listed seen) ≡ None
-    seen_free = seen_listing.names new ∙ free_still w.rows n (record hung.row { parent = q; name = new }) hung.below tree.unique goes.free
+    pub seen_free : (new : List ℕ) → child w.rows q new ≡ None → number_in new (listed seen) ≡ None
+    seen_free new free = seen_listing.names new ∙ free_still w.rows n (record hung.row { parent = q; name = new }) hung.below tree.unique free
+
+    -- that of another row is
+    pub seen_there : (new : List ℕ) (m : ℕ) → child w.rows q new ≡ Some m → m ≢ n → number_in new (listed seen) ≡ Some m
+    seen_there new m is apart = seen_listing.names new
+        ∙ child-answer _ (unique-shrunk w.rows n tree.unique) q new (Some m) (hangs_still w.rows n q new m apart (child-is w.rows q new m is))
 
     -- they are as many as before
     pub seen_length : length seen ≡ length new_bytes
@@ -167,7 +180,7 @@ module _ {c : Content} {w : World} (shows : Shows c w) (tree : IsTree w.rows) {m
         (cases_Bool (p == q))
 
     -- where the new name fits nowhere in what is seen, it fits nowhere without the old one
-    pub nowhere : FitsNowhere seen None new → FitsNowhere new_bytes (name_left move old) new
+    pub nowhere : {new : List ℕ} → FitsNowhere seen None new → FitsNowhere new_bytes (name_left move old) new
     nowhere full =
         let whole : length new_bytes ≡ 71680 = sym seen_length ∙ full.whole in
         record {
@@ -179,8 +192,8 @@ module _ {c : Content} {w : World} (shows : Shows c w) (tree : IsTree w.rows) {m
         }
 
     -- where there is room for it, the directory isn't full
-    pub somewhere : {room : Room} {j : ℕ} → IsRoom seen n new room j → FitsNowhere new_bytes (name_left move old) new → ⊥
-    somewhere {room} {j} fits full =
+    pub somewhere : {new : List ℕ} {room : Room} {j : ℕ} → IsRoom seen n new room j → FitsNowhere new_bytes (name_left move old) new → ⊥
+    somewhere {new} {room} {j} fits full =
         let below = fits.fits in
         let left = ap used_of (entries_left j (omega (arith, full.whole))) in
         let over = full.full j below in

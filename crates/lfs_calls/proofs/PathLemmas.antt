@@ -14,7 +14,7 @@ use Rattle.lfs_types.specs.declared.request.Request.TheVariants.{Stat, Read, Wri
 use Rattle.lfs_types.specs.declared.rule.Denial.{Denial}
 use Rattle.lfs_model.specs.Rules.{Check, first_failing, judged, attrs_at, reached, reaching, stat_tests, read_tests, list_tests, write_tests, length_tests, chmod_tests, chown_tests, chflags_tests, rule_table, decide}
 use Rattle.lfs_model.proofs.Deciding.{walk_denied, judged_all, judged_none}
-use Rattle.lfs_calls.specs.declared.halt.Halt.TheVariants.{Denied}
+use Rattle.lfs_calls.specs.declared.not_served.NotServed.TheVariants.{Denied}
 use Rattle.lfs_calls.specs.declared.walking.Reached.{Reached}
 use Rattle.lfs_calls.specs.Calls.{IsCallAt}
 use Rattle.lfs_calls.specs.Content.{visible}

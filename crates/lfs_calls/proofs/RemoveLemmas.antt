@@ -20,7 +20,7 @@ use Rattle.lfs_model.proofs.WalkLemmas.{stepped-directory, stepped-child, walked
 
 -- those behind the walk
 abbrev own_tests : Rows → Caller → List (List ℕ) → List Check
-own_tests rows caller names = removing_tests caller (attrs_at rows (reached rows root (front names))) (attrs_at rows (reached rows root names)) (length (front names))
+own_tests rows caller names = removing_tests caller 0 (attrs_at rows (reached rows root (front names))) (attrs_at rows (reached rows root names)) (length (front names))
 
 to_walk : (rows : Rows) (caller : Caller) (names : List (List ℕ)) → 0 < length names
     → first_failing (removing rows caller names) ≡ after_walk (walked rows caller 0 0 root names) (first_failing (own_tests rows caller names))
@@ -56,7 +56,7 @@ module _ {c : Content} {w : World} {caller : Caller} {names parents : List (List
 
   -- the tests of the step to the name decide, or those behind it
   to_step : (at : ℕ) → at ≡ length parents → (r : Result ℕ Denial) → r ≡ stepped w.rows caller 0 at d name
-      → failing ≡ after_walk r (first_failing (removing_tests caller (attrs_at w.rows d) (attrs_at w.rows (reached w.rows root names)) at))
+      → failing ≡ after_walk r (first_failing (removing_tests caller 0 (attrs_at w.rows d) (attrs_at w.rows (reached w.rows root names)) at))
   to_step at same r is =
       let tests = own_tests w.rows caller names in
       let count = way.count in
@@ -68,8 +68,8 @@ module _ {c : Content} {w : World} {caller : Caller} {names parents : List (List
       ∙ ap (λ x. and_then x (λ n. stepped w.rows caller 0 (0 + length parents) n name)) way.leads
       ∙ ap (λ k. stepped w.rows caller 0 k d name) seat
       ∙ sym is)
-      ∙ ap (λ m. after_walk r (first_failing (removing_tests caller (attrs_at w.rows m) (attrs_at w.rows (reached w.rows root names)) (length (front names))))) (make_object way)
-      ∙ ap (λ k. after_walk r (first_failing (removing_tests caller (attrs_at w.rows d) (attrs_at w.rows (reached w.rows root names)) k))) (ap (λ (ys : List (List ℕ)). length ys) front_is ∙ sym same)
+      ∙ ap (λ m. after_walk r (first_failing (removing_tests caller 0 (attrs_at w.rows m) (attrs_at w.rows (reached w.rows root names)) (length (front names))))) (make_object way)
+      ∙ ap (λ k. after_walk r (first_failing (removing_tests caller 0 (attrs_at w.rows d) (attrs_at w.rows (reached w.rows root names)) k))) (ap (λ (ys : List (List ℕ)). length ys) front_is ∙ sym same)
 
   module _ (at : ℕ) (same : at ≡ length parents) where
     -- where the step to the name is denied, the call is
@@ -84,12 +84,12 @@ module _ {c : Content} {w : World} {caller : Caller} {names parents : List (List
       row_is = ap (reached w.rows root) way.names_are ∙ reached-last w.rows root parents name ∙ ap (λ m. next w.rows m name) parent_is ∙ ap (λ o. unwrap_or o 0) hangs
 
       -- where it is taken, the tests of the directory and of the row decide
-      pub remove_decided : failing ≡ first_failing (removing_tests caller a b at)
+      pub remove_decided : failing ≡ first_failing (removing_tests caller 0 a b at)
       remove_decided =
           to_step at same (Ok n) steps
-          ∙ ap (λ m. first_failing (removing_tests caller (attrs_at w.rows d) (attrs_at w.rows m) at)) row_is
-          ∙ ap (λ x. first_failing (removing_tests caller x (attrs_at w.rows n) at)) (attrs_reads c w way.shows d a way.shown)
-          ∙ ap (λ x. first_failing (removing_tests caller a x at)) (attrs_reads c w way.shows n b shown)
+          ∙ ap (λ m. first_failing (removing_tests caller 0 (attrs_at w.rows d) (attrs_at w.rows m) at)) row_is
+          ∙ ap (λ x. first_failing (removing_tests caller 0 x (attrs_at w.rows n) at)) (attrs_reads c w way.shows d a way.shown)
+          ∙ ap (λ x. first_failing (removing_tests caller 0 a x at)) (attrs_reads c w way.shows n b shown)
 
       -- the row and its directory
       pub removal_is : IsRemoval c w.rows names (record { dir = record { number = d; attrs = a }; file = record { number = n; attrs = b } })

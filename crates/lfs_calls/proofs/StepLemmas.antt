@@ -17,7 +17,7 @@ use Rattle.lfs_dirs.specs.Directory.{number_in}
 use Rattle.lfs_rules.specs.Grants.{grants_of}
 use Rattle.lfs_model.specs.World.{child, file_at, IsTree}
 use Rattle.lfs_model.specs.Rules.{is_directory_row, judged, row_grants, attrs_at}
-use Rattle.lfs_judgments.specs.Parts.{searching_tests}
+use Rattle.lfs_model.specs.Rules.{searching_tests}
 use Rattle.lfs_calls.specs.Content.{visible, Shows, listed}
 use Rattle.lfs_model.specs.Walks.{stepped, walked}
 use Rattle.lfs_calls.proofs.Visible.{Stored, shown_of, stored_of}

@@ -16,8 +16,8 @@ use Rattle.lfs_types.specs.declared.request.Request.TheVariants.{Stat, Read, Lis
 use Rattle.lfs_types.specs.declared.store.StoreRefusal.{StoreRefusal}
 use Rattle.lfs_types.specs.declared.store.StoreRefusal.TheVariants.{NoSpace, NoMemory}
 use Rattle.lfs_model.specs.Steps.{after_answer}
-use Rattle.lfs_calls.specs.declared.halt.Halt.{Halt}
-use Rattle.lfs_calls.specs.declared.halt.Halt.TheVariants.{Denied, Refused}
+use Rattle.lfs_calls.specs.declared.not_served.NotServed.{NotServed}
+use Rattle.lfs_calls.specs.declared.not_served.NotServed.TheVariants.{Denied, Refused}
 use Rattle.lfs_calls.specs.Outcomes.{IsOutcome}
 use Rattle.lfs_calls.specs.Volumes.{InWorld, IsVolume}
 
@@ -27,7 +27,7 @@ resource_of NoSpace = resources.NoSpace
 resource_of NoMemory = resources.NoMemory
 
 -- the answer to a call that came to this
-abbrev pub answered : Result Served Halt → Answer
+abbrev pub answered : Result Served NotServed → Answer
 answered (Ok shown) = answers.Served shown
 answered (Err (Denied denial)) = answers.Denied denial
 answered (Err (Refused resource)) = answers.Refused resource
@@ -50,7 +50,7 @@ LooksOn request old new = Unit {0}
 
 -- A caller made a call of a store at this securelevel, and it came to this: the answer has its cause, the store shows
 -- the world that the answer leaves, a call that halts, looks or lists changes nothing, and no more segments are clean.
-pub record IsCallAt (level : Level) (old new : StoreState) (caller : Caller) (request : Request) (result : Result Served Halt) : Type 0 where
+pub record IsCallAt (level : Level) (old new : StoreState) (caller : Caller) (request : Request) (result : Result Served NotServed) : Type 0 where
   pub outcome : InWorld old (λ w. w.level ≡ level → IsOutcome old w caller request (answered result))
   pub leaves : InWorld old (λ w. IsVolume new (after_answer old.shape.numbers w caller request (answered result)))
   pub halted : OnErr result (new.content ≡ old.content)
@@ -59,5 +59,5 @@ pub record IsCallAt (level : Level) (old new : StoreState) (caller : Caller) (re
   pub follows : Follows old new
 
 -- so at any securelevel
-abbrev pub IsCall : StoreState → StoreState → Caller → Request → Result Served Halt → Type 0
+abbrev pub IsCall : StoreState → StoreState → Caller → Request → Result Served NotServed → Type 0
 IsCall old new caller request result = (level : Level) → IsCallAt level old new caller request result

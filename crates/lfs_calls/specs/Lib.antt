@@ -1,3 +1,4 @@
+pub mod Arrivals
 pub mod Attributes
 pub mod Calls
 pub mod Content

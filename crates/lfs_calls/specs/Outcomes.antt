@@ -9,7 +9,7 @@ use Rattle.lfs_types.specs.declared.answer.Answer.TheVariants.{Served, Denied, R
 use Rattle.lfs_types.specs.declared.answer.Resource.TheVariants.{NoMemory, NoSpace, NoInodes, DirectoryFull, JournalFull}
 use Rattle.lfs_types.specs.declared.request.Request.{Request}
 use Rattle.lfs_types.specs.declared.request.Request.TheVariants.{Create, Mkdir, Rename}
-use Rattle.lfs_model.specs.World.{Rows}
+use Rattle.lfs_model.specs.World.{Rows, child}
 use Rattle.lfs_model.specs.Rules.{decide, front, last, reached}
 use Rattle.lfs_calls.specs.Content.{FitsNowhere}
 use Rattle.lfs_model.specs.Steps.{IsAnswer, LacksInodes}
@@ -20,12 +20,14 @@ abbrev pub taken_from : Rows → List (List ℕ) → List (List ℕ) → Option 
 taken_from rows from to =
     if reached rows root (front from) == reached rows root (front to) then Some (last from) else None
 
--- the call wants a new name that fits in no block of its directory, which has all the blocks that it may have; a
--- Rename's old name is taken away before
+-- the call wants a new name that fits in no block of its directory, which has all the blocks that it may have; a Rename
+-- only one that isn't there, once its old name is taken away
 abbrev pub FillsDirectory : Content → World → Request → Type 0
 FillsDirectory c w (Create path mode) = FitsNowhere (bytes_of c (reached w.rows root (front path))) None (last path)
 FillsDirectory c w (Mkdir path mode) = FitsNowhere (bytes_of c (reached w.rows root (front path))) None (last path)
-FillsDirectory c w (Rename from to) = FitsNowhere (bytes_of c (reached w.rows root (front to))) (taken_from w.rows from to) (last to)
+FillsDirectory c w (Rename from to) =
+    (child w.rows (reached w.rows root (front to)) (last to) ≡ None)
+    × FitsNowhere (bytes_of c (reached w.rows root (front to))) (taken_from w.rows from to) (last to)
 FillsDirectory c w request = ⊥
 
 -- A call may be answered so over a store in this state that shows this world: by a step of the volume, NoSpace only

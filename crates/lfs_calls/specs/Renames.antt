@@ -1,23 +1,59 @@
 -- What judging and making a Rename come to, over a store.
-use Rattle.std.specs.Prelude.{◌≡◌, ◌==◌, ℕ, true, List, Option, None, Some, if◌then◌else◌}
+use Rattle.std.specs.Prelude.{◌≡◌, Ok, ◌≢◌, ◌==◌, ◌*◌, ◌/◌, ◌<◌, ℕ, Bool, true, false, List, length, IfErr, IfSome, IsSome, OnErr, OnOk, Option, Result, ◌≤◌, None, Some, if◌then◌else◌}
 use Rattle.std.specs.FinMap as map
+use Rattle.lfs_types.specs.declared.block.TheConstants.{BLOCK_SIZE}
 use Rattle.lfs_types.specs.Changes.{changed_at}
 use Rattle.lfs_types.specs.Kinds.{is_directory_kind}
 use Rattle.lfs_types.specs.Splicing.{splice}
 use Rattle.lfs_types.specs.Stored.{shown_attrs, bytes_of}
-use Rattle.lfs_types.specs.Tree.{Content, root}
+use Rattle.lfs_types.specs.Caller.{Caller}
+use Rattle.lfs_types.specs.Tree.{World, Content, root}
+use Rattle.lfs_dirs.specs.Directory.{IsDirectoryBlock, number_in, renumbered}
+use Rattle.lfs_dirs.specs.Reading.{entries_of}
+use Rattle.lfs_calls.specs.Content.{AreBlocks, FitsNowhere, HasBlocks, block_at, listed}
 use Rattle.lfs_calls.specs.declared.making.Room.{Room}
 use Rattle.lfs_calls.specs.declared.renaming.Move.{Move}
 use Rattle.lfs_calls.specs.declared.renaming.Places.{Places}
+use Rattle.lfs_calls.specs.declared.renaming.Target.{Target}
+use Rattle.lfs_calls.specs.declared.renaming.Target.TheVariants as targets
 use Rattle.lfs_model.specs.World.{Rows, child}
-use Rattle.lfs_model.specs.Rules.{front, last, reached}
-use Rattle.lfs_calls.specs.Makes.{IsParent, IsRoom, ListsFirst}
+use Rattle.lfs_types.specs.declared.answer.Served.{Served}
+use Rattle.lfs_types.specs.declared.answer.Served.TheVariants.{Done}
+use Rattle.lfs_types.specs.declared.request.Request.TheVariants.{Rename}
+use Rattle.lfs_model.specs.Rules.{decide, front, last, reached}
+use Rattle.lfs_calls.specs.Arrivals.{IsArrival}
+use Rattle.lfs_calls.specs.Makes.{IsRoom, ListsFirst, StandsIn, with_block}
+use Rattle.std.specs.Borrow.{Bor}
+use Rattle.lfs_types.specs.StoreStates.{Follows, StoreState}
+use Rattle.lfs_types.specs.Stored.{MayRefuse}
+use Rattle.lfs_types.specs.declared.answer.Resource.TheVariants as resources
+use Rattle.lfs_types.specs.declared.limits.TheConstants.{FILE_BYTES}
+use Rattle.lfs_types.specs.declared.store.StoreRefusal.TheVariants.{NoSpace, NoMemory}
+use Rattle.lfs_calls.specs.declared.not_served.NotServed.{NotServed}
+use Rattle.lfs_calls.specs.declared.not_served.NotServed.TheVariants as reasons
 use Rattle.lfs_calls.specs.Removes.{IsRemoval, HangsAs, IsTaking}
+
+-- the number of what has a name
+abbrev pub target_number : ℕ → Target → Option ℕ
+target_number moved targets.Itself = Some moved
+target_number moved targets.Free = None
+target_number moved (targets.Taken there) = Some there.number
+
+-- the number that has the new name
+abbrev pub number_of : Move → Option ℕ
+number_of move = target_number move.removal.file.number move.target
+
+-- what has the new name is as the store shows it, and isn't the moved row where it is another
+abbrev pub IsTarget : Content → ℕ → Target → Type 0
+IsTarget c moved targets.Itself = Unit {0}
+IsTarget c moved targets.Free = Unit {0}
+IsTarget c moved (targets.Taken there) = (there.number ≢ moved) × (Some there.attrs ≡ shown_attrs c there.number)
 
 -- the row that a path leads to, and the directory that is to list it at another path, as the store shows them
 pub record IsMove (c : Content) (rows : Rows) (from to : List (List ℕ)) (move : Move) : Type 0 where
   pub removal : IsRemoval c rows from move.removal
-  pub parent : IsParent c rows to move.dir
+  pub arrival : IsArrival c rows to (record { dir = move.dir; there = number_of move })
+  pub target : IsTarget c move.removal.file.number move.target
 
 -- the content after a block of a directory was written
 abbrev pub block_put : ℕ → Room → Content → Content
@@ -27,12 +63,16 @@ block_put dir room c = changed_at (map.get c dir) dir (λ f. record f { bytes = 
 abbrev pub WritesBlocks : Content → Content → ℕ → Room → ℕ → Room → Type 0
 WritesBlocks old new first taken second room = (q : ℕ) → map.get new q ≡ map.get (block_put second room (block_put first taken old)) q
 
--- a row hangs in a directory under a name, and another name is free in a directory, or in the same
-pub record GoesTo (c : Content) (rows : Rows) (move : Move) (old new : List ℕ) : Type 0 where
+-- a row hangs in a directory under a name, and may go to a directory, or stay in the same
+pub record Leaves (c : Content) (rows : Rows) (move : Move) (old : List ℕ) : Type 0 where
   pub hangs : HangsAs c rows move.removal old
-  pub free : child rows move.dir.number new ≡ None
   pub shown : Some move.dir.attrs ≡ shown_attrs c move.dir.number
   pub directory : is_directory_kind move.dir.attrs.kind ≡ true
+
+-- and a name is free there
+pub record GoesTo (c : Content) (rows : Rows) (move : Move) (old new : List ℕ) : Type 0 where
+  pub leaves : Leaves c rows move old
+  pub free : child rows move.dir.number new ≡ None
 
 -- the name that is taken away from the directory of the new one, if it is there
 abbrev pub name_left : Move → List ℕ → Option (List ℕ)
@@ -51,3 +91,111 @@ pub record MovesFirst (old new : Content) (rows : Rows) (from to : List (List �
   pub lists : ListsFirst
       (bytes_of (block_put (reached rows root (front from)) taken old) (reached rows root (front to)))
       (bytes_of new (reached rows root (front to))) (last to)
+
+-- ---- a name that is there
+
+-- the block of a directory's bytes that lists a name, with another number for it
+pub record IsSwap (bytes : List ℕ) (name : List ℕ) (number : ℕ) (room : Room) (k : ℕ) : Type 0 where
+  pub off : room.off ≡ BLOCK_SIZE * k
+  pub within : k < length bytes / BLOCK_SIZE
+  pub listed : IsSome (number_in name (entries_of (block_at bytes k)))
+  pub block : IsDirectoryBlock room.block (entries_of room.block)
+  pub swaps : entries_of room.block ≡ renumbered name number (entries_of (block_at bytes k))
+
+-- a row hangs in a directory under a name, and another row under a name in the directory to which it goes
+pub record GoesOver (c : Content) (rows : Rows) (move : Move) (old new : List ℕ) (there : ℕ) : Type 0 where
+  pub leaves : Leaves c rows move old
+  pub taken : child rows move.dir.number new ≡ Some there
+  pub other : there ≢ move.removal.file.number
+
+-- the block that lists the old name, without it, and after that was written the block that lists the new one, with the
+-- moved row's number
+pub record AreSwapped (c : Content) (move : Move) (old new : List ℕ) (places : Places) : Type 0 where
+  pub taking : (k : ℕ) × IsTaking (bytes_of c move.removal.dir.number) old places.taken k
+  pub swap : (k : ℕ) × IsSwap (bytes_of (block_put move.removal.dir.number places.taken c) move.dir.number) new move.removal.file.number places.room k
+
+-- the content after such blocks were written and a file was removed
+abbrev pub SwapsBlocks : Content → Content → ℕ → Room → ℕ → Room → ℕ → Type 0
+SwapsBlocks old new first taken second room gone =
+    (q : ℕ) → map.get new q ≡ map.get (map.remove (block_put second room (block_put first taken old)) gone) q
+
+-- A Rename over another row: its old name was taken away, and the new one has its number in the entry's place.
+pub record SwapsInPlace (old new : Content) (rows : Rows) (from to : List (List ℕ)) : Type 0 where
+  pub taken : Room
+  pub takes : (k : ℕ) × IsTaking (bytes_of old (reached rows root (front from))) (last from) taken k
+  pub room : Room
+  pub swaps : (k : ℕ) × IsSwap (bytes_of (block_put (reached rows root (front from)) taken old) (reached rows root (front to)))
+      (last to) (reached rows root from) room k
+  pub written : bytes_of new (reached rows root (front to))
+      ≡ splice (bytes_of (block_put (reached rows root (front from)) taken old) (reached rows root (front to))) room.off room.block
+
+-- how a Rename onto a name that is there leaves them, by whether it is its own
+abbrev pub PlacesOver : Bool → Content → Content → Rows → List (List ℕ) → List (List ℕ) → Type 0
+PlacesOver true old new rows from to = new ≡ old
+PlacesOver false old new rows from to = SwapsInPlace old new rows from to
+
+-- how a Rename leaves the entries, by what has the new name
+abbrev pub PlacesName : Content → Content → Rows → List (List ℕ) → List (List ℕ) → Option ℕ → Type 0
+PlacesName old new rows from to None = MovesFirst old new rows from to
+PlacesName old new rows from to (Some m) = PlacesOver (m == reached rows root from) old new rows from to
+
+-- a directory of this size, in one of whose blocks another may be read, lists a name, which may get this number
+pub record CanSwap (c : Content) (dir size : ℕ) (taken : Option (Bor Room)) (name : List ℕ) (number : ℕ) : Type 0 where
+  pub stored : HasBlocks c dir size
+  pub bounded : size ≤ FILE_BYTES
+  pub stands : IfSome taken (λ room. StandsIn (bytes_of c dir) room.now)
+  pub blocks : AreBlocks (with_block (bytes_of c dir) taken)
+  pub above : 0 < number
+  pub listed : IsSome (number_in name (listed (with_block (bytes_of c dir) taken)))
+
+-- why a row isn't put in a place: there is no room for its name, or the store refuses the changes
+abbrev pub IsCauseOf : StoreState → Type 0 → NotServed → Type 0
+IsCauseOf old full (reasons.Denied denial) = ⊥
+IsCauseOf old full (reasons.Refused resources.DirectoryFull) = full
+IsCauseOf old full (reasons.Refused resources.NoSpace) = MayRefuse old.clean old.shape.can_lack_memory NoSpace × (full → ⊥)
+IsCauseOf old full (reasons.Refused resources.NoMemory) = MayRefuse old.clean old.shape.can_lack_memory NoMemory × (full → ⊥)
+IsCauseOf old full (reasons.Refused resource) = ⊥
+
+-- a row was put in a place, so that P holds of the content, or nothing changed, which has its cause
+pub record PutsRow (old : StoreState) (full : Type 0) (P : Content → Type 0) (result : Result (Unit {0}) NotServed) (after : StoreState) : Type 0 where
+  pub ok : OnOk result (P after.content)
+  pub err : OnErr result (after.content ≡ old.content)
+  pub refused : IfErr result (IsCauseOf old full)
+  pub follows : Follows old after
+
+-- the new name fits nowhere in the directory to which a row goes, once the old one is taken away
+abbrev pub HasNoRoom : Content → Move → List ℕ → List ℕ → Type 0
+HasNoRoom c move name new = FitsNowhere (bytes_of c move.dir.number) (name_left move name) new
+
+-- the blocks were written that put a row in a place that is free
+abbrev pub MovesTo : Content → Content → Move → List ℕ → List ℕ → Type 0
+MovesTo old after move name new =
+    (places : Places) × (ArePlaces old move name new places
+    × WritesBlocks old after move.removal.dir.number places.taken move.dir.number places.room)
+
+-- or in that of another row, which was removed
+abbrev pub MovesOver : Content → Content → Move → List ℕ → List ℕ → ℕ → Type 0
+MovesOver old after move name new there =
+    (places : Places) × (AreSwapped old move name new places
+    × SwapsBlocks old after move.removal.dir.number places.taken move.dir.number places.room there)
+
+-- a row goes to a place: that which it has, a free one, or that of another row
+abbrev pub GoesWith : Content → Rows → Move → List ℕ → List ℕ → Target → Type 0
+GoesWith c rows move old new targets.Itself = Unit {0}
+GoesWith c rows move old new targets.Free = GoesTo c rows move old new
+GoesWith c rows move old new (targets.Taken there) = GoesOver c rows move old new there.number
+
+-- a row was put in its place, or not: nothing changes where it has it already
+abbrev pub PlacesRow : StoreState → Move → List ℕ → List ℕ → Target → Result (Unit {0}) NotServed → StoreState → Type 0
+PlacesRow old move name new targets.Itself result after = (result ≡ Ok tt) × (after ≡ old)
+PlacesRow old move name new targets.Free result after =
+    PutsRow old (HasNoRoom old.content move name new) (λ c. MovesTo old.content c move name new) result after
+PlacesRow old move name new (targets.Taken there) result after =
+    PutsRow old ⊥ (λ c. MovesOver old.content c move name new there.number) result after
+
+-- a Rename to the name that the row has is served where the rules allow it, and leaves all as it was
+abbrev pub StaysInPlace : StoreState → StoreState → World → Caller → List (List ℕ) → List (List ℕ) → Result Served NotServed → Type 0
+StaysInPlace old new w caller from to result =
+    child w.rows (reached w.rows root (front to)) (last to) ≡ Some (reached w.rows root from)
+    → decide w caller (Rename from to) ≡ None
+    → (result ≡ Ok Done) × (new ≡ old)

@@ -6,9 +6,9 @@ ghost use Rattle.lfs_calls.specs.Attributes.{SetsAttrs};
 ghost use Rattle.lfs_calls.specs.Calls.{ChangesTo, IsCall, IsCallAt};
 ghost use Rattle.lfs_calls.specs.Volumes.{HasWorld};
 
-use crate::halt::Halt;
+use crate::not_served::NotServed;
 use crate::walking::{Reached, depth, find};
-use lfs_judgments::attributes::{may_chflags, may_chmod, may_chown, mode_after};
+use lfs_checks::attributes::{may_chflags, may_chmod, may_chown, mode_after};
 use lfs_types::answer::Served;
 use lfs_types::attrs::Attrs;
 use lfs_types::cred::Cred;
@@ -25,7 +25,7 @@ pub fn chmod<F: FileStore>(
     cred: &Cred,
     path: &Path,
     mode: Mode,
-) -> Result<Served, Halt>
+) -> Result<Served, NotServed>
     requires { HasWorld (F.state store.old) }
     ensures { IsCall (F.state store.old) (F.state store.new) cred.now (Request.Chmod path.now mode)
         result }
@@ -43,7 +43,7 @@ pub fn chown<F: FileStore>(
     path: &Path,
     uid: u32,
     gid: u32,
-) -> Result<Served, Halt>
+) -> Result<Served, NotServed>
     requires { HasWorld (F.state store.old) }
     ensures { IsCall (F.state store.old) (F.state store.new) cred.now
         (Request.Chown path.now uid gid)
@@ -69,7 +69,7 @@ pub fn chflags<F: FileStore>(
     path: &Path,
     level: Level,
     flags: FileFlags,
-) -> Result<Served, Halt>
+) -> Result<Served, NotServed>
     requires { HasWorld (F.state store.old) }
     ensures { IsCallAt level (F.state store.old) (F.state store.new) cred.now
         (Request.Chflags path.now flags) result }

@@ -9,10 +9,10 @@ ghost use Rattle.lfs_calls.specs.Calls.{ChangesTo, IsCall};
 ghost use Rattle.lfs_calls.specs.Volumes.{HasWorld};
 ghost use Rattle.lfs_calls.specs.Writes.{ChangesBytes};
 
-use crate::halt::Halt;
+use crate::not_served::NotServed;
 use crate::walking::{Reached, depth, find};
-use lfs_judgments::attributes::mode_after;
-use lfs_judgments::bytes::may_set_length;
+use lfs_checks::attributes::mode_after;
+use lfs_checks::bytes::may_set_length;
 use lfs_types::answer::Served;
 use lfs_types::attrs::Attrs;
 use lfs_types::cred::Cred;
@@ -26,7 +26,7 @@ pub fn set_length<F: FileStore>(
     cred: &Cred,
     path: &Path,
     len: u64,
-) -> Result<Served, Halt>
+) -> Result<Served, NotServed>
     requires { HasWorld (F.state store.old) }
     ensures { IsCall (F.state store.old) (F.state store.new) cred.now
         (Request.SetLength path.now len)

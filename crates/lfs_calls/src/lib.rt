@@ -1,12 +1,13 @@
 //! Each user's call over any file store answers as the rules say, and changes the store as the call changes the tree.
 #![tactic(auto)]
 
+mod arriving;
 pub mod attributes;
 pub mod cutting;
 mod directory;
-pub mod halt;
 pub mod listing;
 pub mod making;
+pub mod not_served;
 pub mod reading;
 pub mod removing;
 pub mod renaming;

@@ -13,10 +13,10 @@ ghost use Rattle.lfs_calls.specs.Content.{AreBlocks, HasBlocks, listed};
 ghost use Rattle.lfs_calls.specs.Volumes.{HasWorld};
 
 use crate::directory::read_block;
-use crate::halt::Halt;
+use crate::not_served::NotServed;
 use crate::walking::{depth, find};
+use lfs_checks::names::may_list;
 use lfs_dirs::entries;
-use lfs_judgments::names::may_list;
 use lfs_types::answer::{Resource, Served};
 use lfs_types::block::{BLOCK_SIZE, Block};
 use lfs_types::cred::Cred;
@@ -33,7 +33,7 @@ pub fn list<F: FileStore>(
     store: &mut F,
     cred: &Cred,
     path: &Path,
-) -> Result<Served, Halt>
+) -> Result<Served, NotServed>
     requires { HasWorld (F.state store.old) }
     ensures call { IsCall (F.state store.old) (F.state store.new) cred.now (Request.List path.now)
         result }
@@ -43,7 +43,7 @@ pub fn list<F: FileStore>(
     may_list(&dir.attrs, cred, depth(path))?;
     match names_of_directory(alloc, store, dir.number, dir.attrs.size) {
         Ok(names) => Ok(Served::Names(Names::from(sorted(names)))),
-        Err(AllocError) => Err(Halt::Refused(Resource::NoMemory)),
+        Err(AllocError) => Err(NotServed::Refused(Resource::NoMemory)),
     }
 }
 

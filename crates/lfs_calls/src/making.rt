@@ -16,11 +16,11 @@ ghost use Rattle.lfs_calls.specs.Content.{FitsNowhere};
 ghost use Rattle.lfs_calls.specs.Makes.{CanEnter, CanMake, EntersFirst, IsParent, request_for, IsRoom, StandsIn, with_block, MakesFile};
 
 use crate::directory::{look_up, read_block};
-use crate::halt::Halt;
+use crate::not_served::NotServed;
 use crate::walking::{Reached, component, denial, last_name, reach};
+use lfs_checks::asking::ask;
+use lfs_checks::names::{may_enter, may_search};
 use lfs_dirs::added;
-use lfs_judgments::asking::ask;
-use lfs_judgments::names::{may_enter, may_search};
 use lfs_types::answer::{Resource, Served};
 use lfs_types::attrs::{Attrs, Kind};
 use lfs_types::block::{BLOCK_SIZE, Block};
@@ -126,7 +126,12 @@ pub(crate) fn find_room<F: FileStore>(
 }
 
 /// The block of a directory that begins at byte `off`: that in `taken` if it begins there, else the stored one.
-fn seen_block<F: FileStore>(store: &mut F, dir: u32, off: u64, taken: Option<&Room>) -> Block
+pub(crate) fn seen_block<F: FileStore>(
+    store: &mut F,
+    dir: u32,
+    off: u64,
+    taken: Option<&Room>,
+) -> Block
     requires used { IsSome (get (F.state store.old).content dir) }
     requires aligned { off % BLOCK_SIZE ≡ 0 }
     requires within { off + BLOCK_SIZE ≤ length (bytes_of (F.state store.old).content dir) }
@@ -186,7 +191,7 @@ pub fn create<F: FileStore>(
     cred: &Cred,
     path: &Path,
     mode: Mode,
-) -> Result<Served, Halt>
+) -> Result<Served, NotServed>
     requires { HasWorld (F.state store.old) }
     ensures call { IsCall (F.state store.old) (F.state store.new) cred.now (Request.Create path.now mode)
         result }
@@ -202,7 +207,7 @@ pub fn mkdir<F: FileStore>(
     cred: &Cred,
     path: &Path,
     mode: Mode,
-) -> Result<Served, Halt>
+) -> Result<Served, NotServed>
     requires { HasWorld (F.state store.old) }
     ensures call { IsCall (F.state store.old) (F.state store.new) cred.now (Request.Mkdir path.now mode)
         result }
@@ -219,7 +224,7 @@ fn make<F: FileStore>(
     path: &Path,
     kind: Kind,
     mode: Mode,
-) -> Result<Served, Halt>
+) -> Result<Served, NotServed>
     requires { HasWorld (F.state store.old) }
     ensures call { IsCall (F.state store.old) (F.state store.new) cred.now (request_for kind path.now mode)
         result }
@@ -231,10 +236,10 @@ fn make<F: FileStore>(
     let name = last_name(names);
     prove!(name.as_bytes().len() <= NAME_MAX);
     let Some(number) = store.least_free() else {
-        return Err(Halt::Refused(Resource::NoInodes));
+        return Err(NotServed::Refused(Resource::NoInodes));
     };
     let Some(room) = find_room(store, dir.number, dir.attrs.size, None, name, number) else {
-        return Err(Halt::Refused(Resource::DirectoryFull));
+        return Err(NotServed::Refused(Resource::DirectoryFull));
     };
     let attrs = Attrs {
         kind,

@@ -6,10 +6,10 @@ ghost use Rattle.lfs_types.specs.Stored.{bytes_of, slice_of};
 ghost use Rattle.lfs_calls.specs.Calls.{IsCall};
 ghost use Rattle.lfs_calls.specs.Volumes.{HasWorld};
 
-use crate::halt::Halt;
+use crate::not_served::NotServed;
 use crate::walking::{depth, find};
-use lfs_judgments::attributes::shown_size;
-use lfs_judgments::bytes::may_read;
+use lfs_checks::attributes::shown_size;
+use lfs_checks::bytes::may_read;
 use lfs_types::answer::{Resource, Served};
 use lfs_types::attrs::Attrs;
 use lfs_types::cred::Cred;
@@ -21,7 +21,7 @@ use lfs_types::store::FileStore;
 use std::alloc::Global;
 
 /// The number and the attributes of a file.
-pub fn stat<F: FileStore>(store: &mut F, cred: &Cred, path: &Path) -> Result<Served, Halt>
+pub fn stat<F: FileStore>(store: &mut F, cred: &Cred, path: &Path) -> Result<Served, NotServed>
     requires { HasWorld (F.state store.old) }
     ensures call { IsCall (F.state store.old) (F.state store.new) cred.now (Request.Stat path.now)
         result }
@@ -40,7 +40,7 @@ pub fn read<F: FileStore>(
     path: &Path,
     off: u64,
     len: u32,
-) -> Result<Served, Halt>
+) -> Result<Served, NotServed>
     requires { HasWorld (F.state store.old) }
     ensures call { IsCall (F.state store.old) (F.state store.new) cred.now
         (Request.Read path.now off len)
@@ -52,7 +52,7 @@ pub fn read<F: FileStore>(
     let count = (len as usize).min(TRANSFER_BYTES);
     match read_bytes(alloc, store, file.number, off, file.attrs.size, count) {
         Some(bytes) => Ok(Served::Bytes(Bytes::from(bytes))),
-        None => Err(Halt::Refused(Resource::NoMemory)),
+        None => Err(NotServed::Refused(Resource::NoMemory)),
     }
 }
 

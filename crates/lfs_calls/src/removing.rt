@@ -12,12 +12,12 @@ ghost use Rattle.lfs_calls.specs.Content.{HasBlocks, listed};
 ghost use Rattle.lfs_calls.specs.Removes.{HangsAs, IsRemovable, IsRemoval, IsTaking, ListsName, TakesRow};
 
 use crate::directory::read_block;
-use crate::halt::Halt;
 use crate::making::Room;
+use crate::not_served::NotServed;
 use crate::walking::{Reached, component, denial, last_name, reach, step};
+use lfs_checks::asking::ask;
+use lfs_checks::names::{may_remove, may_unlink};
 use lfs_dirs::{entries, find, removed};
-use lfs_judgments::asking::ask;
-use lfs_judgments::names::{may_remove, may_unlink};
 use lfs_types::answer::Served;
 use lfs_types::block::BLOCK_SIZE;
 use lfs_types::cred::Cred;
@@ -57,7 +57,7 @@ pub(crate) fn judge_remove<F: FileStore>(
     let Some(attrs) = store.attrs(number) else {
         unreachable!()
     };
-    may_remove(&dir.attrs, &attrs, cred, at)?;
+    may_remove(&dir.attrs, &attrs, cred, 0, at)?;
     let file = Reached { number, attrs };
     Ok(Removal { dir, file })
 }
@@ -103,7 +103,7 @@ fn take_row<F: FileStore>(store: &mut F, removal: &Removal, name: &Name) -> Resu
 }
 
 /// Removes a file.
-pub fn unlink<F: FileStore>(store: &mut F, cred: &Cred, path: &Path) -> Result<Served, Halt>
+pub fn unlink<F: FileStore>(store: &mut F, cred: &Cred, path: &Path) -> Result<Served, NotServed>
     requires { HasWorld (F.state store.old) }
     ensures { IsCall (F.state store.old) (F.state store.new) cred.now (Request.Unlink path.now)
         result }
@@ -129,7 +129,7 @@ fn judge_unlink<F: FileStore>(store: &mut F, cred: &Cred, names: &[Name]) -> Res
 }
 
 /// Removes an empty directory.
-pub fn rmdir<F: FileStore>(store: &mut F, cred: &Cred, path: &Path) -> Result<Served, Halt>
+pub fn rmdir<F: FileStore>(store: &mut F, cred: &Cred, path: &Path) -> Result<Served, NotServed>
     requires { HasWorld (F.state store.old) }
     ensures { IsCall (F.state store.old) (F.state store.new) cred.now (Request.Rmdir path.now)
         result }
@@ -169,7 +169,7 @@ fn may_rmdir<F: FileStore>(store: &mut F, row: &Reached, at: u32) -> Result<(), 
 }
 
 /// Whether a directory of this size lists no name.
-fn is_empty_directory<F: FileStore>(store: &mut F, dir: u32, size: u64) -> bool
+pub(crate) fn is_empty_directory<F: FileStore>(store: &mut F, dir: u32, size: u64) -> bool
     requires { HasBlocks (F.state store.old).content dir size }
     ensures empty { IsTrue result ↔ (listed (bytes_of (F.state store.old).content dir) ≡ []) }
     ensures state { F.state store.new ≡ F.state store.old }

@@ -1,26 +1,33 @@
 //! The call that gives a row another name.
 
-ghost use Rattle.std.specs.Prelude.{◌≡◌, ◌≤◌, ◌<◌, ◌+◌, ℕ, [], ◌∷◌, Some, None, true, false, length, Ok, IfErr, OnOk, MatchOption};
+ghost use Rattle.std.specs.Prelude.{◌≡◌, ◌≤◌, ◌<◌, ◌+◌, ℕ, [], ◌∷◌, Some, None, true, false, length, Ok, IfErr, IsSome, OnOk, MatchOption};
+ghost use Rattle.std.specs.FinMap.{get};
 ghost use Rattle.lfs_types.specs.declared.path.TheConstants.{PATH_MAX};
 ghost use Rattle.lfs_types.specs.declared.block.TheConstants.{BLOCK_SIZE};
 ghost use Rattle.lfs_types.specs.Stored.{bytes_of, shown_attrs};
 ghost use Rattle.lfs_types.specs.Tree.{World, root};
 ghost use Rattle.lfs_types.specs.declared.rule.Rule.TheVariants.{IsNotBeneathItself};
-ghost use Rattle.lfs_model.specs.Rules.{Judges, apart_test, first_failing, judged, making, position, rule_table, visited};
+ghost use Rattle.lfs_model.specs.Rules.{Judges, apart_test, arriving, first_failing, front, judged, last, moving_tests, position, reached, rule_table, visited};
 ghost use Rattle.lfs_calls.specs.Calls.{ChangesTo, IsCall};
 ghost use Rattle.lfs_calls.specs.Volumes.{HasWorld, InWorld, IsVolume};
 ghost use Rattle.lfs_calls.specs.Content.{FitsNowhere};
 ghost use Rattle.lfs_model.specs.Walks.{is_on_way};
-ghost use Rattle.lfs_calls.specs.Makes.{IsBlockOf};
-ghost use Rattle.lfs_calls.specs.Renames.{IsMove, GoesTo, MovesFirst, name_left, ArePlaces, WritesBlocks};
+ghost use Rattle.lfs_calls.specs.Makes.{IsBlockOf, with_block};
+ghost use Rattle.lfs_calls.specs.Renames.{ArePlaces, AreSwapped, CanSwap, GoesOver, GoesTo, GoesWith, HasNoRoom, IsMove, IsSwap, IsTarget, MovesOver, MovesTo, PlacesName, PlacesRow, PutsRow, StaysInPlace, SwapsBlocks, WritesBlocks, name_left, target_number};
 ghost use Rattle.lfs_model.specs.Walks.{walked};
+ghost use Rattle.lfs_model.specs.World.{child};
+ghost use Rattle.lfs_calls.specs.Arrivals.{IsArrival};
+ghost use Rattle.lfs_calls.specs.Removes.{IsRemoval};
 
-use crate::halt::Halt;
-use crate::making::{Room, find_room, judge_make};
+use crate::arriving::{Arrival, judge_arrival, judge_there};
+use crate::making::{Room, find_room, seen_block};
+use crate::not_served::NotServed;
 use crate::removing::{Removal, judge_remove, take_name};
 use crate::walking::{Reached, component, denial, last_name, parents_of, step};
-use lfs_judgments::names::may_move;
+use lfs_checks::names::may_move;
+use lfs_dirs::{find, replaced};
 use lfs_types::answer::{Resource, Served};
+use lfs_types::block::BLOCK_SIZE;
 use lfs_types::cred::Cred;
 use lfs_types::limits::ROOT_INODE;
 use lfs_types::name::{NAME_MAX, Name};
@@ -29,6 +36,17 @@ use lfs_types::request::Request;
 use lfs_types::rule::{Denial, Rule};
 use lfs_types::store::{Change, FileStore, StoreRefusal};
 
+/// What has the new name.
+#[derive(Clone, Copy)]
+enum Target {
+    /// The row that is to get it.
+    Itself,
+    /// Nothing.
+    Free,
+    /// A row that is to give way.
+    Taken(Reached),
+}
+
 /// A row that may get another name, and the directory that is to list it.
 #[derive(Clone, Copy)]
 struct Move {
@@ -36,6 +54,8 @@ struct Move {
     removal: Removal,
     /// The directory of the new name.
     dir: Reached,
+    /// What has that name.
+    target: Target,
 }
 
 /// The blocks that a Rename writes.
@@ -63,11 +83,51 @@ fn judge_rename<F: FileStore>(
     ensures state { F.state store.new ≡ F.state store.old }
 {
     let removal = judge_remove(store, cred, from)?;
-    let dir = judge_make(store, cred, 1, to)?;
+    let arrival = judge_arrival(store, cred, to)?;
+    let target = judge_target(store, cred, from, to, &removal, &arrival)?;
+    Ok(Move {
+        removal,
+        dir: arrival.dir,
+        target,
+    })
+}
+
+/// What has the new name, or the first rule that fails of those behind the way to it.
+fn judge_target<F: FileStore>(
+    store: &mut F,
+    cred: &Cred,
+    from: &[Name],
+    to: &[Name],
+    removal: &Removal,
+    arrival: &Arrival,
+) -> Result<Target, Denial>
+    requires world { HasWorld (F.state store.old) }
+    requires short_from { length from.now ≤ PATH_MAX }
+    requires short_to { length to.now ≤ PATH_MAX }
+    requires removal { InWorld (F.state store.old)
+        (λ w. IsRemoval (F.state store.old).content w.rows from.now removal.now) }
+    requires arrival { InWorld (F.state store.old)
+        (λ w. IsArrival (F.state store.old).content w.rows to.now arrival.now) }
+    requires arrived { InWorld (F.state store.old)
+        (λ w. first_failing (arriving w.rows cred.now to.now) ≡ None) }
+    ensures judge { InWorld (F.state store.old) (λ w. Judges
+        (moving_tests w.rows cred.now from.now to.now arrival.now.there)
+        (λ target. (target_number removal.now.file.number target ≡ arrival.now.there)
+        × IsTarget (F.state store.old).content removal.now.file.number target) result) }
+    ensures state { F.state store.new ≡ F.state store.old }
+{
+    if arrival.there == Some(removal.file.number) {
+        return Ok(Target::Itself);
+    }
+    let at = component(parents_of(to));
+    let there = judge_there(store, cred, arrival, &removal.file, at)?;
     judge_apart(store, cred, to, &removal.file)?;
-    let stays = removal.dir.number == dir.number;
+    let stays = removal.dir.number == arrival.dir.number;
     may_move(&removal.file.attrs, cred, stays, component(from))?;
-    Ok(Move { removal, dir })
+    Ok(match there {
+        None => Target::Free,
+        Some(row) => Target::Taken(row),
+    })
 }
 
 /// Whether a row doesn't lie on the way to its new place, or the rule that fails.
@@ -82,7 +142,7 @@ fn judge_apart<F: FileStore>(
     requires some { 0 < length to.now }
     requires shown { Some file.now.attrs ≡ shown_attrs (F.state store.old).content file.now.number }
     requires made { InWorld (F.state store.old)
-        (λ w. first_failing (making w.rows cred.now 1 to.now) ≡ None) }
+        (λ w. first_failing (arriving w.rows cred.now to.now) ≡ None) }
     ensures apart { InWorld (F.state store.old)
         (λ w. result ≡ judged (apart_test w.rows file.now.number to.now ∷ [])) }
     ensures state { F.state store.new ≡ F.state store.old }
@@ -144,7 +204,7 @@ fn find_places<F: FileStore>(
         (ArePlaces (F.state store.old).content planned.now old.now new.now) }
     ensures state { F.state store.new ≡ F.state store.old }
 {
-    let Move { removal, dir } = *planned;
+    let Move { removal, dir, .. } = *planned;
     let taken = take_name(store, removal.dir.number, removal.dir.attrs.size, old);
     let seen = (removal.dir.number == dir.number).then_some(&taken);
     let room = find_room(
@@ -190,30 +250,180 @@ fn put_blocks<F: FileStore>(
     store.apply(&[take, put])
 }
 
-/// Gives a file or a directory another name that is not there, in the same directory or in another.
+/// The blocks that list a row under a name that another row has, and no more under the old one.
+fn find_swap<F: FileStore>(
+    store: &mut F,
+    planned: &Move,
+    there: u32,
+    old: &Name,
+    new: &Name,
+) -> Places
+    requires goes { (w : World) × (IsVolume (F.state store.old) w
+        × GoesOver (F.state store.old).content w.rows planned.now old.now new.now there) }
+    ensures places { AreSwapped (F.state store.old).content planned.now old.now new.now result }
+    ensures state { F.state store.new ≡ F.state store.old }
+{
+    let Move { removal, dir, .. } = *planned;
+    let taken = take_name(store, removal.dir.number, removal.dir.attrs.size, old);
+    let read = (removal.dir.number == dir.number).then_some(&taken);
+    let room = swap_number(
+        store,
+        dir.number,
+        dir.attrs.size,
+        read,
+        new,
+        removal.file.number,
+    );
+    Places { taken, room }
+}
+
+/// The block of a directory that lists a name, with another number for it, and where it goes. The block `taken`, if there
+/// is one, is read in place of the stored one.
+fn swap_number<F: FileStore>(
+    store: &mut F,
+    dir: u32,
+    size: u64,
+    taken: Option<&Room>,
+    name: &Name,
+    number: u32,
+) -> Room
+    requires { CanSwap (F.state store.old).content dir size taken name.now number }
+    ensures room { (k : ℕ) × IsSwap
+        (with_block (bytes_of (F.state store.old).content dir) taken.entry) name.now number result k }
+    ensures state { F.state store.new ≡ F.state store.old }
+{
+    let block_size = BLOCK_SIZE as u64;
+    for k in 0..size / block_size {
+        let off = block_size * k;
+        let block = seen_block(store, dir, off, taken);
+        if find(&block, name).is_some() {
+            let block = replaced(&block, name, number);
+            return Room { off, block };
+        }
+    }
+    unreachable!()
+}
+
+/// Writes two blocks of directories, one after the other, and removes a file; where both blocks stand at one place, the
+/// second alone is written.
+fn put_swapped<F: FileStore>(
+    store: &mut F,
+    old_dir: u32,
+    taken: &Room,
+    dir: u32,
+    room: &Room,
+    gone: u32,
+) -> Result<(), StoreRefusal>
+    requires old { IsBlockOf (F.state store.old).content old_dir taken.now }
+    requires old_within { taken.now.off + BLOCK_SIZE ≤ length
+        (bytes_of (F.state store.old).content old_dir) }
+    requires new { IsBlockOf (F.state store.old).content dir room.now }
+    requires used { IsSome (get (F.state store.old).content gone) }
+    ensures { ChangesTo (F.state store.old)
+        (λ after. SwapsBlocks (F.state store.old).content after old_dir taken.now dir room.now gone)
+        result (F.state store.new) }
+{
+    let put = Change::Put {
+        ino: dir,
+        off: room.off,
+        bytes: &room.block,
+    };
+    let remove = Change::Remove { ino: gone };
+    if old_dir == dir && taken.off == room.off {
+        return store.apply(&[put, remove]);
+    }
+    let take = Change::Put {
+        ino: old_dir,
+        off: taken.off,
+        bytes: &taken.block,
+    };
+    store.apply(&[take, put, remove])
+}
+
+/// Gives a file or a directory another name, in the same directory or in another. A file that has the name gives way to a
+/// file, an empty directory to a directory.
 pub fn rename<F: FileStore>(
     store: &mut F,
     cred: &Cred,
     from: &Path,
     to: &Path,
-) -> Result<Served, Halt>
+) -> Result<Served, NotServed>
     requires { HasWorld (F.state store.old) }
     ensures call { IsCall (F.state store.old) (F.state store.new) cred.now
         (Request.Rename from.now to.now)
         result }
     ensures place { OnOk result (InWorld (F.state store.old) (λ w.
-        MovesFirst (F.state store.old).content (F.state store.new).content w.rows from.now to.now)) }
+        PlacesName (F.state store.old).content (F.state store.new).content w.rows from.now to.now
+        (child w.rows (reached w.rows root (front to.now)) (last to.now)))) }
+    ensures stays { InWorld (F.state store.old) (λ w.
+        StaysInPlace (F.state store.old) (F.state store.new) w cred.now from.now to.now result) }
 {
     let (from, to) = (from.names(), to.names());
     let planned = judge_rename(store, cred, from, to)?;
     let old = last_name(from);
     let new = last_name(to);
     prove!(new.as_bytes().len() <= NAME_MAX);
-    let Some(places) = find_places(store, &planned, old, new) else {
-        return Err(Halt::Refused(Resource::DirectoryFull));
+    place_row(store, &planned, old, new)?;
+    Ok(Served::Done)
+}
+
+/// Puts a row in its new place, unless it has it already.
+fn place_row<F: FileStore>(
+    store: &mut F,
+    planned: &Move,
+    old: &Name,
+    new: &Name,
+) -> Result<(), NotServed>
+    requires goes { (w : World) × (IsVolume (F.state store.old) w
+        × GoesWith (F.state store.old).content w.rows planned.now old.now new.now planned.now.target) }
+    ensures { PlacesRow (F.state store.old) planned.now old.now new.now planned.now.target
+        result (F.state store.new) }
+{
+    match planned.target {
+        Target::Itself => Ok(()),
+        Target::Free => move_free(store, planned, old, new),
+        Target::Taken(there) => Ok(move_over(store, planned, there.number, old, new)?),
+    }
+}
+
+/// Puts a row in a place that is free.
+fn move_free<F: FileStore>(
+    store: &mut F,
+    planned: &Move,
+    old: &Name,
+    new: &Name,
+) -> Result<(), NotServed>
+    requires goes { (w : World) × (IsVolume (F.state store.old) w
+        × GoesTo (F.state store.old).content w.rows planned.now old.now new.now) }
+    ensures { PutsRow (F.state store.old)
+        (HasNoRoom (F.state store.old).content planned.now old.now new.now)
+        (λ after. MovesTo (F.state store.old).content after planned.now old.now new.now)
+        result (F.state store.new) }
+{
+    let Some(places) = find_places(store, planned, old, new) else {
+        return Err(NotServed::Refused(Resource::DirectoryFull));
     };
     let Places { taken, room } = places;
     let (old_dir, new_dir) = (planned.removal.dir.number, planned.dir.number);
     put_blocks(store, old_dir, &taken, new_dir, &room)?;
-    Ok(Served::Done)
+    Ok(())
+}
+
+/// Puts a row in the place of another, which is removed.
+fn move_over<F: FileStore>(
+    store: &mut F,
+    planned: &Move,
+    there: u32,
+    old: &Name,
+    new: &Name,
+) -> Result<(), StoreRefusal>
+    requires goes { (w : World) × (IsVolume (F.state store.old) w
+        × GoesOver (F.state store.old).content w.rows planned.now old.now new.now there) }
+    ensures { ChangesTo (F.state store.old)
+        (λ after. MovesOver (F.state store.old).content after planned.now old.now new.now there)
+        result (F.state store.new) }
+{
+    let Places { taken, room } = find_swap(store, planned, there, old, new);
+    let (old_dir, new_dir) = (planned.removal.dir.number, planned.dir.number);
+    put_swapped(store, old_dir, &taken, new_dir, &room, there)
 }

@@ -1,19 +1,20 @@
 //! The call that a request asks for.
 
+ghost use Rattle.std.specs.Prelude.{◌≡◌, OnOk};
 ghost use Rattle.lfs_types.specs.Caller.{Caller};
 ghost use Rattle.lfs_calls.specs.Calls.{IsCall, IsCallAt};
 ghost use Rattle.lfs_calls.specs.Volumes.{HasWorld};
 
 use crate::attributes::{chflags, chmod, chown};
 use crate::cutting::set_length;
-use crate::halt::Halt;
 use crate::listing::list;
 use crate::making::{create, mkdir};
+use crate::not_served::NotServed;
 use crate::reading::{read, stat};
 use crate::removing::{rmdir, unlink};
 use crate::renaming::rename;
 use crate::writing::write;
-use lfs_judgments::level::may_set_level;
+use lfs_checks::level::may_set_level;
 use lfs_types::answer::Served;
 use lfs_types::cred::Cred;
 use lfs_types::level::Level;
@@ -22,16 +23,18 @@ use lfs_types::store::FileStore;
 use std::alloc::Global;
 
 /// Makes the call that a request asks for over a store at this securelevel. Only a Read and a List take memory of
-/// their own.
+/// their own. Where a Sync is served, nothing waits in the store.
 pub fn serve<F: FileStore>(
     alloc: Global,
     store: &mut F,
     level: Level,
     cred: &Cred,
     request: &Request,
-) -> Result<Served, Halt>
+) -> Result<Served, NotServed>
     requires { HasWorld (F.state store.old) }
-    ensures { IsCallAt level (F.state store.old) (F.state store.new) cred.now request.now result }
+    ensures call { IsCallAt level (F.state store.old) (F.state store.new)
+        cred.now request.now result }
+    ensures synced { request.now ≡ Request.Sync → OnOk result (F.is_settled store.new) }
 {
     match request {
         Request::Stat { path } => stat(store, cred, path),
@@ -58,7 +61,7 @@ fn set_level<F: FileStore>(
     level: Level,
     cred: &Cred,
     new: Level,
-) -> Result<Served, Halt>
+) -> Result<Served, NotServed>
     ensures { IsCallAt level (F.state store.old) (F.state store.new) cred.now (Request.SetLevel new)
         result }
 {
@@ -67,9 +70,10 @@ fn set_level<F: FileStore>(
 }
 
 /// Has the store write what waits.
-fn sync<F: FileStore>(store: &mut F) -> Result<Served, Halt>
-    ensures { (caller : Caller) → IsCall (F.state store.old) (F.state store.new) caller Request.Sync
-        result }
+fn sync<F: FileStore>(store: &mut F) -> Result<Served, NotServed>
+    ensures call { (caller : Caller) → IsCall (F.state store.old) (F.state store.new) caller
+        Request.Sync result }
+    ensures synced { OnOk result (F.is_settled store.new) }
 {
     store.sync()?;
     Ok(Served::Done)

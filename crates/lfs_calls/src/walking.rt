@@ -10,7 +10,7 @@ ghost use Rattle.lfs_calls.specs.Reaches.{Reaches};
 ghost use Rattle.lfs_calls.specs.Volumes.{HasWorld, InWorld};
 
 use crate::directory::look_up;
-use lfs_judgments::names::may_search;
+use lfs_checks::names::may_search;
 use lfs_types::attrs::Attrs;
 use lfs_types::cred::Cred;
 use lfs_types::limits::ROOT_INODE;

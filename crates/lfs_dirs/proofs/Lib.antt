@@ -2,3 +2,4 @@ pub mod Front
 pub mod Adding
 pub mod Testing
 pub mod Removing
+mod Renumbering

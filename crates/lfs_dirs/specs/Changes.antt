@@ -1,10 +1,10 @@
--- What holds of lists of entries when one is added or taken away.
-use Rattle.std.proofs.Common.{◌≡◌, ◌≢◌, ℕ, zero, suc, ◌+◌, ◌<◌, ◌≤◌, Bool, true, false, not, List, [], ◌∷◌, ◌++◌, length, get_or, None, Some, refl, sym, ap, ◌∙◌, subst, ⊎_elim, arith}
-use Rattle.std.specs.Prelude.{All, AllPairs, Contains, filter, option_map}
+-- What holds of lists of entries when one is added, taken away or gets another number.
+use Rattle.std.proofs.Common.{◌≡◌, ◌≢◌, ℕ, zero, suc, ◌+◌, ◌^◌, ◌<◌, ◌≤◌, Bool, true, false, not, List, [], ◌∷◌, ◌++◌, length, get_or, None, Some, refl, sym, ap, ◌∙◌, subst, ⊎_elim, arith}
+use Rattle.std.specs.Prelude.{All, AllPairs, Contains, IsSome, bytes_eq, filter, option_map}
 use Rattle.std.proofs.lemmas.Bool.{cond-true, cond-false, cases_Bool, false_from_ne_true, both_ways}
 use Rattle.std.proofs.lemmas.List.Elements.{All-nil, All-cons}
 use Rattle.std.proofs.lemmas.Slice.Eq.{bytes_eq-Decides}
-use Rattle.lfs_dirs.specs.Directory.{Entry, used_of, has_name, number_in, without, IsEntry, AreEntries}
+use Rattle.lfs_dirs.specs.Directory.{Entry, used_of, has_name, number_in, renumbered, with_number, without, IsEntry, AreEntries}
 
 -- ---- a look-up
 
@@ -126,7 +126,107 @@ number_in-without_other name other (e ∷ es) h =
     (λ t. ap (number_in other) (without-later name e es t) ∙ number_in-after other e (without name es) es rest)
     (cases_Bool (has_name name e))
 
+-- ---- a name's entry gets another number
+
+pub renumbered-nil : (name : List ℕ) (number : ℕ) → renumbered name number [] ≡ []
+unfolding renumbered
+renumbered-nil name number = refl
+
+pub renumbered-cons : (name : List ℕ) (number : ℕ) (e : Entry) (es : List Entry) → renumbered name number (e ∷ es) ≡ with_number name number e ∷ renumbered name number es
+unfolding renumbered
+renumbered-cons name number e es = refl
+
+-- it keeps its name
+pub with_number-name : (name : List ℕ) (number : ℕ) (e : Entry) → (with_number name number e).1 ≡ e.1
+with_number-name name number e = ⊎_elim
+    (λ t. ap (λ (f : Entry). f.1) (cond-true (has_name name e) (number, e.1) e t))
+    (λ t. ap (λ (f : Entry). f.1) (cond-false (has_name name e) (number, e.1) e t))
+    (cases_Bool (has_name name e))
+
+pub has_name-renumbered : (name other : List ℕ) (number : ℕ) (e : Entry) → has_name other (with_number name number e) ≡ has_name other e
+has_name-renumbered name other number e = ap (λ bs. bytes_eq bs other) (with_number-name name number e)
+
+-- nothing else is found otherwise
+pub number_in-renumbered_other : (name other : List ℕ) (number : ℕ) (es : List Entry) → name ≢ other → number_in other (renumbered name number es) ≡ number_in other es
+number_in-renumbered_other name other number [] h = ap (number_in other) (renumbered-nil name number)
+number_in-renumbered_other name other number (e ∷ es) h =
+    let rest = number_in-renumbered_other name other number es h in
+    ap (number_in other) (renumbered-cons name number e es) ∙
+    ⊎_elim
+    (λ t.
+    let unlike : has_name name e ≡ false = has_name-other name e (λ same. h (sym same ∙ has_name-true other e t)) in
+    let kept : with_number name number e ≡ e = cond-false (has_name name e) (number, e.1) e unlike in
+    ap (λ f. number_in other (f ∷ renumbered name number es)) kept
+    ∙ number_in-here other e (renumbered name number es) t ∙ sym (number_in-here other e es t))
+    (λ t.
+    number_in-later other (with_number name number e) (renumbered name number es) (has_name-renumbered name other number e ∙ t)
+    ∙ rest ∙ sym (number_in-later other e es t))
+    (cases_Bool (has_name other e))
+
+-- the name is found with its other number, if it was found
+pub number_in-renumbered : (name : List ℕ) (number : ℕ) (es : List Entry) → IsSome (number_in name es) → number_in name (renumbered name number es) ≡ Some number
+number_in-renumbered name number [] h = let none = subst IsSome (number_in-nil name) h in absurd (cc)
+number_in-renumbered name number (e ∷ es) h =
+    ap (number_in name) (renumbered-cons name number e es) ∙
+    ⊎_elim
+    (λ t.
+    let given : with_number name number e ≡ (number, e.1) = cond-true (has_name name e) (number, e.1) e t in
+    number_in-here name (with_number name number e) (renumbered name number es) (has_name-renumbered name name number e ∙ t)
+    ∙ ap (λ (f : Entry). Some f.0) given)
+    (λ t.
+    number_in-later name (with_number name number e) (renumbered name number es) (has_name-renumbered name name number e ∙ t)
+    ∙ number_in-renumbered name number es (subst IsSome (number_in-later name e es t) h))
+    (cases_Bool (has_name name e))
+
+-- and isn't, if it wasn't
+pub number_in-renumbered_none : (name other : List ℕ) (number : ℕ) (es : List Entry) → number_in other es ≡ None → number_in other (renumbered name number es) ≡ None
+number_in-renumbered_none name other number [] h = ap (number_in other) (renumbered-nil name number) ∙ h
+number_in-renumbered_none name other number (e ∷ es) h =
+    let none = number_in-none other e es h in
+    ap (number_in other) (renumbered-cons name number e es)
+    ∙ number_in-later other (with_number name number e) (renumbered name number es) (has_name-renumbered name other number e ∙ none.0)
+    ∙ number_in-renumbered_none name other number es none.1
+
+-- entries take the room that they took
+pub used_of-renumbered : (name : List ℕ) (number : ℕ) (es : List Entry) → used_of (renumbered name number es) ≡ used_of es
+used_of-renumbered name number [] = ap used_of (renumbered-nil name number)
+used_of-renumbered name number (e ∷ es) =
+    let rest = used_of-renumbered name number es in
+    let first = ap used_of (renumbered-cons name number e es) in
+    let long = ap (λ (bs : List ℕ). length bs) (with_number-name name number e) in
+    omega (arith, rest, first, long)
+
+pub renumbered-append : (name : List ℕ) (number : ℕ) (es fs : List Entry) → renumbered name number (es ++ fs) ≡ renumbered name number es ++ renumbered name number fs
+renumbered-append name number [] fs = ap (λ gs. gs ++ renumbered name number fs) (sym (renumbered-nil name number))
+renumbered-append name number (e ∷ es) fs =
+    renumbered-cons name number e (es ++ fs) ∙ ap (λ gs. with_number name number e ∷ gs) (renumbered-append name number es fs)
+    ∙ ap (λ gs. gs ++ renumbered name number fs) (sym (renumbered-cons name number e es))
+
+-- where the name isn't, nothing changes
+pub renumbered-absent : (name : List ℕ) (number : ℕ) (es : List Entry) → number_in name es ≡ None → renumbered name number es ≡ es
+renumbered-absent name number [] h = renumbered-nil name number
+renumbered-absent name number (e ∷ es) h =
+    let none = number_in-none name e es h in
+    renumbered-cons name number e es
+    ∙ ap (λ f. f ∷ renumbered name number es) (cond-false (has_name name e) (number, e.1) e none.0)
+    ∙ ap (λ gs. e ∷ gs) (renumbered-absent name number es none.1)
+
 -- ---- entries stay entries
+
+with_number-entry : (name : List ℕ) (number : ℕ) (e : Entry) → 0 < number → number < 2 ^ 32 → IsEntry e → IsEntry (with_number name number e)
+with_number-entry name number e above fits h = ⊎_elim
+    (λ t. subst IsEntry (sym (cond-true (has_name name e) (number, e.1) e t)) (record { above = above; fits = fits; named = h.named }))
+    (λ t. subst IsEntry (sym (cond-false (has_name name e) (number, e.1) e t)) h)
+    (cases_Bool (has_name name e))
+
+pub AreEntries-renumbered : (name : List ℕ) (number : ℕ) (es : List Entry) → 0 < number → number < 2 ^ 32 → AreEntries es → AreEntries (renumbered name number es)
+AreEntries-renumbered name number [] above fits a = subst AreEntries (sym (renumbered-nil name number)) tt
+AreEntries-renumbered name number (e ∷ es) above fits a =
+    subst AreEntries (sym (renumbered-cons name number e es)) (
+      with_number-entry name number e above fits a.0,
+      subst (λ bs. number_in bs (renumbered name number es) ≡ None) (sym (with_number-name name number e)) (number_in-renumbered_none name e.1 number es a.1),
+      AreEntries-renumbered name number es above fits a.2,
+    )
 
 pub AreEntries-added : (es : List Entry) (e : Entry) → AreEntries es → IsEntry e → number_in e.1 es ≡ None → AreEntries (es ++ e ∷ [])
 AreEntries-added [] e a h none = (h, number_in-nil e.1, tt)

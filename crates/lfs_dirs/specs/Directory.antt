@@ -1,5 +1,5 @@
 -- Directory blocks: the grammar, as a relation between bytes and the entries that they spell.
-use Rattle.std.specs.Prelude.{◌≡◌, ℕ, ◌+◌, ◌^◌, ◌<◌, Bool, not, List, [], ◌∷◌, ◌++◌, length, replicate, filter, find, Option, None, option_map, bytes_eq, ⊤}
+use Rattle.std.specs.Prelude.{◌≡◌, ℕ, ◌+◌, ◌^◌, ◌<◌, Bool, not, List, [], ◌∷◌, ◌++◌, length, map, replicate, filter, find, Option, None, option_map, bytes_eq, if◌then◌else◌, ⊤}
 use Rattle.std.specs.Int.{w32, to_be_bytes}
 use Rattle.lfs_types.specs.Naming.{name_fault}
 
@@ -27,6 +27,14 @@ number_in name es = option_map (λ (e : Entry). e.0) (find (has_name name) es)
 -- the entries without those of this name, in order
 unfoldable pub without : List ℕ → List Entry → List Entry
 without name es = filter (λ e. not (has_name name e)) es
+
+-- an entry with another number, where it has this name
+abbrev pub with_number : List ℕ → ℕ → Entry → Entry
+with_number name number e = if has_name name e then (number, e.1) else e
+
+-- the entries, with another number for this name
+unfoldable pub renumbered : List ℕ → ℕ → List Entry → List Entry
+renumbered name number es = map (with_number name number) es
 
 -- an entry has a number from 1 to the largest of four bytes, and a name
 pub record IsEntry (e : Entry) : Type 0 where

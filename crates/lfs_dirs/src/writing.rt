@@ -1,7 +1,7 @@
-//! Blocks with an entry more or less.
+//! Blocks with an entry more or less, or with another number.
 
 ghost use Rattle.std.specs.Prelude.{◌≡◌, ◌+◌, ◌<◌, ◌≤◌, ◌++◌, ◌∷◌, ◌↔◌, [], None, drop, length, IfSome, IsSome};
-ghost use Rattle.lfs_dirs.specs.Directory.{IsDirectoryBlock, IsEntry, entry_bytes, number_in, used_of, without};
+ghost use Rattle.lfs_dirs.specs.Directory.{IsDirectoryBlock, IsEntry, entry_bytes, number_in, renumbered, used_of, with_number, without};
 ghost use Rattle.lfs_dirs.specs.Reading.{entries_of};
 
 use crate::reading::{HEAD_SIZE, are_zeros, entries};
@@ -49,6 +49,31 @@ pub fn removed(block: &Block, name: &Name) -> Block
         }
     }
     shorter
+}
+
+/// The block with another number in the entry of this name.
+pub fn replaced(block: &Block, name: &Name, number: u32) -> Block
+    requires directory { IsDirectoryBlock block.now (entries_of block.now) }
+    requires listed { IsSome (number_in name.now (entries_of block.now)) }
+    requires above { 0 < number }
+    ensures block { IsDirectoryBlock result (renumbered name.now number (entries_of block.now)) }
+    ensures listed { entries_of result ≡ renumbered name.now number (entries_of block.now) }
+{
+    let wanted = name.as_bytes();
+    let mut other = [0; BLOCK_SIZE];
+    let mut end = 0;
+    for (old, name) in entries(block) {
+        let given = number_for(name, wanted, old, number);
+        end = push_entry(&mut other, end, given, name);
+    }
+    other
+}
+
+/// The number of an entry of this name, where the entry of the name wanted gets another.
+fn number_for(name: &[u8], wanted: &[u8], old: u32, number: u32) -> u32
+    ensures { result ≡ (with_number wanted.now number (old, name.now)).0 }
+{
+    if name == wanted { number } else { old }
 }
 
 /// How many bytes the entries of a directory block take.

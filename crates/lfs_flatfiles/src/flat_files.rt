@@ -205,8 +205,11 @@ impl FlatFiles {
 }
 
 impl FileStore for FlatFiles {
+    ghost use Rattle.std.specs.Prelude.{⊤};
     ghost use Rattle.std.specs.Vec.{vec_len};
     ghost use Rattle.lfs_flatfiles.specs.FlatFiles.{state_of};
+
+    ghost is_settled = { λ _. ⊤ };
 
     ghost state = { λ store. state_of (vec_len store.places) store.places.items };
 

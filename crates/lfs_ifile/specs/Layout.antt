@@ -3,7 +3,6 @@ use Rattle.std.specs.Prelude.{◌≡◌, ℕ, ◌+◌, ◌*◌, ◌<◌, List, [
 use Rattle.std.specs.Int.{w32, from_be_bytes}
 use Rattle.std.specs.List.{flat_map, zip}
 use Rattle.byteorder.specs.Endian.{big_bytes}
-use Rattle.lfs_ifile.specs.declared.reading.TheConstants.{MAGIC}
 use Rattle.lfs_ifile.specs.declared.segment.SegState.{SegState}
 use Rattle.lfs_ifile.specs.declared.segment.SegUse.{SegUse}
 use Rattle.lfs_ifile.specs.declared.inode.InodeRow.{InodeRow}
@@ -19,7 +18,7 @@ u16_bytes number = big_bytes 2 number
 
 -- `LFIF`, the number of segments, the number of inode numbers
 abbrev pub header_bytes : ℕ → ℕ → List ℕ
-header_bytes segments inodes = u32_bytes MAGIC ++ u32_bytes segments ++ u32_bytes inodes
+header_bytes segments inodes = u32_bytes 0x4c46_4946 ++ u32_bytes segments ++ u32_bytes inodes
 
 -- a segment's live bytes and its state
 abbrev pub segment_bytes : ℕ × SegState → List ℕ
@@ -41,7 +40,7 @@ number_at bytes place =
 
 -- the first four bytes are `LFIF`, and the length is that of the header's two numbers
 pub record IsLaidOut (bytes : List ℕ) : Type 0 where
-  pub magic : number_at bytes 0 ≡ MAGIC
+  pub magic : number_at bytes 0 ≡ 0x4c46_4946
   pub size : length bytes ≡ 12 + 8 * number_at bytes 4 + 12 * number_at bytes 8
 
 -- the bytes are laid out as an ifile with such a segment, and say so of its use

@@ -6,6 +6,7 @@
 mod inode;
 mod reading;
 mod segment;
+pub mod sizes;
 mod tables;
 mod writing;
 

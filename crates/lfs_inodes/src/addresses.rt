@@ -1,10 +1,10 @@
 //! Where an inode's blocks lie.
 
-ghost use Rattle.std.specs.Prelude.{◌≡◌, ◌<◌, ◌≤◌, ◌-◌, ◌*◌, ◌==◌, ℕ, List, length, if◌then◌else◌, nat_lt, slice_index, slice_set};
+ghost use Rattle.std.specs.Prelude.{◌≡◌, ◌<◌, ◌≤◌, ◌-◌, ◌==◌, ℕ, List, length, if◌then◌else◌, nat_lt, slice_index, slice_set};
 ghost use Rattle.lfs_types.specs.Blocks.{zero_block};
 ghost use Rattle.lfs_inodes.specs.Bytes.{AreBytes};
 ghost use Rattle.lfs_inodes.specs.Facts.{IsSingle, block_count};
-ghost use Rattle.lfs_inodes.specs.Addresses.{addresses, cells, address_of, zeroed_from};
+ghost use Rattle.lfs_inodes.specs.Addresses.{addresses, cells, address_of};
 ghost use Rattle.lfs_inodes.specs.Attributes.{attributes};
 
 use crate::bytes::{put_u32, u32_at};
@@ -48,13 +48,6 @@ pub fn with_address(inode: &Inode, indirect: &Block, n: u32, address: u32) -> (I
     } else {
         (*inode, with_entry(indirect, n - DIRECT_COUNT, address))
     }
-}
-
-/// The address of the indirect block, which stands behind those of blocks 0 to 11; 0 is none.
-pub fn single_address(inode: &Inode) -> u32
-    ensures { result ≡ slice_index (addresses inode.now) DIRECT_COUNT }
-{
-    inode.single
 }
 
 impl Inode {
@@ -104,17 +97,5 @@ pub fn with_entry(block: &Block, i: usize, address: u32) -> Block
 {
     let mut changed = *block;
     put_u32(&mut changed, 4 * i, address);
-    changed
-}
-
-/// The indirect block with no address from place `i` on, 0 to 128.
-pub fn cleared_from(block: &Block, i: usize) -> Block
-    requires { i ≤ 128 }
-    ensures bytes { result ≡ zeroed_from (4 * i) block.now }
-    ensures cells { cells result ≡ zeroed_from i (cells block.now) }
-    ensures all { i ≡ 0 → result ≡ zero_block }
-{
-    let mut changed = *block;
-    changed[4 * i..].fill(0);
     changed
 }

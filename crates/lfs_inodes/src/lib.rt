@@ -8,4 +8,5 @@ mod fields;
 pub mod inode;
 pub mod record;
 pub mod size;
+pub mod sizes;
 pub mod slots;

@@ -16,12 +16,12 @@ use Rattle.lfs_segments.proofs.LogLemmas.{entry_at-in, next_entry}
 use Rattle.lfs_segments.proofs.MemoryLemmas.{log_start-le}
 use Rattle.lfs_segments.proofs.NamesLemmas.{names_from-contains, names_from-named}
 use Rattle.lfs_types.specs.declared.cleaner.BlockInfo.{BlockInfo}
-use Rattle.lfs_ways.specs.Blocks.{code_of, logical_of}
-use Rattle.lfs_ways.specs.declared.blocks.FileBlock.{FileBlock}
-use Rattle.lfs_ways.specs.declared.blocks.FileBlock.TheVariants.{Record, Single, Data}
-use Rattle.lfs_ways.specs.Counting.{seg_of}
-use Rattle.lfs_ways.specs.Log.{Owner}
-use Rattle.lfs_ways.specs.Owners.{owner_at, owner_in}
+use Rattle.lfs_bmap.specs.Blocks.{code_of, logical_of}
+use Rattle.lfs_bmap.specs.declared.blocks.FileBlock.{FileBlock}
+use Rattle.lfs_bmap.specs.declared.blocks.FileBlock.TheVariants.{Record, Single, Data}
+use Rattle.lfs_bmap.specs.Counting.{seg_of}
+use Rattle.lfs_bmap.specs.Log.{Owner}
+use Rattle.lfs_bmap.specs.Owners.{owner_at, owner_in}
 use Rattle.lfs_log.specs.Infos.{HasInfo, IsNamed, block_infos, entry_infos, info_of, infos_of, slot_info}
 use Rattle.lfs_log.specs.Names.{named_at, record_in, record_key}
 use Rattle.lfs_log.proofs.NameLemmas.{named_at-entry}

@@ -6,9 +6,9 @@ use Rattle.lfs_ifile.specs.declared.segment.SegState.TheVariants.{Clean, Dirty}
 use Rattle.lfs_ifile.specs.Inode.{placed_row}
 use Rattle.lfs_ifile.specs.Tables.{IsIfile, KeepsButLive, Tables, row_of, with_state}
 use Rattle.lfs_segments.specs.Memory.{SegmentMemory, next_address}
-use Rattle.lfs_ways.specs.Log.{Assigns, clean_unit}
-use Rattle.lfs_ways.specs.Counting.{place_of, placed, units, weight_of}
-use Rattle.lfs_ways.proofs.CountingLemmas.{weight-elsewhere, weight-here, weight-none}
+use Rattle.lfs_bmap.specs.Log.{Assigns, clean_unit}
+use Rattle.lfs_bmap.specs.Counting.{place_of, placed, units, weight_of}
+use Rattle.lfs_bmap.proofs.CountingLemmas.{weight-elsewhere, weight-here, weight-none}
 use Rattle.lfs_log.specs.Parts.{IsParts, LogParts, SameButLive, clean_count, live_of, log_state, record_place, state_of}
 use Rattle.lfs_log.specs.Names.{named_at}
 use Rattle.lfs_log.proofs.PartsLemmas.{clean_count-changed, clean_not_active, dirty_not_active, state_of-set, state_of-set_other}

@@ -4,12 +4,12 @@ use Rattle.std.proofs.lemmas.Bool.{cases_eq, cases_lt}
 use Rattle.lfs_segments.specs.Log.{Extends, IsOlder, entry_at}
 use Rattle.lfs_segments.specs.Memory.{IsLaidOut, SegmentMemory, block_at, next_address, opened, room_of}
 use Rattle.lfs_segments.proofs.WritingLemmas.{block_at-opened_apart, entry_at-opened_other}
-use Rattle.lfs_ways.specs.Counting.{place_of, seg_of}
-use Rattle.lfs_ways.specs.Log.{Opens, Writes}
-use Rattle.lfs_ways.proofs.OwnerLemmas.{owner_at-block, owner_at-kept, owner_at-record}
-use Rattle.lfs_ways.specs.Blocks.{code_of, logical_of}
-use Rattle.lfs_ways.specs.Owners.{owner_at, owner_in}
-use Rattle.lfs_ways.specs.declared.blocks.FileBlock.{FileBlock}
+use Rattle.lfs_bmap.specs.Counting.{place_of, seg_of}
+use Rattle.lfs_bmap.specs.Log.{Opens, Writes}
+use Rattle.lfs_bmap.proofs.OwnerLemmas.{owner_at-block, owner_at-kept, owner_at-record}
+use Rattle.lfs_bmap.specs.Blocks.{code_of, logical_of}
+use Rattle.lfs_bmap.specs.Owners.{owner_at, owner_in}
+use Rattle.lfs_bmap.specs.declared.blocks.FileBlock.{FileBlock}
 use Rattle.lfs_segments.specs.declared.entry.SummaryEntry.{SummaryEntry}
 use Rattle.lfs_segments.specs.declared.entry.LogicalBlock.{LogicalBlock}
 use Rattle.lfs_segments.specs.declared.entry.LogicalBlock.TheVariants.{Inodes}

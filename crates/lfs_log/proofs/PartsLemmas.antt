@@ -6,9 +6,9 @@ use Rattle.lfs_ifile.specs.declared.segment.SegState.{SegState}
 use Rattle.lfs_ifile.specs.declared.segment.SegState.TheVariants.{Clean, Dirty, Active}
 use Rattle.lfs_ifile.specs.Tables.{IsIfile, Tables, fresh_tables, with_state}
 use Rattle.lfs_segments.specs.Memory.{IsLaidOut, fresh, opened}
-use Rattle.lfs_ways.specs.Counting.{total}
-use Rattle.lfs_ways.specs.Log.{AreSegments, clean_unit}
-use Rattle.lfs_ways.proofs.CountingLemmas.{total-changed, total-part, total-zero}
+use Rattle.lfs_bmap.specs.Counting.{total}
+use Rattle.lfs_bmap.specs.Log.{AreSegments, clean_unit}
+use Rattle.lfs_bmap.proofs.CountingLemmas.{total-changed, total-part, total-zero}
 use Rattle.lfs_log.specs.Parts.{IsParts, LogParts, clean_count, fresh_parts, log_state, opened_parts, state_of}
 
 -- the states with one changed

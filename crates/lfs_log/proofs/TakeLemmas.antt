@@ -3,10 +3,10 @@ use Rattle.std.proofs.Common.{◌≡◌, ◌≢◌, ℕ, ◌+◌, ◌*◌, ◌/�
 use Rattle.std.proofs.lemmas.Bool.{cases_eq}
 use Rattle.lfs_segments.specs.Log.{first_of}
 use Rattle.lfs_segments.specs.Memory.{next_address}
-use Rattle.lfs_ways.specs.declared.blocks.TheConstants.{BLOCK_CODES}
-use Rattle.lfs_ways.specs.Counting.{seg_of, units}
-use Rattle.lfs_ways.specs.Log.{HasPlace, IsLog, MayTake, owner_of}
-use Rattle.lfs_ways.proofs.SegmentLemmas.{left_fits, taken_fits}
+use Rattle.lfs_bmap.specs.declared.blocks.TheConstants.{BLOCK_CODES}
+use Rattle.lfs_bmap.specs.Counting.{seg_of, units}
+use Rattle.lfs_bmap.specs.Log.{HasPlace, IsLog, MayTake, owner_of}
+use Rattle.lfs_bmap.proofs.SegmentLemmas.{left_fits, taken_fits}
 use Rattle.lfs_log.specs.Names.{named_at}
 use Rattle.lfs_log.specs.Parts.{IsParts, LogParts, MayMove, live_of, log_state}
 

@@ -10,10 +10,10 @@ use Rattle.lfs_segments.specs.Entry.{block_number}
 use Rattle.lfs_segments.specs.Log.{first_of, names_from}
 use Rattle.lfs_segments.specs.Memory.{SegmentMemory, block_at, log_start}
 use Rattle.lfs_types.specs.declared.cleaner.BlockInfo.{BlockInfo}
-use Rattle.lfs_ways.specs.declared.blocks.FileBlock.{FileBlock}
-use Rattle.lfs_ways.specs.Blocks.{code_of, logical_of}
-use Rattle.lfs_ways.specs.Counting.{seg_of}
-use Rattle.lfs_ways.specs.Log.{Owner}
+use Rattle.lfs_bmap.specs.declared.blocks.FileBlock.{FileBlock}
+use Rattle.lfs_bmap.specs.Blocks.{code_of, logical_of}
+use Rattle.lfs_bmap.specs.Counting.{seg_of}
+use Rattle.lfs_bmap.specs.Log.{Owner}
 use Rattle.lfs_log.specs.Names.{named_at}
 use Rattle.lfs_types.specs.declared.limits.TheConstants.{SEGMENT_BLOCKS}
 

@@ -5,8 +5,8 @@ use Rattle.lfs_inodes.specs.declared.inode.Inode.{Inode}
 use Rattle.lfs_inodes.specs.Slots.{slot_of}
 use Rattle.lfs_segments.specs.Log.{entry_at}
 use Rattle.lfs_segments.specs.Memory.{SegmentMemory, block_at}
-use Rattle.lfs_ways.specs.Log.{Owner}
-use Rattle.lfs_ways.specs.Owners.{owner_at}
+use Rattle.lfs_bmap.specs.Log.{Owner}
+use Rattle.lfs_bmap.specs.Owners.{owner_at}
 
 -- the number and the version of a record
 abbrev pub record_key : Fields → ℕ × ℕ

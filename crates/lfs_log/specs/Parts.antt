@@ -6,8 +6,8 @@ use Rattle.lfs_ifile.specs.declared.segment.SegState.{SegState}
 use Rattle.lfs_ifile.specs.declared.segment.SegState.TheVariants.{Clean, Dirty, Active}
 use Rattle.lfs_ifile.specs.Tables.{IsIfile, Tables, fresh_tables, row_of, with_state}
 use Rattle.lfs_segments.specs.Memory.{IsLaidOut, SegmentMemory, fresh, next_address, opened}
-use Rattle.lfs_ways.specs.Counting.{total, units}
-use Rattle.lfs_ways.specs.Log.{LogState, clean_unit}
+use Rattle.lfs_bmap.specs.Counting.{total, units}
+use Rattle.lfs_bmap.specs.Log.{LogState, clean_unit}
 use Rattle.lfs_log.specs.Names.{named_at}
 
 pub record LogParts : Type 0 where

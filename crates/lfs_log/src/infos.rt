@@ -8,8 +8,8 @@ ghost use Rattle.std.specs.List.{Contains, filter_map};
 ghost use Rattle.lfs_inodes.specs.Slots.{slot_of, slots};
 ghost use Rattle.lfs_log.specs.Infos.{HasInfo, IsNamed, block_infos, info_of, infos_of, slot_info};
 ghost use Rattle.lfs_log.specs.Names.{named_at};
-ghost use Rattle.lfs_ways.specs.Counting.{seg_of};
-ghost use Rattle.lfs_ways.specs.Log.{Owner};
+ghost use Rattle.lfs_bmap.specs.Counting.{seg_of};
+ghost use Rattle.lfs_bmap.specs.Log.{Owner};
 ghost use Rattle.lfs_log.specs.declared.packing.TheConstants.{SLOT_COUNT};
 ghost use Rattle.lfs_log.specs.Parts.{IsParts};
 

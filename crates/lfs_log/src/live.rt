@@ -7,17 +7,17 @@ ghost use Rattle.lfs_ifile.specs.declared.segment.TheConstants.{SEGMENT_BYTES};
 ghost use Rattle.lfs_ifile.specs.declared.segment.SegState.TheVariants.{Clean, Dirty};
 ghost use Rattle.lfs_ifile.specs.Inode.{given_row, placed_row, raised_version, released_row};
 ghost use Rattle.lfs_ifile.specs.Tables.{IsIfile, row_of, with_row, with_state};
-ghost use Rattle.lfs_ways.specs.declared.blocks.TheConstants.{BLOCK_CODES};
-ghost use Rattle.lfs_ways.specs.Blocks.{IsFileBlock, code_of};
-ghost use Rattle.lfs_ways.specs.Counting.{place_of, placed, units, weight_of};
-ghost use Rattle.lfs_ways.specs.Log.{Assigns, Cleans, Renews};
+ghost use Rattle.lfs_bmap.specs.declared.blocks.TheConstants.{BLOCK_CODES};
+ghost use Rattle.lfs_bmap.specs.Blocks.{IsFileBlock, code_of};
+ghost use Rattle.lfs_bmap.specs.Counting.{place_of, placed, units, weight_of};
+ghost use Rattle.lfs_bmap.specs.Log.{Assigns, Cleans, Renews};
 ghost use Rattle.lfs_log.specs.Parts.{IsParts, MayMove, SameButLive, live_of, log_state, record_place, state_of};
 
 use crate::log::Log;
+use lfs_bmap::blocks::FileBlock;
 use lfs_ifile::{Ifile, SegState};
 use lfs_segments::segments::SEGMENT_BLOCKS;
 use lfs_types::block::BLOCK_SIZE;
-use lfs_ways::blocks::FileBlock;
 
 /// The number of bytes of the log that a block of a file takes: a record takes a quarter of a
 /// block.

@@ -7,7 +7,7 @@ ghost use Rattle.lfs_ifile.specs.Layout.{ifile_bytes};
 ghost use Rattle.lfs_ifile.specs.Tables.{AreUsed, IsLeastFree, IsTooFew, IsTooMany, blocks_of, place_of, usage_of};
 ghost use Rattle.lfs_segments.specs.Log.{Expects};
 ghost use Rattle.lfs_segments.specs.Memory.{block_at, next_address, room_of};
-ghost use Rattle.lfs_ways.specs.Log.{IsEmptyLog};
+ghost use Rattle.lfs_bmap.specs.Log.{IsEmptyLog};
 ghost use Rattle.lfs_log.specs.Parts.{IsParts, fresh_parts, log_state};
 
 use lfs_ifile::{Ifile, InodePlace, SegState, SegUse};

@@ -9,19 +9,13 @@ ghost use Rattle.lfs_segments.specs.declared.summary.TheConstants.{ENTRY_LIMIT};
 ghost use Rattle.lfs_segments.specs.Entry.{IsEntry};
 ghost use Rattle.lfs_segments.specs.Log.{Expects, Extends, IsSummaryOf, entry_at};
 ghost use Rattle.lfs_segments.specs.Memory.{block_at, next_address, opened, room_of};
-ghost use Rattle.lfs_ways.specs.Log.{Opens, Writes};
-ghost use Rattle.lfs_ways.specs.Owners.{owner_in};
-ghost use Rattle.lfs_log.specs.Names.{named_at, record_in, record_owner};
-ghost use Rattle.lfs_log.specs.Packing.{IsInodeBlock};
-ghost use Rattle.lfs_log.specs.declared.packing.TheConstants.{SLOT_COUNT};
-ghost use Rattle.lfs_inodes.specs.declared.inode.Inode.{Inode};
-ghost use Rattle.lfs_segments.specs.declared.entry.LogicalBlock.TheVariants.{Inodes};
+ghost use Rattle.lfs_bmap.specs.Log.{Opens, Writes};
+ghost use Rattle.lfs_bmap.specs.Owners.{owner_in};
+ghost use Rattle.lfs_log.specs.Names.{named_at, record_in};
 ghost use Rattle.lfs_log.specs.Parts.{IsParts, log_state, opened_parts, state_of};
 
 use crate::log::Log;
-use crate::packing::packed;
 use lfs_ifile::{Ifile, SegState};
-use lfs_inodes::inode::Inode;
 use lfs_segments::entry::SummaryEntry;
 use lfs_types::block::Block;
 
@@ -129,32 +123,5 @@ impl Log {
         ensures kept { IsParts self.new }
     {
         self.segments.put(block)
-    }
-
-    /// Writes the next block of the partial segment, an inode block with the records of up to four
-    /// inodes from slot 0, and gives its address.
-    pub fn put_inodes(&mut self, inodes: &[Inode]) -> u32
-        requires room { 1 ≤ room_of self.old.memory }
-        requires at_most { length inodes.now ≤ SLOT_COUNT }
-        ensures address { result ≡ next_address self.old.memory }
-        ensures block { IsInodeBlock (block_at self.new.memory result) inodes.now }
-        ensures expects { (entry : SummaryEntry) (entries : List SummaryEntry)
-            → Expects self.old.memory (entry ∷ entries) → Expects self.new.memory entries }
-        ensures names { (entry : SummaryEntry) (entries : List SummaryEntry)
-            → Expects self.old.memory (entry ∷ entries)
-            → entry_at self.new.memory result ≡ Some entry }
-        // Where an inode block was expected, each record is named with its number and version.
-        ensures owners { (entry : SummaryEntry) (entries : List SummaryEntry) (k : ℕ) (v : Inode)
-            → Expects self.old.memory (entry ∷ entries) → entry.block ≡ Inodes
-            → k < length inodes.now → slice_get inodes.now k ≡ Some v
-            → named_at self.new.memory (4 * result + k) ≡ Some (record_owner v) }
-        ensures next { next_address self.new.memory ≡ next_address self.old.memory + 1 }
-        ensures extends { Extends self.old.memory self.new.memory }
-        ensures tables { self.new.tables ≡ self.old.tables }
-        ensures clean { self.new.clean ≡ self.old.clean }
-        ensures step { (at : ℕ → ℕ → ℕ) → Writes (log_state self.old at) (log_state self.new at) 1 }
-        ensures kept { IsParts self.new }
-    {
-        self.put(&packed(inodes))
     }
 }

@@ -4,11 +4,11 @@ use Rattle.std.proofs.lemmas.Bool.{cases_eq, cases_lt}
 use Rattle.lfs_types.specs.Cleaned.{ifile_size}
 use Rattle.lfs_ifile.specs.Layout.{ifile_bytes}
 use Rattle.lfs_ifile.proofs.LayoutLemmas.{length-ifile_bytes}
-use Rattle.lfs_ways.specs.declared.blocks.TheConstants.{BLOCK_CODES}
-use Rattle.lfs_ways.specs.Counting.{seg_of}
-use Rattle.lfs_ways.specs.Log.{LogState, HasPlace, Owner}
-use Rattle.lfs_ways.specs.Moves.{present_address}
-use Rattle.lfs_ways.proofs.MoveLemmas.{present_address-key, present_address-other}
+use Rattle.lfs_bmap.specs.declared.blocks.TheConstants.{BLOCK_CODES}
+use Rattle.lfs_bmap.specs.Counting.{seg_of}
+use Rattle.lfs_bmap.specs.Log.{LogState, HasPlace, Owner}
+use Rattle.lfs_bmap.specs.Moves.{present_address}
+use Rattle.lfs_bmap.proofs.MoveLemmas.{present_address-key, present_address-other}
 use Rattle.lfs_log.specs.Infos.{HasInfo, infos_of}
 use Rattle.lfs_log.specs.Parts.{state_of}
 use Rattle.lfs_log.proofs.FoundLemmas.{infos_of-named}

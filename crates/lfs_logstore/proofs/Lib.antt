@@ -2,3 +2,4 @@ pub mod AccountLemmas
 pub mod AddressLemmas
 pub mod ReclaimLemmas
 pub mod OpeningLemmas
+pub mod RoomLemmas

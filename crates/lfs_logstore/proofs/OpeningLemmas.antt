@@ -9,8 +9,8 @@ use Rattle.lfs_staging.specs.Opening.{IsOpening}
 use Rattle.lfs_logstore.specs.States.{opening_state, state_of}
 
 -- the parts of a volume that was just laid out show the opening state
-pub opened_state : (p : Parts) (segments numbers : ℕ) → IsOpening segments numbers p → content_of p ≡ opening_content → state_of p ≡ opening_state segments numbers
-opened_state p segments numbers h content =
+pub opened_state : (p : Parts) (segments numbers frames : ℕ) → IsOpening segments numbers frames p → content_of p ≡ opening_content → state_of p ≡ opening_state segments numbers
+opened_state p segments numbers frames h content =
     let clean : p.log.clean ≡ segments - 1 = omega (arith, h.clean) in
     rw (content, clean, h.tables.inodes, h.size) refl
 

@@ -1,18 +1,21 @@
 -- Making a dirty segment without live bytes clean keeps all else.
-use Rattle.std.proofs.Common.{◌≡◌, ℕ, ◌+◌, Some, refl, sym, ◌∙◌, subst}
+use Rattle.std.proofs.Common.{◌≡◌, ℕ, ◌+◌, ◌≤◌, Some, refl, sym, ◌∙◌, subst, inl, inr, arith}
 use Rattle.lfs_ifile.specs.declared.segment.SegState.TheVariants.{Clean}
 use Rattle.lfs_ifile.specs.Tables.{with_state}
-use Rattle.lfs_ways.specs.Log.{Cleans, SameKeys}
-use Rattle.lfs_ways.proofs.MoveLemmas.{present_address-same}
-use Rattle.lfs_ways.proofs.SegmentLemmas.{cleaned_log, empty_has_none}
+use Rattle.lfs_bmap.specs.Log.{Cleans, SameKeys}
+use Rattle.lfs_bmap.proofs.MoveLemmas.{present_address-same}
+use Rattle.lfs_bmap.proofs.SegmentLemmas.{cleaned_log, empty_has_none}
 use Rattle.lfs_log.specs.Parts.{IsParts, LogParts, record_place}
 use Rattle.lfs_log.specs.Parts as log
 use Rattle.lfs_inodes.specs.Reading.{Fields}
 use Rattle.lfs_staging.specs.declared.parts.Parts.{Parts}
 use Rattle.lfs_staging.specs.Files.{content_of, file_at}
 use Rattle.lfs_staging.specs.Keys.{log_state}
-use Rattle.lfs_staging.specs.Store.{AreFiles, IsFile, IsSettled, IsStore}
+use Rattle.lfs_staging.specs.Store.{AreFiles, IsFile, IsStore}
 use Rattle.lfs_staging.specs.View.{record_of}
+use Rattle.lfs_segments.specs.Memory.{room_of}
+use Rattle.lfs_segwrite.specs.Applying.{HasRoom, waiting_blocks}
+use Rattle.lfs_segwrite.specs.Collecting.{entries_of}
 use Rattle.lfs_logstore.specs.Cleaning.{HasLive, IsReclaimed}
 use Rattle.lfs_logstore.proofs.AccountLemmas.{has_key, segment_is}
 use Rattle.lfs_types.specs.Cleaned.{with_clean_segment}
@@ -26,7 +29,7 @@ with_log p l = record p { log = l }
 abbrev pub cleaned_parts : LogParts → ℕ → LogParts
 cleaned_parts l segment = record { memory = l.memory; tables = with_state l.tables segment Clean; clean = l.clean + 1 }
 
-module _ (p : Parts) (s : ℕ) (store : IsStore p) (settled : IsSettled p) (has : HasLive p s 0) where
+module _ (p : Parts) (s : ℕ) (store : IsStore p) (room : HasRoom p) (has : HasLive p s 0) where
   -- the parts with the segment clean
   abbrev q : Parts
   q = with_log p (cleaned_parts p.log s)
@@ -63,14 +66,17 @@ module _ (p : Parts) (s : ℕ) (store : IsStore p) (settled : IsSettled p) (has 
   files_same parts = record {
     parts = parts;
     cache = store.whole.cache;
-    readable = record { none_clean = store.whole.readable.none_clean };
     reserved = store.whole.reserved;
     recorded = store.whole.recorded;
     files = file_same;
     records = λ k d low. let there = store.whole.records k d low in record { in_use = there.in_use; at_version = there.at_version };
     frames = λ key locked. let there = store.whole.frames key locked in record { in_use = there.in_use; at_version = there.at_version };
-    room = store.whole.room;
     coded = store.whole.coded;
+    mirrors = record {
+      each = λ key bytes there.
+          let was = store.whole.mirrors.each key bytes there in
+          record { present = record { in_use = was.present.in_use; at_version = was.present.at_version }; coded = was.coded; somewhere = was.somewhere; same = was.same };
+    };
   }
 
   cleans : ((at : ℕ → ℕ → ℕ) → Cleans (log.log_state p.log at) (log.log_state (cleaned_parts p.log s) at) s) → Cleans (log_state p) (log_state q) s
@@ -110,29 +116,41 @@ module _ (p : Parts) (s : ℕ) (store : IsStore p) (settled : IsSettled p) (has 
   }
 
   is_store : IsParts (cleaned_parts p.log s) → ((at : ℕ → ℕ → ℕ) → Cleans (log.log_state p.log at) (log.log_state (cleaned_parts p.log s) at) s) → IsStore q
-  is_store parts step = record { whole = files_same parts; log = cleaned_log (log_state p) (log_state q) 0 s store.log (cleans step); ready = store.ready }
+  is_store parts step = record {
+    whole = files_same parts;
+    log = cleaned_log (log_state p) (log_state q) 0 s store.log (cleans step);
+    ready = store.ready;
+    parents = record { records = store.parents.records; singles = store.parents.singles };
+    once = store.once;
+    few = store.few;
+    within = λ n block f is can locked. store.within n block f (sym (record_same n) ∙ is) can locked;
+  }
 
-  is_settled : IsSettled q
-  is_settled = record { no_record = settled.no_record; no_frame = settled.no_frame }
+  waiting_same : waiting_blocks q ≡ waiting_blocks p
+  unfolding entries_of
+  waiting_same = refl
+
+  has_room : HasRoom q
+  has_room = record { room = elim room.room [ inl enough ↦ inl (subst (λ n. n ≤ room_of p.log.memory) (sym waiting_same) enough) | inr free ↦ inr (omega arith) ] }
 
 -- a log with these fields
 log_is : (l k : LogParts) → l.memory ≡ k.memory → l.tables ≡ k.tables → l.clean ≡ k.clean → l ≡ k
 log_is l k memory tables clean = λ i. record { memory = memory i; tables = tables i; clean = clean i }
 
--- What making a segment clean left: the store, settled, and what was reclaimed.
+-- What making a segment clean left: the store, with room for what waits, and what was reclaimed.
 pub record Cleaned (p : Parts) (s : ℕ) (q : Parts) : Type 0 where
   pub store : IsStore q
-  pub settled : IsSettled q
+  pub room : HasRoom q
   pub reclaimed : IsReclaimed p s q
 
-pub cleaned : (p : Parts) (l : LogParts) (s : ℕ) → IsStore p → IsSettled p → HasLive p s 0 → l.tables ≡ with_state p.log.tables s Clean → l.memory ≡ p.log.memory
+pub cleaned : (p : Parts) (l : LogParts) (s : ℕ) → IsStore p → HasRoom p → HasLive p s 0 → l.tables ≡ with_state p.log.tables s Clean → l.memory ≡ p.log.memory
     → l.clean ≡ p.log.clean + 1 → ((at : ℕ → ℕ → ℕ) → Cleans (log.log_state p.log at) (log.log_state l at) s) → IsParts l → Cleaned p s (with_log p l)
-cleaned p l s store settled has tables memory clean step parts =
+cleaned p l s store room has tables memory clean step parts =
     let is : l ≡ cleaned_parts p.log s = log_is l (cleaned_parts p.log s) memory tables clean in
     subst (λ m. Cleaned p s (with_log p m)) (sym is) (record {
-      store = is_store p s store settled has (subst IsParts is parts) (λ at. subst (λ m. Cleans (log.log_state p.log at) (log.log_state m at) s) is (step at));
-      settled = is_settled p s store settled has;
-      reclaimed = is_reclaimed p s store settled has;
+      store = is_store p s store room has (subst IsParts is parts) (λ at. subst (λ m. Cleans (log.log_state p.log at) (log.log_state m at) s) is (step at));
+      room = has_room p s store room has;
+      reclaimed = is_reclaimed p s store room has;
     })
 
 -- the store shows one clean segment more, and all else as before

@@ -7,15 +7,15 @@ use Rattle.lfs_types.specs.declared.cleaner.CleanFault.TheVariants.{NoSuchSegmen
 use Rattle.lfs_ifile.specs.declared.segment.SegState.TheVariants as used
 use Rattle.lfs_ifile.specs.Layout.{ifile_bytes}
 use Rattle.lfs_ifile.specs.Tables.{with_state}
-use Rattle.lfs_ways.specs.declared.blocks.TheConstants.{BLOCK_CODES}
-use Rattle.lfs_ways.specs.Counting.{live_bytes}
-use Rattle.lfs_ways.specs.Moves.{present_address}
+use Rattle.lfs_bmap.specs.declared.blocks.TheConstants.{BLOCK_CODES}
+use Rattle.lfs_bmap.specs.Counting.{live_bytes}
+use Rattle.lfs_bmap.specs.Moves.{present_address}
 use Rattle.lfs_log.specs.Infos.{HasInfo, infos_of}
 use Rattle.lfs_log.specs.Parts.{live_of, state_of}
 use Rattle.lfs_staging.specs.declared.parts.Parts.{Parts}
 use Rattle.lfs_staging.specs.Files.{content_of}
 use Rattle.lfs_staging.specs.Keys.{log_state}
-use Rattle.lfs_landing.specs.Marking.{code_named}
+use Rattle.lfs_segwrite.specs.Marking.{code_named}
 
 -- the present address of a key: a number, a version and the code of a block
 abbrev pub address_of : Parts → ℕ → ℕ → ℕ → ℕ

@@ -3,11 +3,13 @@ use Rattle.std.specs.Prelude.{◌≡◌, ℕ, ◌≤◌, List, Result, IfOk, OnE
 use Rattle.lfs_types.specs.declared.cleaner.BlockInfo.{BlockInfo}
 use Rattle.lfs_types.specs.declared.cleaner.CleanFault.{CleanFault}
 use Rattle.lfs_staging.specs.declared.parts.Parts.{Parts}
-use Rattle.lfs_landing.specs.Marking.{MarksAgain}
+use Rattle.lfs_segwrite.specs.Applying.{WritesWaiting}
+use Rattle.lfs_segwrite.specs.Marking.{MarksAgain}
 
 -- Blocks may be written again with this result, from one state of the store to another: all that are named with their
--- present address, which are counted; none where there is no room, which comes with at most one clean segment.
+-- present address once what waited was written, which are counted; none where there is no room, which comes only where
+-- no segment is clean.
 pub record WritesAgain (old : Parts) (marks : List BlockInfo) (result : Result ℕ CleanFault) (new : Parts) : Type 0 where
   pub marked : IfOk result (λ count. MarksAgain marks count old new)
-  pub refused : OnErr result (new ≡ old)
-  pub short : OnErr result (old.log.clean ≤ 1)
+  pub refused : OnErr result (WritesWaiting old new)
+  pub reserved : OnErr result (old.log.clean ≤ 0)

@@ -7,7 +7,7 @@ ghost use Rattle.lfs_logstore.specs.States.{state_of};
 
 use crate::store::LogStore;
 use lfs_ifile::SegState;
-use lfs_landing::marking::mark;
+use lfs_segwrite::marking::mark;
 use lfs_types::cleaned::CleanedStore;
 use lfs_types::cleaner::{BlockInfo, CleanFault, InfoList, MarkList};
 use std::alloc::AllocError;

@@ -5,18 +5,24 @@ ghost use Rattle.std.specs.FinMap.{get};
 ghost use Rattle.lfs_types.specs.Changes.{CanApply};
 ghost use Rattle.lfs_types.specs.StoreStates.{Applies};
 ghost use Rattle.lfs_types.specs.Stored.{Reads, bytes_of, slice_of};
-ghost use Rattle.lfs_landing.specs.Applying.{LacksRoom, MakesChanges};
+ghost use Rattle.lfs_staging.specs.Filling.{SameButClean};
+ghost use Rattle.lfs_segwrite.specs.Applying.{LacksRoom, MakesChanges, WritesWaiting};
+ghost use Rattle.lfs_staging.specs.Store.{IsSettled};
 ghost use Rattle.lfs_logstore.specs.States.{state_of};
 
 use crate::store::LogStore;
-use lfs_landing::applying::apply;
+use lfs_segwrite::applying::apply;
+use lfs_segwrite::writing::write_waiting;
 use lfs_types::attrs::Attrs;
 use lfs_types::store::{Change, FileStore, StoreRefusal};
 
 impl FileStore for LogStore {
     ghost use Rattle.lfs_logstore.specs.States.{state_of};
+    ghost use Rattle.lfs_staging.specs.Store.{IsSettled};
 
     ghost state = { state_of };
+
+    ghost is_settled = { IsSettled };
 
     fn attrs(&self, ino: u32) -> Option<Attrs> {
         self.parts.attrs(ino)
@@ -27,8 +33,8 @@ impl FileStore for LogStore {
         ensures reads { Reads (slice_of (bytes_of (state_of self.old).content ino) off (length into.old))
             result into.old into.new }
         ensures state { state_of self.new ≡ state_of self.old }
-        // Nothing of the log moves.
-        ensures same { self.new ≡ self.old }
+        // No address moves, and what waits waits: frames may be taken for clean blocks.
+        ensures still { SameButClean self.old self.new }
     {
         self.parts.read(ino, off, into)
     }
@@ -41,7 +47,7 @@ impl FileStore for LogStore {
         self.parts.log.clean()
     }
 
-    /// Makes changes and writes them; nothing is left waiting.
+    /// Makes changes, which wait. Where more would wait than may, what waits is written first.
     fn apply(&mut self, changes: &[Change<'_>]) -> Result<(), StoreRefusal>
         requires { CanApply (state_of self.old).shape.numbers changes.now (state_of self.old).content }
         ensures applies { Applies (state_of self.old) changes.now result (state_of self.new) }
@@ -53,11 +59,15 @@ impl FileStore for LogStore {
         apply(&mut self.parts, changes).map_err(|_| StoreRefusal::NoSpace)
     }
 
-    /// Nothing waits between calls.
+    /// Writes what waits. It always has room.
+    #[tactic(auto, using(crate::proofs::RoomLemmas::settled_room))]
     fn sync(&mut self) -> Result<(), StoreRefusal>
         ensures applies { Applies (state_of self.old) [] result (state_of self.new) }
-        ensures same { self.new ≡ self.old }
+        ensures settled { OnOk result (IsSettled self.new) }
+        ensures written { WritesWaiting self.old self.new }
+        ensures never { OnErr result ⊥ }
     {
+        write_waiting(&mut self.parts);
         Ok(())
     }
 }

@@ -10,7 +10,7 @@ use lfs_types::store::{FileStore, Params};
 use std::alloc::Global;
 use std::marker::Model;
 
-/// A file store over a log of segments. Contracts see its parts. Between calls nothing waits to be written.
+/// A file store over a log of segments. Contracts see its parts. What waits to be written always has room.
 #[derive(Drop)]
 pub struct LogStore {
     pub(crate) parts: Parts,
@@ -18,13 +18,14 @@ pub struct LogStore {
 
 impl Model for LogStore {
     ghost use Rattle.lfs_staging.specs.declared.parts.Parts.{Parts};
-    ghost use Rattle.lfs_staging.specs.Store.{IsSettled, IsStore};
+    ghost use Rattle.lfs_segwrite.specs.Applying.{HasRoom};
+    ghost use Rattle.lfs_staging.specs.Store.{IsStore};
 
     ghost Value = { Parts };
 
     ghost view = { λ s. s.parts };
 
-    ghost invariant = { λ s. IsStore s.parts × IsSettled s.parts };
+    ghost invariant = { λ s. IsStore s.parts × HasRoom s.parts };
 }
 
 impl LogStore {

@@ -1,7 +1,8 @@
 -- What a call that the rules allow has passed.
-use Rattle.std.proofs.Common.{◌≡◌, ℕ, ◌+◌, ◌==◌, ◌||◌, not, Bool, true, false, List, [], ◌∷◌, ◌++◌, length, Option, None, Some, Result, Ok, Err, refl, sym, ap, ◌∙◌, arith, append-nil, ne_eqb}
+use Rattle.std.proofs.Common.{◌≡◌, ℕ, ◌+◌, ◌==◌, ◌||◌, not, Bool, true, false, cond, List, [], ◌∷◌, ◌++◌, length, Option, None, Some, Result, Ok, Err, refl, sym, ap, subst, ◌∙◌, arith, append-nil, ne_eqb}
 use Rattle.std.proofs.lemmas.Bool.{cond-true, not-true}
 use Rattle.std.specs.Prelude.{is_some, unwrap_or}
+use Rattle.std.specs.List.{list_any}
 use Rattle.std.specs.FinMap as map
 use Rattle.lfs_types.specs.Caller.{Caller}
 use Rattle.lfs_types.specs.Kinds.{is_directory_kind}
@@ -9,12 +10,14 @@ use Rattle.lfs_types.specs.Tree.{Row, root, attrs_of}
 use Rattle.lfs_types.specs.declared.attrs.Attrs.{Attrs}
 use Rattle.lfs_types.specs.declared.attrs.Bit.{Bit}
 use Rattle.lfs_types.specs.declared.attrs.Bit.TheVariants as bits
+use Rattle.lfs_types.specs.declared.attrs.Kind.{Kind}
+use Rattle.lfs_types.specs.declared.attrs.Kind.TheVariants.{File as Regular, Directory}
 use Rattle.lfs_types.specs.declared.rule.Denial.{Denial}
 use Rattle.lfs_rules.specs.Grants.{grants_of}
 use Rattle.lfs_rules.specs.Locks.{is_immutable, is_append_only}
 use Rattle.lfs_rules.specs.Sticky.{is_barred}
-use Rattle.lfs_model.specs.World.{Rows, child, file_at, IsChild, IsTree}
-use Rattle.lfs_model.specs.Rules.{first_failing, is_directory_row, row_grants, attrs_at, next, reached, front, last, Check, walk, making, removing, reaching, change_tests}
+use Rattle.lfs_model.specs.World.{Rows, child, children, file_at, IsChild, IsTree}
+use Rattle.lfs_model.specs.Rules.{first_failing, is_directory_row, row_grants, attrs_at, next, reached, front, last, Check, walk, making, removing, reaching, change_tests, arriving, visited, is_there, placing_tests, last_tests, moving_tests}
 use Rattle.lfs_model.specs.Walks.{walked}
 use Rattle.lfs_model.proofs.Children.{child-is}
 use Rattle.lfs_model.proofs.Deciding.{after_walk, failing_walk, walked-reached, met_first, passes-append}
@@ -108,7 +111,7 @@ regular_row None h = absurd (cc)
 regular_row (Some r) h = h
 
 -- a directory's row is there
-directory_row_there : (o : Option Row) → is_directory_row o ≡ true → There o
+pub directory_row_there : (o : Option Row) → is_directory_row o ≡ true → There o
 directory_row_there None h = absurd (cc)
 directory_row_there (Some r) h = record { value = r; is = refl }
 
@@ -211,3 +214,137 @@ may_remove rows caller names h =
       mutable = not-true _ m.0;
       rewritable = not-true _ n.0;
     }
+
+-- ---- a row that gets another place
+
+-- a path leads to a directory in which its last name may be looked for
+pub record MayArrive (rows : Rows) (caller : Caller) (names : List (List ℕ)) : Type 0 where
+  pub filled : (length names == 0) ≡ false
+  pub walks : first_failing (walk rows caller 1 0 root (front names)) ≡ None
+  pub way : walked rows caller 1 0 root (front names) ≡ Ok (reached rows root (front names))
+  pub directory : is_directory_row (map.get rows (reached rows root (front names))) ≡ true
+  pub searches : row_grants caller bits.Search (map.get rows (reached rows root (front names))) ≡ true
+
+pub may_arrive : (rows : Rows) → IsTree rows → (caller : Caller) (names : List (List ℕ)) → first_failing (arriving rows caller names) ≡ None → MayArrive rows caller names
+may_arrive rows tree caller names h =
+    let some = met_first _ _ _ h in
+    let walks = passes-append (walk rows caller 1 0 root (front names)) _ some.1 in
+    let a = met_first _ _ _ walks.1 in
+    let b = met_first _ _ _ a.1 in
+    let there = path_there rows tree caller 1 (front names) walks.0 in
+    record {
+      filled = not-true _ some.0;
+      walks = walks.0;
+      way = walked_there rows caller 1 0 root (front names) walks.0;
+      directory = directory_attrs _ there ∙ a.0;
+      searches = grants_attrs caller bits.Search _ there ∙ b.0;
+    }
+
+-- a walk whose tests are met is one of the other path too
+pub walk_of_path : (rows : Rows) (caller : Caller) (path other k at : ℕ) (names : List (List ℕ)) → first_failing (walk rows caller path k at names) ≡ None → first_failing (walk rows caller other k at names) ≡ None
+walk_of_path rows caller path other k at [] h = refl
+walk_of_path rows caller path other k at (name ∷ names) h =
+    let a = met_first (is_directory_row (map.get rows at)) _ _ h in
+    let b = met_first (row_grants caller bits.Search (map.get rows at)) _ _ a.1 in
+    let c = met_first (is_some (child rows at name)) _ _ b.1 in
+    cond-true _ _ _ a.0 ∙ cond-true _ _ _ b.0 ∙ cond-true _ _ _ c.0 ∙ walk_of_path rows caller path other (k + 1) (next rows at name) names c.1
+
+-- a directory may get a name
+pub record MayGetName (rows : Rows) (caller : Caller) (dir : ℕ) : Type 0 where
+  pub mutable : is_immutable (attrs_at rows dir) ≡ false
+  pub granted : grants_of caller (attrs_at rows dir) bits.Write ≡ true
+
+-- a row may be replaced by a moved one
+pub record MayGiveWay (rows : Rows) (caller : Caller) (moved dir m : ℕ) : Type 0 where
+  pub dir_rewritable : is_append_only (attrs_at rows dir) ≡ false
+  pub unbarred : is_barred caller (attrs_at rows dir) (attrs_at rows m) ≡ false
+  pub mutable : is_immutable (attrs_at rows m) ≡ false
+  pub rewritable : is_append_only (attrs_at rows m) ≡ false
+  pub files : (not (is_directory_kind (attrs_at rows m).kind) || is_directory_kind (attrs_at rows moved).kind) ≡ true
+  pub directories : (is_directory_kind (attrs_at rows m).kind || not (is_directory_kind (attrs_at rows moved).kind)) ≡ true
+  pub empty : (length (children rows m) == 0) ≡ true
+
+-- what the tests say of a row that gets another place, where none fails
+pub record MayGo (rows : Rows) (caller : Caller) (from to : List (List ℕ)) (there : Option ℕ) : Type 0 where
+  pub enters : MayGetName rows caller (reached rows root (front to))
+  pub gives : (m : ℕ) → there ≡ Some m → MayGiveWay rows caller (reached rows root from) (reached rows root (front to)) m
+  pub apart : list_any (λ n. n == reached rows root from) (visited rows root (front to)) ≡ false
+  pub leaves : (not (is_directory_kind (attrs_at rows (reached rows root from)).kind)
+      || (reached rows root (front from) == reached rows root (front to))
+      || grants_of caller (attrs_at rows (reached rows root from)) bits.Write) ≡ true
+
+may_go_last : (rows : Rows) (caller : Caller) (from to : List (List ℕ)) (there : Option ℕ) → first_failing (last_tests rows caller from to) ≡ None
+    → MayGetName rows caller (reached rows root (front to)) → ((m : ℕ) → there ≡ Some m → MayGiveWay rows caller (reached rows root from) (reached rows root (front to)) m)
+    → MayGo rows caller from to there
+may_go_last rows caller from to there h enters gives =
+    let a = met_first _ _ _ h in
+    let b = met_first _ _ _ a.1 in
+    record { enters = enters; gives = gives; apart = not-true _ a.0; leaves = b.0 }
+
+may_go_placed : (rows : Rows) (caller : Caller) (from to : List (List ℕ)) (there : Option ℕ)
+    → first_failing (placing_tests rows caller (reached rows root from) (reached rows root (front to)) there (length (front to)) ++ last_tests rows caller from to) ≡ None
+    → MayGo rows caller from to there
+may_go_placed rows caller from to None h =
+    let a = met_first _ _ _ h in
+    let b = met_first _ _ _ a.1 in
+    may_go_last rows caller from to None b.1 (record { mutable = not-true _ a.0; granted = b.0 }) (λ m e. absurd (cc))
+may_go_placed rows caller from to (Some n) h =
+    let a = met_first _ _ _ h in
+    let b = met_first _ _ _ a.1 in
+    let c = met_first _ _ _ b.1 in
+    let d = met_first _ _ _ c.1 in
+    let e = met_first _ _ _ d.1 in
+    let f = met_first _ _ _ e.1 in
+    let g = met_first _ _ _ f.1 in
+    let i = met_first _ _ _ g.1 in
+    let j = met_first _ _ _ i.1 in
+    let way : MayGiveWay rows caller (reached rows root from) (reached rows root (front to)) n = record {
+      dir_rewritable = not-true _ c.0;
+      unbarred = not-true _ d.0;
+      mutable = not-true _ e.0;
+      rewritable = not-true _ f.0;
+      files = g.0;
+      directories = i.0;
+      empty = j.0;
+    } in
+    may_go_last rows caller from to (Some n) j.1 (record { mutable = not-true _ a.0; granted = b.0 })
+    (λ m same. let one : n ≡ m = cc in subst (MayGiveWay rows caller (reached rows root from) (reached rows root (front to))) one way)
+
+may_go_unless : (rows : Rows) (caller : Caller) (from to : List (List ℕ)) (there : Option ℕ) (b : Bool) → b ≡ false
+    → first_failing (cond b [] (placing_tests rows caller (reached rows root from) (reached rows root (front to)) there (length (front to)) ++ last_tests rows caller from to)) ≡ None
+    → MayGo rows caller from to there
+may_go_unless rows caller from to there true e h = absurd (cc)
+may_go_unless rows caller from to there false e h = may_go_placed rows caller from to there h
+
+-- a row that doesn't have the place already may get it
+pub may_go : (rows : Rows) (caller : Caller) (from to : List (List ℕ)) (there : Option ℕ) → is_there (reached rows root from) there ≡ false
+    → first_failing (moving_tests rows caller from to there) ≡ None → MayGo rows caller from to there
+may_go rows caller from to there other h = may_go_unless rows caller from to there (is_there (reached rows root from) there) other h
+
+-- a row that is replaced may be taken away as by a call of its own
+pub may_be_replaced : (rows : Rows) → IsTree rows → (caller : Caller) (from to : List (List ℕ)) (m : ℕ) → MayArrive rows caller to → MayGo rows caller from to (Some m)
+    → child rows (reached rows root (front to)) (last to) ≡ Some m → (reached rows root to ≡ m) × MayRemove rows caller to
+may_be_replaced rows tree caller from to m arrives goes is =
+    let here : reached rows root to ≡ m = reached_last rows root to arrives.filled ∙ ap (λ o. unwrap_or o 0) is in
+    let way = goes.gives m refl in
+    let dir = directory_row_there _ arrives.directory in (
+      here,
+      record {
+        walks = walk_of_path rows caller 1 0 0 root (front to) arrives.walks;
+        searches = arrives.searches;
+        dir_mutable = goes.enters.mutable;
+        dir_rewritable = way.dir_rewritable;
+        hangs = child-is rows _ (last to) (reached rows root to) (is ∙ ap Some (sym here));
+        granted = grants_attrs caller bits.Write _ dir ∙ goes.enters.granted;
+        unbarred = subst (λ n. is_barred caller (attrs_at rows (reached rows root (front to))) (attrs_at rows n) ≡ false) (sym here) way.unbarred;
+        mutable = subst (λ n. is_immutable (attrs_at rows n) ≡ false) (sym here) way.mutable;
+        rewritable = subst (λ n. is_append_only (attrs_at rows n) ≡ false) (sym here) way.rewritable;
+      },
+    )
+
+-- they are of one kind
+pub same_kinds : (k l : Kind) → (not (is_directory_kind k) || is_directory_kind l) ≡ true → (is_directory_kind k || not (is_directory_kind l)) ≡ true → k ≡ l
+same_kinds Regular Regular h g = refl
+same_kinds Regular Directory h g = absurd (cc)
+same_kinds Directory Regular h g = absurd (cc)
+same_kinds Directory Directory h g = refl

@@ -81,7 +81,7 @@ module _ (numbers segments n : ℕ) (Keeps : Row → Row → Type 0) (MayChange 
         → map.get (world_after numbers es (after_event numbers w e.cred e.event)).rows n ≡ Some s
         → (o : Option Row) → map.get (after_event numbers w e.cred (User request (Served shown))).rows n ≡ o → Found (e ∷ es) w
     by_row request shown is answers after_tree legal last None at =
-        here request shown is (inl (at, gone_law numbers w e.cred request (Served shown) tree answers n r there at))
+        here request shown is (inl (at, (gone_law numbers w e.cred request (Served shown) tree answers n r there at).0))
     by_row request shown is answers after_tree legal last (Some t) at = ⊎_elim
         (λ keeps. on t (subst (λ (x : Event). map.get (after_event numbers w e.cred x).rows n ≡ Some t) (sym is) at) keeps after_tree legal last)
         (λ apart. here request shown is (inr (t, at, apart, law w e.cred request (Served shown) tree answers r t there at apart)))
@@ -100,7 +100,7 @@ module _ (numbers segments n : ℕ) (Keeps : Row → Row → Type 0) (MayChange 
     by_event (User request (Refused resource)) is answers after_tree legal last = idle (User request (Refused resource)) is refl after_tree legal last
     by_event (Cleaner kind outcome) is answers after_tree legal last = idle (Cleaner kind outcome) is refl after_tree legal last
 
-  between : (entries : List Entry) (w : World) (r s : Row) → IsTree w.rows → IsLegal numbers segments entries w → map.get w.rows n ≡ Some r
+  pub between : (entries : List Entry) (w : World) (r s : Row) → IsTree w.rows → IsLegal numbers segments entries w → map.get w.rows n ≡ Some r
       → map.get (world_after numbers entries w).rows n ≡ Some s → Differs r s → Found entries w
   between [] w r s tree legal there after differs = absurd (differs (subst (Keeps r) (sym (row_of _ _ s there after)) (same r)))
   between (e ∷ es) w r s tree legal there after differs =
@@ -124,7 +124,7 @@ bytes_between numbers segments entries w n r s tree legal there after differs =
 hangs_here : (r : Row) → HangsStill r r
 hangs_here r = record { parents = refl; names = refl }
 
-cases_place : (r t : Row) → HangsStill r t ⊎ (HangsStill r t → ⊥)
+pub cases_place : (r t : Row) → HangsStill r t ⊎ (HangsStill r t → ⊥)
 cases_place r t = ⊎_elim
     (λ p. ⊎_elim (λ q. inl (record { parents = p; names = q })) (λ q. inr (λ (h : HangsStill r t). q h.names)) (cases_bytes t.name r.name))
     (λ p. inr (λ (h : HangsStill r t). p h.parents))

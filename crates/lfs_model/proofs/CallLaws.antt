@@ -1,6 +1,6 @@
 -- The laws of new rows, of the level, of the tree, and of what is shown.
-use Rattle.std.proofs.Common.{◌≡◌, ◌≢◌, ℕ, List, [], ◌∷◌, Option, None, Some, refl, sym, ap, subst, ◌∙◌, ⊎_elim, arith, eqb-true}
-use Rattle.std.proofs.lemmas.Bool.{not-true, cases_eq, cases_lt}
+use Rattle.std.proofs.Common.{◌≡◌, ◌≢◌, ℕ, ◌==◌, Bool, true, false, cond, List, [], ◌∷◌, Option, None, Some, refl, sym, ap, subst, ◌∙◌, ⊎_elim, arith, eqb-true}
+use Rattle.std.proofs.lemmas.Bool.{eqb-false, not-true, cases_eq, cases_lt}
 use Rattle.std.specs.Prelude.{min}
 use Rattle.std.specs.FinMap as map
 use Rattle.lfs_types.specs.Caller.{Caller}
@@ -19,9 +19,9 @@ use Rattle.lfs_types.specs.declared.request.Request.{Request}
 use Rattle.lfs_types.specs.declared.request.Request.TheVariants.{Stat, Read, Write, List as Names, SetLength, Create, Mkdir, Unlink, Rmdir, Rename, Chmod, Chown, Chflags, SetLevel, Sync}
 use Rattle.lfs_rules.specs.Grants.{grants_of}
 use Rattle.lfs_rules.specs.Securelevel.{is_lower}
-use Rattle.lfs_model.specs.World.{Rows, file_at, IsTree}
+use Rattle.lfs_model.specs.World.{Rows, child, file_at, IsTree}
 use Rattle.lfs_model.specs.Rules.{decide, first_failing, reached, front, last, walk, attrs_at}
-use Rattle.lfs_model.specs.Effects.{effect, least_unused, with_file, with_place, new_file, written, cut, given, in_byte_order, names_in, read_max}
+use Rattle.lfs_model.specs.Effects.{effect, after_rename, least_unused, with_file, with_place, without_row, new_file, written, cut, given, in_byte_order, names_in, read_max}
 use Rattle.lfs_model.specs.LawNew.{Makes, IsLeastUnused, MayMake, New}
 use Rattle.lfs_model.specs.LawLevel.{MayRelevel, Relevelled}
 use Rattle.lfs_model.specs.LawTrees.{LeavesTree}
@@ -65,6 +65,17 @@ removed_absent rows n m none = ⊎_elim
     (λ same. ap (map.get (map.remove rows m)) same ∙ get-remove_same rows m)
     (λ other. get-remove_other rows m n other ∙ none)
     (cases_eq n m)
+
+over_absent : (w : World) (n moved parent m : ℕ) (name : List ℕ) → map.get w.rows n ≡ None → (b : Bool) → (m == moved) ≡ b
+    → map.get (cond b w (with_place (map.get w.rows moved) moved parent name (without_row m w))).rows n ≡ None
+over_absent w n moved parent m name none true e = none
+over_absent w n moved parent m name none false e =
+    place_absent (map.get w.rows moved) (without_row m w) n moved parent name
+    (get-remove_other w.rows m moved (λ same. eqb-false m moved e (sym same))) (removed_absent w.rows n m none)
+
+rename_absent : (w : World) (n moved parent : ℕ) (name : List ℕ) → map.get w.rows n ≡ None → (o : Option ℕ) → map.get (after_rename w moved o parent name).rows n ≡ None
+rename_absent w n moved parent name none None = place_absent _ w n moved parent name refl none
+rename_absent w n moved parent name none (Some m) = over_absent w n moved parent m name none (m == moved) refl
 
 -- the number of a new row is the least that is unused
 least_number : (numbers : ℕ) (rows : Rows) → (AllUsed numbers rows → ⊥) → IsLeastUnused numbers rows (least_unused rows numbers 4)
@@ -123,7 +134,8 @@ module _ (numbers : ℕ) (w : World) (caller : Caller) (tree : IsTree w.rows) (n
       )) is
   made_by (Unlink path) allowed room is = none_there _ s (removed_absent w.rows n (reached w.rows root path) none) is
   made_by (Rmdir path) allowed room is = none_there _ s (removed_absent w.rows n (reached w.rows root path) none) is
-  made_by (Rename from to) allowed room is = none_there _ s (place_absent _ w n (reached w.rows root from) (reached w.rows root (front to)) (last to) refl none) is
+  made_by (Rename from to) allowed room is =
+      none_there _ s (rename_absent w n (reached w.rows root from) (reached w.rows root (front to)) (last to) none (child w.rows (reached w.rows root (front to)) (last to))) is
   made_by (Chmod path mode) allowed room is = none_there _ s (file_absent _ w n _ (λ f. record f { mode = mode }) refl none) is
   made_by (Chown path uid gid) allowed room is = none_there _ s (file_absent _ w n _ (given caller uid gid) refl none) is
   made_by (Chflags path flags) allowed room is = none_there _ s (file_absent _ w n _ (λ f. record f { flags = flags }) refl none) is

@@ -1,10 +1,11 @@
 -- The tree after the file of a row was changed, and not its place or kind.
-use Rattle.std.proofs.Common.{◌≡◌, ℕ, zero, suc, [], Some, refl, sym, ap, subst, ◌∙◌, ⊎_elim}
+use Rattle.std.proofs.Common.{◌≡◌, ◌≢◌, ◌≤◌, ℕ, zero, suc, [], Some, refl, sym, ap, subst, ◌∙◌, ⊎_elim}
 use Rattle.std.proofs.lemmas.Bool.{cases_eq}
 use Rattle.std.specs.Prelude.{IsSomeAnd}
 use Rattle.std.specs.FinMap as map
 use Rattle.lfs_types.specs.Tree.{File, Row, root}
 use Rattle.lfs_types.specs.declared.attrs.Kind.TheVariants.{Directory}
+use Rattle.lfs_types.specs.declared.limits.TheConstants.{FIRST_INODE}
 use Rattle.lfs_model.specs.World.{Rows, parent_of, ancestor, IsTree}
 use Rattle.lfs_model.proofs.Children.{unique-stays}
 use Rattle.lfs_types.proofs.Maps.{get-insert_same, get-insert_other, each_inserted}
@@ -58,4 +59,5 @@ module _ (rows : Rows) (tree : IsTree rows) (n : ℕ) (r : Row) (there : map.get
         (let way = tree.reached n r there in (way.0, ancestors_same way.0 n ∙ way.1))
         (λ m x apart e. let way = tree.reached m x e in (way.0, ancestors_same way.0 m ∙ way.1));
     empty = each_inserted rows n (record r { file = file }) (λ m x. x.file.kind ≡ Directory → x.file.bytes ≡ []) empty (λ m x apart e. tree.empty m x e);
+    numbers = each_inserted rows n (record r { file = file }) (λ m x. m ≢ root → FIRST_INODE ≤ m) (tree.numbers n r there) (λ m x far e. tree.numbers m x e);
   }

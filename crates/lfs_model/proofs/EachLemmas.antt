@@ -16,7 +16,9 @@ use Rattle.lfs_model.proofs.BetweenLemmas.{cases_bytes}
 use Rattle.lfs_model.proofs.CallLaws.{new_law, relevelled_law, shown_law}
 use Rattle.lfs_model.proofs.LawTree.{event_tree}
 use Rattle.lfs_model.proofs.OneThingLemmas.{one_thing}
-use Rattle.lfs_model.proofs.RowLaws.{given_law, gone_law, loses_set_ids, moved_law, reflagged_law, remoded_law, rewritten_law}
+use Rattle.lfs_model.proofs.DoneLemmas.{done_law}
+use Rattle.lfs_model.proofs.MayLemmas.{answered_as_may}
+use Rattle.lfs_model.proofs.RowLaws.{given_law, gone_law, moved_law, reflagged_law, remoded_law, rewritten_law}
 use Rattle.lfs_model.proofs.RunLemmas.{only_root, opening_tree}
 
 -- ---- sound trees
@@ -66,6 +68,7 @@ standing numbers segments (e ∷ before) entry later w sound legal =
 meets : (numbers : ℕ) (w : World) (caller : Caller) (request : Request) (answer : Answer) → IsSound w.rows → IsAnswer numbers w caller request answer
     → MeetsLaws numbers w caller request answer (after_answer numbers w caller request answer)
 meets numbers w caller request answer sound is = record {
+  may = answered_as_may numbers w caller request answer sound.tree is;
   gone = gone_law numbers w caller request answer sound.tree is;
   new = new_law numbers w caller request answer sound.tree is;
   moved = moved_law numbers w caller request answer sound.tree is;
@@ -73,9 +76,9 @@ meets numbers w caller request answer sound is = record {
   remoded = remoded_law numbers w caller request answer sound.tree is;
   given = given_law numbers w caller request answer sound.tree is;
   reflagged = reflagged_law numbers w caller request answer sound.tree is;
-  set_ids = loses_set_ids numbers w caller request answer sound.tree is;
   relevelled = relevelled_law numbers w caller request answer sound.tree is;
   one_thing = one_thing numbers w caller request answer sound.tree is;
+  done = done_law numbers w caller request answer sound.tree is;
   shown = shown_law numbers w caller request answer sound.tree is;
 }
 

@@ -1,10 +1,11 @@
 -- The tree and the store after a row was made.
-use Rattle.std.proofs.Common.{◌≡◌, ◌≢◌, ℕ, zero, suc, [], None, Some, sym, ap, subst, ◌∙◌, ⊎_elim}
+use Rattle.std.proofs.Common.{◌≡◌, ◌≢◌, ◌≤◌, ℕ, zero, suc, [], None, Some, sym, ap, subst, ◌∙◌, ⊎_elim}
 use Rattle.std.proofs.lemmas.Bool.{cases_eq}
 use Rattle.std.specs.Prelude.{IsSomeAnd}
 use Rattle.std.specs.FinMap as map
 use Rattle.lfs_types.specs.Tree.{Row, root}
 use Rattle.lfs_types.specs.declared.attrs.Kind.TheVariants.{Directory}
+use Rattle.lfs_types.specs.declared.limits.TheConstants.{FIRST_INODE}
 use Rattle.lfs_model.specs.World.{Rows, child, parent_of, ancestor, IsTree}
 use Rattle.lfs_model.proofs.Children.{unique-new}
 use Rattle.lfs_types.proofs.Maps.{get-insert_same, get-insert_other}
@@ -46,8 +47,8 @@ module _ (rows : Rows) (tree : IsTree rows) (n : ℕ) (row dir : Row)
       (subst (λ (x : Row). ancestor grown k x.parent ≡ root) (sym is) (climb k row.parent dir there way))
 
   -- the rows with the new one are a tree
-  pub IsTree-grown : IsTree grown
-  IsTree-grown = record {
+  pub IsTree-grown : FIRST_INODE ≤ n → IsTree grown
+  IsTree-grown first = record {
     rooted = subst (λ o. IsSomeAnd o (λ r. (r.parent ≡ root) × (r.name ≡ []) × (r.file.kind ≡ Directory)))
         (sym (get-insert_other rows n row root (λ e. below (sym e)))) tree.rooted;
     unique = unique-new rows n row absent below free tree.unique;
@@ -66,5 +67,9 @@ module _ (rows : Rows) (tree : IsTree rows) (n : ℕ) (row dir : Row)
     empty = λ m r e k. ⊎_elim
         (λ same. ap (λ (x : Row). x.file.bytes) (is_row m r e same) ∙ empty)
         (λ other. tree.empty m r (was_row m r e other) k)
+        (cases_eq m n);
+    numbers = λ m r e apart. ⊎_elim
+        (λ same. subst (λ k. FIRST_INODE ≤ k) (sym same) first)
+        (λ other. tree.numbers m r (was_row m r e other) apart)
         (cases_eq m n);
   }

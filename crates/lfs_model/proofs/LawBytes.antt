@@ -1,5 +1,5 @@
 -- What each call makes of each byte, and who set it last.
-use Rattle.std.proofs.Common.{◌≡◌, ◌≢◌, ◌⊎◌, ℕ, ◌+◌, ◌-◌, ◌<◌, ◌≤◌, List, [], ◌∷◌, ◌++◌, length, get_or, take, drop, replicate, Option, None, Some, inl, inr, refl, sym, ap, subst, ◌∙◌, ⊎_elim, arith, append_assoc, append-nil, length-append, length-drop, length-take, get_or-take, get_or-drop}
+use Rattle.std.proofs.Common.{◌≡◌, ◌≢◌, ◌⊎◌, ℕ, ◌+◌, ◌-◌, ◌==◌, ◌<◌, ◌≤◌, Bool, true, false, cond, List, [], ◌∷◌, ◌++◌, length, get_or, take, drop, replicate, Option, None, Some, inl, inr, refl, sym, ap, subst, ◌∙◌, ⊎_elim, arith, append_assoc, append-nil, length-append, length-drop, length-take, get_or-take, get_or-drop}
 use Rattle.std.specs.Prelude.{min}
 use Rattle.std.proofs.Math.ListN.{get_or-append}
 use Rattle.std.proofs.Math.Seq.{get_or-append_right}
@@ -18,9 +18,9 @@ use Rattle.lfs_types.specs.declared.request.Request.TheVariants.{Stat, Read, Wri
 use Rattle.lfs_model.specs.declared.journal.Entry.{Entry}
 use Rattle.lfs_model.specs.declared.journal.Event.{Event}
 use Rattle.lfs_model.specs.declared.journal.Event.TheVariants.{User, Cleaner}
-use Rattle.lfs_model.specs.World.{Rows, file_at, IsTree}
+use Rattle.lfs_model.specs.World.{Rows, child, file_at, IsTree}
 use Rattle.lfs_model.specs.Rules.{reached, front, last, start_of}
-use Rattle.lfs_model.specs.Effects.{effect, least_unused, with_file, with_place, new_file, written, cut, given}
+use Rattle.lfs_model.specs.Effects.{effect, after_rename, least_unused, with_file, with_place, without_row, new_file, written, cut, given}
 use Rattle.lfs_model.specs.LawsBytes.{SetsByte, SetsSome, IsLastSet, LastWritten}
 use Rattle.lfs_model.specs.LawsRuns.{IsServed, NoneServed}
 use Rattle.lfs_model.specs.Steps.{after_event, world_after, world_of}
@@ -153,12 +153,17 @@ module _ (numbers : ℕ) (w : World) (n i : ℕ) (after : Row) where
       }))
       before.how
 
+  -- a row that is left where another is taken away
+  left : (request : Request) (k : ℕ) → ((value : ℕ) → SetsByte numbers w n i value request → ⊥)
+      → map.get (map.remove w.rows k) n ≡ Some after → Byte numbers w request n i after
+  left request k unset h = ⊎_elim
+      (λ same. let none : map.get (map.remove w.rows k) n ≡ None = ap (map.get (map.remove w.rows k)) same ∙ get-remove_same w.rows k in absurd (cc))
+      (λ other. whole request after (sym (get-remove_other w.rows k n other) ∙ h) refl unset)
+      (cases_eq n k)
+
   removed : (request : Request) (path : List (List ℕ)) → ((value : ℕ) → SetsByte numbers w n i value request → ⊥)
       → map.get (map.remove w.rows (reached w.rows root path)) n ≡ Some after → Byte numbers w request n i after
-  removed request path unset h = ⊎_elim
-      (λ same. let none : map.get (map.remove w.rows (reached w.rows root path)) n ≡ None = ap (map.get (map.remove w.rows (reached w.rows root path))) same ∙ get-remove_same w.rows (reached w.rows root path) in absurd (cc))
-      (λ other. whole request after (sym (get-remove_other w.rows (reached w.rows root path) n other) ∙ h) refl unset)
-      (cases_eq n (reached w.rows root path))
+  removed request path unset h = left request (reached w.rows root path) unset h
 
   -- a row's place alone changes
   placed : (request : Request) (m parent : ℕ) (name : List ℕ) (o : Option Row) → map.get w.rows m ≡ o → ((value : ℕ) → SetsByte numbers w n i value request → ⊥)
@@ -177,6 +182,34 @@ module _ (numbers : ℕ) (w : World) (n i : ℕ) (after : Row) where
       }))
       (λ other. whole request after (sym (get-insert_other w.rows m (record r { parent = parent; name = name }) n other) ∙ h) refl unset)
       (cases_eq n m)
+
+  -- and so where another row is taken away from there
+  swapped : (request : Request) (m parent k : ℕ) (name : List ℕ) (o : Option Row) → map.get w.rows m ≡ o → ((value : ℕ) → SetsByte numbers w n i value request → ⊥)
+      → map.get (with_place o m parent name (without_row k w)).rows n ≡ Some after → Byte numbers w request n i after
+  swapped request m parent k name None e unset h = left request k unset h
+  swapped request m parent k name (Some r) e unset h = ⊎_elim
+      (λ same.
+      let new : map.get (map.insert (map.remove w.rows k) m (record r { parent = parent; name = name })) n ≡ Some (record r { parent = parent; name = name }) = ap (map.get (map.insert (map.remove w.rows k) m (record r { parent = parent; name = name }))) same ∙ get-insert_same (map.remove w.rows k) m (record r { parent = parent; name = name }) in
+      let is : record r { parent = parent; name = name } ≡ after = cc in
+      inr (record {
+        row = r;
+        there = ap (map.get w.rows) same ∙ e;
+        kind = ap (λ (x : Row). x.file.kind) is;
+        same = ap (λ (x : Row). get_or x.file.bytes i 0) is;
+        unset = unset;
+      }))
+      (λ other. left request k unset (sym (get-insert_other (map.remove w.rows k) m (record r { parent = parent; name = name }) n other) ∙ h))
+      (cases_eq n m)
+
+  over : (request : Request) (m parent k : ℕ) (name : List ℕ) (b : Bool) → ((value : ℕ) → SetsByte numbers w n i value request → ⊥)
+      → map.get (cond b w (with_place (map.get w.rows m) m parent name (without_row k w))).rows n ≡ Some after → Byte numbers w request n i after
+  over request m parent k name true unset h = whole request after h refl unset
+  over request m parent k name false unset h = swapped request m parent k name (map.get w.rows m) refl unset h
+
+  renamed : (request : Request) (m parent : ℕ) (name : List ℕ) (o : Option ℕ) → ((value : ℕ) → SetsByte numbers w n i value request → ⊥)
+      → map.get (after_rename w m o parent name).rows n ≡ Some after → Byte numbers w request n i after
+  renamed request m parent name None unset h = placed request m parent name _ refl unset h
+  renamed request m parent name (Some k) unset h = over request m parent k name (k == m) unset h
 
   -- a Write of some bytes
   rewritten : (caller : Caller) (path : List (List ℕ)) (place : Place) (b : ℕ) (bs : List ℕ)
@@ -265,7 +298,8 @@ module _ (numbers : ℕ) (w : World) (n i : ℕ) (after : Row) where
       (cases_eq n (least_unused w.rows numbers 4))
   byte caller (Unlink path) kind h = removed _ path (λ value sets. sets) h
   byte caller (Rmdir path) kind h = removed _ path (λ value sets. sets) h
-  byte caller (Rename from to) kind h = placed _ (reached w.rows root from) (reached w.rows root (front to)) (last to) _ refl (λ value sets. sets) h
+  byte caller (Rename from to) kind h =
+      renamed _ (reached w.rows root from) (reached w.rows root (front to)) (last to) (child w.rows (reached w.rows root (front to)) (last to)) (λ value sets. sets) h
   byte caller (Chmod path mode) kind h = titled _ path (λ f. record f { mode = mode }) (λ f. refl) (λ f. refl) (λ value sets. sets) h
   byte caller (Chown path uid gid) kind h = titled _ path (given caller uid gid) (λ f. refl) (λ f. refl) (λ value sets. sets) h
   byte caller (Chflags path flags) kind h = titled _ path (λ f. record f { flags = flags }) (λ f. refl) (λ f. refl) (λ value sets. sets) h

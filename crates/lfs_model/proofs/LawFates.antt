@@ -1,5 +1,5 @@
 -- What a served call can do to a row that is there.
-use Rattle.std.proofs.Common.{◌≡◌, ◌≢◌, ℕ, ◌+◌, ◌-◌, ◌==◌, ◌&&◌, ◌||◌, not, Bool, true, false, cond, List, [], ◌∷◌, ◌++◌, length, replicate, Option, None, Some, inl, inr, refl, sym, ap, subst, ◌∙◌, ⊎_elim, arith, append-nil, eqb-true, drop_of_length-le, take_all}
+use Rattle.std.proofs.Common.{◌≡◌, ◌≢◌, ◌⊎◌, ℕ, ◌+◌, ◌-◌, ◌==◌, ◌&&◌, ◌||◌, not, Bool, true, false, cond, List, [], ◌∷◌, ◌++◌, length, replicate, Option, None, Some, inl, inr, refl, sym, ap, ◌∙◌, ⊎_elim, arith, append-nil, eqb-true, drop_of_length-le, take_all}
 use Rattle.std.proofs.lemmas.Bool.{not-true, cases_eq}
 use Rattle.std.specs.FinMap as map
 use Rattle.lfs_types.specs.Caller.{Caller}
@@ -15,16 +15,15 @@ use Rattle.lfs_rules.specs.Grants.{grants_of}
 use Rattle.lfs_rules.specs.Locks.{is_immutable, is_append_only, may_set_flags, keeps_system_locks}
 use Rattle.lfs_rules.specs.Owners.{is_the_superuser, is_the_owner, is_owner_or_superuser, may_set_owner}
 use Rattle.lfs_rules.specs.SetId.{set_id_cleared}
-use Rattle.lfs_rules.specs.Sticky.{is_barred}
 use Rattle.lfs_types.specs.declared.rule.Rule.TheVariants.{FitsFile}
 use Rattle.std.specs.Prelude.{nat_le}
 use Rattle.lfs_model.specs.World.{Rows, file_at}
-use Rattle.lfs_model.specs.Rules.{decide, reached, front, last, row_grants, attrs_at, asks, start_of, file_max, is_end, walk, removing}
-use Rattle.lfs_model.specs.Effects.{effect, with_file, with_place, written, cut, given}
+use Rattle.lfs_model.specs.Rules.{decide, first_failing, reached, front, last, attrs_at, asks, start_of, file_max, is_end, walk, removing, arriving, moving_tests}
+use Rattle.lfs_model.specs.Effects.{effect, after_rename, with_file, with_place, without_row, written, cut, given}
 use Rattle.lfs_model.specs.LawsFlags.{SetsFlags}
 use Rattle.lfs_model.specs.LawOneThing.{KeepsMode}
 use Rattle.lfs_model.specs.Steps.{LacksInodes}
-use Rattle.lfs_model.proofs.Allowed.{MayChange, MayRemove, may_change, may_remove}
+use Rattle.lfs_model.proofs.Allowed.{MayChange, MayGo, MayRemove, may_change, may_go, may_remove}
 use Rattle.lfs_model.proofs.Deciding.{met_first, passes-append}
 use Rattle.lfs_model.proofs.LawUnused.{old_not_new}
 use Rattle.lfs_types.proofs.Maps.{get-insert_same, get-insert_other, get-remove_other}
@@ -58,9 +57,7 @@ pub record Reflagged (w : World) (caller : Caller) (request : Request) (n : ℕ)
   pub locks : keeps_system_locks w.level old.flags flags ≡ true
 
 -- a row's name was taken away, for good or for another
-pub record Displaced (w : World) (caller : Caller) (r : Row) : Type 0 where
-  pub granted : row_grants caller bits.Write (map.get w.rows r.parent) ≡ true
-  pub unbarred : is_barred caller (attrs_at w.rows r.parent) (attrs_of r.file) ≡ false
+pub record Displaced (r : Row) : Type 0 where
   pub mutable : is_immutable (attrs_of r.file) ≡ false
   pub rewritable : is_append_only (attrs_of r.file) ≡ false
 
@@ -70,7 +67,7 @@ pub data Fate (numbers : ℕ) (w : World) (caller : Caller) (request : Request) 
   Rewrites : (file : File) → map.get (effect numbers w caller request).rows n ≡ Some (record r { file = file }) → Rewritten caller r.file file → Fate numbers w caller request n r
   Retitles : (file : File) → map.get (effect numbers w caller request).rows n ≡ Some (record r { file = file }) → Retitled caller r.file file → Fate numbers w caller request n r
   Reflags : (flags : ℕ) → map.get (effect numbers w caller request).rows n ≡ Some (record r { file = record r.file { flags = flags } }) → Reflagged w caller request n r.file flags → Fate numbers w caller request n r
-  Displaces : Displaced w caller r → Fate numbers w caller request n r
+  Displaces : Displaced r → Fate numbers w caller request n r
 
 -- ---- the row in the changed map
 
@@ -156,23 +153,41 @@ module _ (numbers : ℕ) (w : World) (caller : Caller) (n : ℕ) (r : Row) (ther
     longer = longer;
   }
 
-  displaced_here : (path : List (List ℕ)) → n ≡ reached w.rows root path → MayRemove w.rows caller path → Displaced w caller r
-  displaced_here path same may =
-      let row : may.hangs.row ≡ r = cc (may.hangs.there, ap (map.get w.rows) same, there) in
-      let parent : reached w.rows root (front path) ≡ r.parent = sym may.hangs.hangs ∙ ap (λ (x : Row). x.parent) row in
-      record {
-        granted = subst (λ p. row_grants caller bits.Write (map.get w.rows p) ≡ true) parent may.granted;
-        unbarred = subst (λ p. is_barred caller (attrs_at w.rows p) (attrs_of r.file) ≡ false) parent (ap (is_barred caller (attrs_at w.rows (reached w.rows root (front path)))) (sym (attrs_here _ same)) ∙ may.unbarred);
-        mutable = ap is_immutable (sym (attrs_here _ same)) ∙ may.mutable;
-        rewritable = ap is_append_only (sym (attrs_here _ same)) ∙ may.rewritable;
-      }
+  displaced_here : (m : ℕ) → n ≡ m → is_immutable (attrs_at w.rows m) ≡ false → is_append_only (attrs_at w.rows m) ≡ false → Displaced r
+  displaced_here m same mutable rewritable = record {
+    mutable = ap is_immutable (sym (attrs_here m same)) ∙ mutable;
+    rewritable = ap is_append_only (sym (attrs_here m same)) ∙ rewritable;
+  }
 
   -- a removed row, or another
   removed_fate : (request : Request) (path : List (List ℕ)) → MayRemove w.rows caller path → (effect numbers w caller request).rows ≡ map.remove w.rows (reached w.rows root path) → Fate numbers w caller request n r
   removed_fate request path may is = ⊎_elim
-      (λ same. Displaces (displaced_here path same may))
+      (λ same. Displaces (displaced_here _ same may.mutable may.rewritable))
       (λ other. Stays (ap (λ (rows : Rows). map.get rows n) is ∙ get-remove_other w.rows (reached w.rows root path) n other ∙ there))
       (cases_eq n (reached w.rows root path))
+
+  -- what comes of the row where a Rename put one in another place
+  abbrev RenameFate : World → Type 0
+  RenameFate v = (map.get v.rows n ≡ Some r) ⊎ Displaced r
+
+  over_fate : (from to : List (List ℕ)) (m : ℕ) (b : Bool) → (m == reached w.rows root from) ≡ b → MayRemove w.rows caller from → (b ≡ false → MayGo w.rows caller from to (Some m))
+      → RenameFate (cond b w (with_place (map.get w.rows (reached w.rows root from)) (reached w.rows root from) (reached w.rows root (front to)) (last to) (without_row m w)))
+  over_fate from to m true e out goes = inl there
+  over_fate from to m false e out goes = ⊎_elim
+      (λ same. inr (displaced_here _ same out.mutable out.rewritable))
+      (λ other. ⊎_elim
+      (λ gone. let way = (goes refl).gives m refl in inr (displaced_here m gone way.mutable way.rewritable))
+      (λ away. inl (place_unchanged (map.get w.rows (reached w.rows root from)) (without_row m w) n _ (reached w.rows root (front to)) (last to) other ∙ get-remove_other w.rows m n away ∙ there))
+      (cases_eq n m))
+      (cases_eq n (reached w.rows root from))
+
+  renamed : (from to : List (List ℕ)) (o : Option ℕ) → first_failing (moving_tests w.rows caller from to o) ≡ None → MayRemove w.rows caller from
+      → RenameFate (after_rename w (reached w.rows root from) o (reached w.rows root (front to)) (last to))
+  renamed from to None h out = ⊎_elim
+      (λ same. inr (displaced_here _ same out.mutable out.rewritable))
+      (λ other. inl (place_unchanged (map.get w.rows (reached w.rows root from)) w n _ (reached w.rows root (front to)) (last to) other ∙ there))
+      (cases_eq n (reached w.rows root from))
+  renamed from to (Some m) h out = over_fate from to m (m == reached w.rows root from) refl out (λ other. may_go w.rows caller from to (Some m) other h)
 
   -- what each call makes of a row
   pub fate : (request : Request) → decide w caller request ≡ None → (LacksInodes numbers w request → ⊥) → Fate numbers w caller request n r
@@ -207,11 +222,9 @@ module _ (numbers : ℕ) (w : World) (caller : Caller) (n : ℕ) (r : Row) (ther
   fate (Unlink path) allowed room = removed_fate (Unlink path) path (may_remove w.rows caller path (passes-append (removing w.rows caller path) _ allowed).0) refl
   fate (Rmdir path) allowed room = removed_fate (Rmdir path) path (may_remove w.rows caller path (passes-append (removing w.rows caller path) _ allowed).0) refl
   fate (Rename from to) allowed room =
-      let may = may_remove w.rows caller from (passes-append (removing w.rows caller from) _ allowed).0 in
-      ⊎_elim
-      (λ same. Displaces (displaced_here from same may))
-      (λ other. Stays (place_unchanged (map.get w.rows (reached w.rows root from)) w n _ (reached w.rows root (front to)) (last to) other ∙ there))
-      (cases_eq n (reached w.rows root from))
+      let one = passes-append (removing w.rows caller from) _ allowed in
+      let two = passes-append (arriving w.rows caller to) _ one.1 in
+      ⊎_elim (λ e. Stays e) (λ d. Displaces d) (renamed from to _ two.1 (may_remove w.rows caller from one.0))
   fate (Chmod path mode) allowed room =
       let a = met_first _ _ _ (passes-append (walk w.rows caller 0 0 root path) _ allowed).1 in
       let b = met_first _ _ _ a.1 in

@@ -3,7 +3,7 @@ use Rattle.std.proofs.Common.{◌≡◌, ℕ, ◌≤◌, ◌&&◌, ◌||◌, not
 use Rattle.std.specs.Prelude.{IsSomeAnd}
 use Rattle.std.specs.FinMap as map
 use Rattle.lfs_types.specs.Caller.{Caller}
-use Rattle.lfs_types.specs.Tree.{File, Row, World, attrs_of}
+use Rattle.lfs_types.specs.Tree.{File, Row, World, root, attrs_of}
 use Rattle.lfs_types.specs.declared.answer.Answer.TheVariants.{Served, Denied, Refused}
 use Rattle.lfs_types.specs.declared.level.Level.{Level}
 use Rattle.lfs_types.specs.declared.level.Level.TheVariants.{PermanentlyInsecure, Insecure, Secure, HighlySecure}
@@ -17,7 +17,8 @@ use Rattle.lfs_rules.specs.SetId.{set_id_cleared}
 use Rattle.lfs_model.specs.declared.journal.Entry.{Entry}
 use Rattle.lfs_model.specs.declared.journal.Event.{Event}
 use Rattle.lfs_model.specs.declared.journal.Event.TheVariants.{User, Cleaner}
-use Rattle.lfs_model.specs.Rules.{decide}
+use Rattle.lfs_model.specs.Rules.{decide, front, last, reached}
+use Rattle.lfs_model.specs.World.{child}
 use Rattle.lfs_model.specs.Effects.{effect}
 use Rattle.lfs_model.specs.LawOneThing.{DiffersInFlags, KeepsMode}
 use Rattle.lfs_model.specs.LawsFlags.{SetsFlags, DropsLevel, Grows, ImmutableStays, AppendOnlyGrows, SystemImmutableStays, SystemAppendOnlyGrows}
@@ -26,7 +27,7 @@ use Rattle.lfs_model.specs.Steps.{IsEvent, IsLegal, after_event, world_after}
 use Rattle.lfs_model.proofs.Deciding.{met_first}
 use Rattle.lfs_model.proofs.LawFates.{Rewritten, Fate, fate}
 use Rattle.lfs_model.proofs.LawFates.Fate.{Stays, Rewrites, Retitles, Reflags, Displaces}
-use Rattle.lfs_model.proofs.LevelLemmas.{with_file-level, with_place-level}
+use Rattle.lfs_model.proofs.LevelLemmas.{with_file-level, after_rename-level}
 use Rattle.lfs_types.proofs.Somewhere.{some_and, is_some_and}
 
 -- ---- the level
@@ -47,7 +48,7 @@ level_fate numbers w caller (Create path mode) allowed = Same refl
 level_fate numbers w caller (Mkdir path mode) allowed = Same refl
 level_fate numbers w caller (Unlink path) allowed = Same refl
 level_fate numbers w caller (Rmdir path) allowed = Same refl
-level_fate numbers w caller (Rename from to) allowed = Same (with_place-level _ _ _ _ w)
+level_fate numbers w caller (Rename from to) allowed = Same (after_rename-level w _ (child w.rows (reached w.rows root (front to)) (last to)) _ _)
 level_fate numbers w caller (Chmod path mode) allowed = Same (with_file-level _ _ _ w)
 level_fate numbers w caller (Chown path uid gid) allowed = Same (with_file-level _ _ _ w)
 level_fate numbers w caller (Chflags path flags) allowed = Same (with_file-level _ _ _ w)
@@ -209,7 +210,7 @@ grows_none r = record { hangs = record { parents = refl; names = refl }; kind = 
 cleared_twice : (mode : ℕ) → set_id_cleared (set_id_cleared mode) ≡ set_id_cleared mode
 cleared_twice mode = omega arith
 
-mode_on : (old mid new : ℕ) → KeepsMode old mid → KeepsMode mid new → KeepsMode old new
+pub mode_on : (old mid new : ℕ) → KeepsMode old mid → KeepsMode mid new → KeepsMode old new
 mode_on old mid new a b = ⊎_elim
     (λ e. ⊎_elim (λ f. inl (f ∙ e)) (λ f. inr (f ∙ ap set_id_cleared e)) b)
     (λ e. ⊎_elim (λ f. inr (f ∙ e)) (λ f. inr (f ∙ ap set_id_cleared e ∙ cleared_twice old)) b) a

@@ -1,5 +1,5 @@
 -- Worlds that differ in unread bytes alone: every test and every answer is the same in both.
-use Rattle.std.proofs.Common.{◌≡◌, ℕ, ◌≤◌, ◌+◌, ◌==◌, not, Bool, true, List, [], ◌∷◌, ◌++◌, length, Option, None, Some, refl, sym, ap, ◌∙◌, arith}
+use Rattle.std.proofs.Common.{◌≡◌, ℕ, ◌≤◌, ◌+◌, ◌==◌, not, Bool, true, List, [], ◌∷◌, ◌++◌, length, Option, None, Some, refl, sym, ap, subst, ◌∙◌, arith}
 use Rattle.std.specs.Prelude.{find, filter, min, nat_le, unwrap_or, is_some, is_none, IsSome}
 use Rattle.std.specs.Prelude as lists
 use Rattle.std.specs.List.{list_any}
@@ -20,64 +20,66 @@ use Rattle.lfs_types.specs.declared.request.Request.{Request}
 use Rattle.lfs_types.specs.declared.request.Request.TheVariants.{Stat, Read, Write, List as Names, SetLength, Create, Mkdir, Unlink, Rmdir, Rename, Chmod, Chown, Chflags, SetLevel, Sync}
 use Rattle.lfs_types.specs.declared.rule.Rule.TheVariants.{IsDirectory, GrantsSearch, NameThere, NameFree, IsNotRoot, IsNotBeneathItself}
 use Rattle.lfs_rules.specs.Grants.{grants_of}
-use Rattle.lfs_model.specs.World.{Rows, hangs_in, hangs_as, child, children, name_of, file_at}
-use Rattle.lfs_model.specs.Rules.{first_failing, asks, is_directory_row, row_grants, attrs_at, next, reached, front, last, Check, walk, visited, making, making_tests, removing, removing_tests, leaves_test, position, unlink_tests, rmdir_tests, leaves_test, position, reaching, stat_tests, read_tests, list_tests, write_tests, length_tests, chmod_tests, chown_tests, chflags_tests, level_tests, rule_table, decide}
+use Rattle.lfs_model.specs.World.{IsTree, Rows, hangs_in, hangs_as, child, children, name_of, file_at}
+use Rattle.lfs_model.specs.Rules.{first_failing, asks, is_directory_row, row_grants, attrs_at, next, reached, front, last, Check, walk, visited, making, making_tests, removing, removing_tests, arriving, searching_tests, entering_tests, replaced_tests, moving_tests, last_tests, leaves_test, position, unlink_tests, rmdir_tests, leaves_test, position, reaching, stat_tests, read_tests, list_tests, write_tests, length_tests, chmod_tests, chown_tests, chflags_tests, level_tests, rule_table, decide}
 use Rattle.lfs_model.specs.Effects.{read_max, in_byte_order, answer_of}
 use Rattle.lfs_model.specs.LawUnread.{NumberLooksAlike, DifferUnread}
+use Rattle.lfs_model.specs.Rights.{Reaches}
 use Rattle.lfs_model.specs.Steps.{AllUsed, LacksInodes, IsCrowded, MayLack, IsAnswer}
+use Rattle.lfs_model.proofs.CallLaws.{shown_law}
 use Rattle.lfs_model.proofs.Deciding.{met_first, passes-append}
 use Rattle.lfs_model.proofs.SameKeys.{same_keys}
 
 -- ---- rows that look alike
 
-module _ (caller : Caller) where
-  alike_some : (o p : Option Row) → NumberLooksAlike caller o p → is_some o ≡ is_some p
+module _ (caller : Caller) (reaches : Type 0) where
+  alike_some : (o p : Option Row) → NumberLooksAlike caller reaches o p → is_some o ≡ is_some p
   alike_some None None h = refl
   alike_some None (Some s) h = absurd h
   alike_some (Some r) None h = absurd h
   alike_some (Some r) (Some s) h = refl
 
-  alike_attrs : (o p : Option Row) → NumberLooksAlike caller o p → attrs_of (file_at o) ≡ attrs_of (file_at p)
+  alike_attrs : (o p : Option Row) → NumberLooksAlike caller reaches o p → attrs_of (file_at o) ≡ attrs_of (file_at p)
   alike_attrs None None h = refl
   alike_attrs None (Some s) h = absurd h
   alike_attrs (Some r) None h = absurd h
   alike_attrs (Some r) (Some s) h = h.attrs
 
-  alike_directory : (o p : Option Row) → NumberLooksAlike caller o p → is_directory_row o ≡ is_directory_row p
+  alike_directory : (o p : Option Row) → NumberLooksAlike caller reaches o p → is_directory_row o ≡ is_directory_row p
   alike_directory None None h = refl
   alike_directory None (Some s) h = absurd h
   alike_directory (Some r) None h = absurd h
   alike_directory (Some r) (Some s) h = ap (λ (a : Attrs). is_directory_kind a.kind) h.attrs
 
-  alike_grants : (bit : Bit) (o p : Option Row) → NumberLooksAlike caller o p → row_grants caller bit o ≡ row_grants caller bit p
+  alike_grants : (bit : Bit) (o p : Option Row) → NumberLooksAlike caller reaches o p → row_grants caller bit o ≡ row_grants caller bit p
   alike_grants bit None None h = refl
   alike_grants bit None (Some s) h = absurd h
   alike_grants bit (Some r) None h = absurd h
   alike_grants bit (Some r) (Some s) h = ap (λ a. grants_of caller a bit) h.attrs
 
-  alike_name : (o p : Option Row) → NumberLooksAlike caller o p → name_of o ≡ name_of p
+  alike_name : (o p : Option Row) → NumberLooksAlike caller reaches o p → name_of o ≡ name_of p
   alike_name None None h = refl
   alike_name None (Some s) h = absurd h
   alike_name (Some r) None h = absurd h
   alike_name (Some r) (Some s) h = h.names
 
-  alike_in : (parent n : ℕ) (o p : Option Row) → NumberLooksAlike caller o p → hangs_in parent n o ≡ hangs_in parent n p
+  alike_in : (parent n : ℕ) (o p : Option Row) → NumberLooksAlike caller reaches o p → hangs_in parent n o ≡ hangs_in parent n p
   alike_in parent n None None h = refl
   alike_in parent n None (Some s) h = absurd h
   alike_in parent n (Some r) None h = absurd h
   alike_in parent n (Some r) (Some s) h = ap (λ q. lists.◌&&◌ (not (n == root)) (q == parent)) h.parents
 
-  alike_as : (parent : ℕ) (name : List ℕ) (n : ℕ) (o p : Option Row) → NumberLooksAlike caller o p → hangs_as parent name n o ≡ hangs_as parent name n p
+  alike_as : (parent : ℕ) (name : List ℕ) (n : ℕ) (o p : Option Row) → NumberLooksAlike caller reaches o p → hangs_as parent name n o ≡ hangs_as parent name n p
   alike_as parent name n None None h = refl
   alike_as parent name n None (Some s) h = absurd h
   alike_as parent name n (Some r) None h = absurd h
   alike_as parent name n (Some r) (Some s) h = λ i. lists.◌&&◌ (lists.◌&&◌ (not (n == root)) (h.parents i == parent)) (lists.bytes_eq (h.names i) name)
 
-  alike_bytes : (o p : Option Row) → NumberLooksAlike caller o p → grants_of caller (attrs_of (file_at o)) bits.Read ≡ true → (file_at o).bytes ≡ (file_at p).bytes
-  alike_bytes None None h g = refl
-  alike_bytes None (Some s) h g = absurd h
-  alike_bytes (Some r) None h g = absurd h
-  alike_bytes (Some r) (Some s) h g = h.bytes g
+  alike_bytes : (o p : Option Row) → NumberLooksAlike caller reaches o p → grants_of caller (attrs_of (file_at o)) bits.Read ≡ true → reaches → (file_at o).bytes ≡ (file_at p).bytes
+  alike_bytes None None h g up = refl
+  alike_bytes None (Some s) h g up = absurd h
+  alike_bytes (Some r) None h g up = absurd h
+  alike_bytes (Some r) (Some s) h g up = h.bytes g up
 
 -- ---- the tests
 
@@ -87,26 +89,26 @@ directory_at rows n = is_directory_row (map.get rows n)
 abbrev grants_at : Caller → Bit → Rows → ℕ → Bool
 grants_at caller bit rows n = row_grants caller bit (map.get rows n)
 
-module _ (caller : Caller) (w v : World) (differ : DifferUnread caller w v) where
+module _ (caller : Caller) (w v : World) (tree : IsTree w.rows) (differ : DifferUnread caller w v) where
   directories : directory_at w.rows ≡ directory_at v.rows
-  directories = λ i n. alike_directory caller _ _ (differ.rows n) i
+  directories = λ i n. alike_directory caller (Reaches w.rows caller n) _ _ (differ.rows n) i
 
   grants : (bit : Bit) → grants_at caller bit w.rows ≡ grants_at caller bit v.rows
-  grants bit = λ i n. alike_grants caller bit _ _ (differ.rows n) i
+  grants bit = λ i n. alike_grants caller (Reaches w.rows caller n) bit _ _ (differ.rows n) i
 
   attributes : attrs_at w.rows ≡ attrs_at v.rows
-  attributes = λ i n. alike_attrs caller _ _ (differ.rows n) i
+  attributes = λ i n. alike_attrs caller (Reaches w.rows caller n) _ _ (differ.rows n) i
 
   numbers_same : map.keys w.rows ≡ map.keys v.rows
-  numbers_same = same_keys w.rows v.rows (λ n. alike_some caller _ _ (differ.rows n))
+  numbers_same = same_keys w.rows v.rows (λ n. alike_some caller (Reaches w.rows caller n) _ _ (differ.rows n))
 
   child_same : child w.rows ≡ child v.rows
   unfolding child
-  child_same = λ i parent name. find (λ n. alike_as caller parent name n _ _ (differ.rows n) i) (numbers_same i)
+  child_same = λ i parent name. find (λ n. alike_as caller (Reaches w.rows caller n) parent name n _ _ (differ.rows n) i) (numbers_same i)
 
   children_same : children w.rows ≡ children v.rows
   unfolding children
-  children_same = λ i parent. filter (λ n. alike_in caller parent n _ _ (differ.rows n) i) (numbers_same i)
+  children_same = λ i parent. filter (λ n. alike_in caller (Reaches w.rows caller n) parent n _ _ (differ.rows n) i) (numbers_same i)
 
   reached_at : (at : ℕ) (names : List (List ℕ)) → reached w.rows at names ≡ reached v.rows at names
   reached_at at [] = refl
@@ -142,7 +144,34 @@ module _ (caller : Caller) (w v : World) (differ : DifferUnread caller w v) wher
       let dir = attributes i (reached_same i root (front names)) in
       let file = attributes i (reached_same i root names) in
       asks (not (length names == 0)) IsNotRoot 0 0
-      ∷ walk_at 0 0 root names i ++ removing_tests caller dir file (length (front names))
+      ∷ walk_at 0 0 root names i ++ removing_tests caller 0 dir file (length (front names))
+
+  arriving_same : (names : List (List ℕ)) → arriving w.rows caller names ≡ arriving v.rows caller names
+  arriving_same names = λ i.
+      asks (not (length names == 0)) IsNotRoot 1 0
+      ∷ walk_at 1 0 root (front names) i ++ searching_tests caller 1 (attributes i (reached_same i root (front names))) (length (front names))
+
+  -- what has the last name
+  named_same : (names : List (List ℕ)) → child w.rows (reached w.rows root (front names)) (last names) ≡ child v.rows (reached v.rows root (front names)) (last names)
+  named_same names = λ i. child_same i (reached_same i root (front names)) (last names)
+
+  last_same : (from to : List (List ℕ)) → last_tests w.rows caller from to ≡ last_tests v.rows caller from to
+  last_same from to = λ i.
+      let moved = reached_same i root from in
+      let way = visited_at root (front to) i in
+      let stays = reached_same i root (front from) == reached_same i root (front to) in
+      asks (not (list_any (λ n. n == moved) way)) IsNotBeneathItself 1 (position moved way)
+      ∷ leaves_test caller stays (attributes i moved) (length from)
+      ∷ []
+
+  moving_at : (from to : List (List ℕ)) (o : Option ℕ) → moving_tests w.rows caller from to o ≡ moving_tests v.rows caller from to o
+  moving_at from to None = λ i.
+      entering_tests caller 1 (attributes i (reached_same i root (front to))) (length (front to)) ++ last_same from to i
+  moving_at from to (Some m) = λ i.
+      let moved = reached_same i root from in
+      let k = length (front to) in
+      lists.cond (m == moved) [] ((removing_tests caller 1 (attributes i (reached_same i root (front to))) (attributes i m) k
+      ++ replaced_tests (length (children_same i m) == 0) (attributes i moved) (attributes i m) (k + 1)) ++ last_same from to i)
 
   -- what a path leads to has the same attributes
   reaching_same : (path : List (List ℕ)) (tests : Attrs → ℕ → List Check) → reaching w.rows caller path tests ≡ reaching v.rows caller path tests
@@ -161,14 +190,10 @@ module _ (caller : Caller) (w v : World) (differ : DifferUnread caller w v) wher
   table_same (Rmdir path) = λ i.
       let dir = reached_same i root path in
       removing_same path i ++ rmdir_tests (length (children_same i dir) == 0) (attributes i dir) (length path)
-  table_same (Rename from to) = λ i.
-      let moved = reached_same i root from in
-      let way = visited_at root (front to) i in
-      let stays = reached_same i root (front from) == reached_same i root (front to) in
-      removing_same from i ++ (making_same 1 to i ++
-      (asks (not (list_any (λ n. n == moved) way)) IsNotBeneathItself 1 (position moved way)
-      ∷ leaves_test caller stays (attributes i moved) (length from)
-      ∷ []))
+  table_same (Rename from to) =
+      let dir = reached w.rows root (front to) in
+      (λ i. removing_same from i ++ (arriving_same to i ++ moving_at from to (child w.rows dir (last to)) i))
+      ∙ ap (λ o. removing v.rows caller from ++ (arriving v.rows caller to ++ moving_tests v.rows caller from to o)) (named_same to)
   table_same (Chmod path mode) = reaching_same path (chmod_tests caller)
   table_same (Chown path uid gid) = reaching_same path (chown_tests caller uid gid)
   table_same (Chflags path flags) =
@@ -191,9 +216,11 @@ module _ (caller : Caller) (w v : World) (differ : DifferUnread caller w v) wher
   answer_same (Stat path) h = λ i. served.Stat (reached_same i root path) (attributes i (reached_same i root path))
   answer_same (Read path off len) h =
       let n = reached w.rows root path in
-      let here = alike_bytes caller _ _ (differ.rows n) (read_granted path off len h) in
+      let s = shown_law 0 w caller (Read path off len) (Served (answer_of w (Read path off len))) tree (h, (λ x. x), refl) in
+      let up = subst (Reaches w.rows caller) (sym s.named) s.reaches in
+      let here = alike_bytes caller (Reaches w.rows caller n) _ _ (differ.rows n) (read_granted path off len h) up in
       ap (λ bytes. served.Bytes (slice_of bytes off (min len read_max))) (here ∙ ap (λ m. (file_at (map.get v.rows m)).bytes) (reached_at root path))
-  answer_same (Names path) h = λ i. served.Names (in_byte_order (lists.map (λ n. alike_name caller _ _ (differ.rows n) i) (children_same i (reached_same i root path))))
+  answer_same (Names path) h = λ i. served.Names (in_byte_order (lists.map (λ n. alike_name caller (Reaches w.rows caller n) _ _ (differ.rows n) i) (children_same i (reached_same i root path))))
   answer_same (Write path place bytes) h = refl
   answer_same (SetLength path len) h = refl
   answer_same (Create path mode) h = refl
@@ -209,23 +236,23 @@ module _ (caller : Caller) (w v : World) (differ : DifferUnread caller w v) wher
 
   -- ---- the refusals
 
-  used_same : (o p : Option Row) → NumberLooksAlike caller o p → IsSome o → IsSome p
-  used_same None None h used = used
-  used_same None (Some s) h used = absurd h
-  used_same (Some r) None h used = absurd h
-  used_same (Some r) (Some s) h used = refl
+  used_same : (reaches : Type 0) (o p : Option Row) → NumberLooksAlike caller reaches o p → IsSome o → IsSome p
+  used_same reaches None None h used = used
+  used_same reaches None (Some s) h used = absurd h
+  used_same reaches (Some r) None h used = absurd h
+  used_same reaches (Some r) (Some s) h used = refl
 
-  used_back : (o p : Option Row) → NumberLooksAlike caller o p → IsSome p → IsSome o
-  used_back None None h used = used
-  used_back None (Some s) h used = absurd h
-  used_back (Some r) None h used = absurd h
-  used_back (Some r) (Some s) h used = refl
+  used_back : (reaches : Type 0) (o p : Option Row) → NumberLooksAlike caller reaches o p → IsSome p → IsSome o
+  used_back reaches None None h used = used
+  used_back reaches None (Some s) h used = absurd h
+  used_back reaches (Some r) None h used = absurd h
+  used_back reaches (Some r) (Some s) h used = refl
 
   all_used : (numbers : ℕ) → AllUsed numbers w.rows → AllUsed numbers v.rows
-  all_used numbers used n low high = used_same _ _ (differ.rows n) (used n low high)
+  all_used numbers used n low high = used_same _ _ _ (differ.rows n) (used n low high)
 
   all_used_back : (numbers : ℕ) → AllUsed numbers v.rows → AllUsed numbers w.rows
-  all_used_back numbers used n low high = used_back _ _ (differ.rows n) (used n low high)
+  all_used_back numbers used n low high = used_back _ _ _ (differ.rows n) (used n low high)
 
   lacks_same : (numbers : ℕ) (request : Request) → LacksInodes numbers w request → LacksInodes numbers v request
   lacks_same numbers (Stat path) h = h
@@ -276,7 +303,7 @@ module _ (caller : Caller) (w v : World) (differ : DifferUnread caller w v) wher
   crowded_same (Mkdir path mode) h = many_same path h
   crowded_same (Unlink path) h = h
   crowded_same (Rmdir path) h = h
-  crowded_same (Rename from to) h = many_same to h
+  crowded_same (Rename from to) h = (sym (named_same to) ∙ h.0, many_same to h.1)
   crowded_same (Chmod path mode) h = h
   crowded_same (Chown path uid gid) h = h
   crowded_same (Chflags path flags) h = h

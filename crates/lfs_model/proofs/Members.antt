@@ -83,12 +83,15 @@ module _ (rows : Rows) (parent : ℕ) where
       let test = λ (m : ℕ). hangs_in parent m (map.get rows m) in
       hanging_in rows parent n (map.get rows n) refl (All-contains (λ m. test m ≡ true) (children rows parent) n (filter_passes test (map.keys rows)) c)
 
+  -- its rows are listed by number
+  pub children-sorted : IsStrictlySortedBy nat_cmp (children rows parent)
+  unfolding children
+  children-sorted =
+      IsStrictlySortedBy-filter nat_cmp (λ m. hangs_in parent m (map.get rows m)) (map.keys rows) (keys_rise (map.entries rows) (true_from _ (map.entries_sorted rows)))
+
   -- a directory has each of its rows once
   pub children-rise : AllPairs (λ (m n : ℕ). m < n) (children rows parent)
-  unfolding children
-  children-rise =
-      AllPairs-from_increasing (children rows parent) (IsStrictlyIncreasing-from_sorted (children rows parent)
-      (IsStrictlySortedBy-filter nat_cmp (λ m. hangs_in parent m (map.get rows m)) (map.keys rows) (keys_rise (map.entries rows) (true_from _ (map.entries_sorted rows)))))
+  children-rise = AllPairs-from_increasing (children rows parent) (IsStrictlyIncreasing-from_sorted (children rows parent) children-sorted)
 
   -- ---- their names
 

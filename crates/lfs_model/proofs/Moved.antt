@@ -1,10 +1,11 @@
 -- The tree after a row got another place in it.
-use Rattle.std.proofs.Common.{◌≡◌, ◌≢◌, ℕ, zero, suc, List, [], None, Some, refl, sym, ap, subst, ◌∙◌, ⊎_elim}
+use Rattle.std.proofs.Common.{◌≡◌, ◌≢◌, ◌≤◌, ℕ, zero, suc, List, [], None, Some, refl, sym, ap, subst, ◌∙◌, ⊎_elim}
 use Rattle.std.proofs.lemmas.Bool.{cases_eq}
 use Rattle.std.specs.Prelude.{IsSomeAnd}
 use Rattle.std.specs.FinMap as map
 use Rattle.lfs_types.specs.Tree.{Row, root}
 use Rattle.lfs_types.specs.declared.attrs.Kind.TheVariants.{Directory}
+use Rattle.lfs_types.specs.declared.limits.TheConstants.{FIRST_INODE}
 use Rattle.lfs_model.specs.World.{Rows, child, parent_of, ancestor, IsTree}
 use Rattle.lfs_types.proofs.Maps.{get-insert_same, get-insert_other, each_inserted}
 use Rattle.lfs_model.proofs.MovedRows.{unique-moved}
@@ -74,4 +75,5 @@ module _ (rows : Rows) (tree : IsTree rows) (n : ℕ) (old : Row) (was : map.get
         (climb_moved n refl)
         (λ m x far e. let way = tree.reached m x e in climb way.0 m way.1);
     empty = each_inserted rows n row (λ m x. x.file.kind ≡ Directory → x.file.bytes ≡ []) (tree.empty n old was) (λ m x far e. tree.empty m x e);
+    numbers = each_inserted rows n row (λ m x. m ≢ root → FIRST_INODE ≤ m) (tree.numbers n old was) (λ m x far e. tree.numbers m x e);
   }

@@ -24,7 +24,8 @@ module _ (a b : Rows) (same : (m : ℕ) → map.get a m ≡ map.get b m) where
   answer_too parent name None h = λ m c. h m (hung_too parent name m c)
   answer_too parent name (Some m) h = hangs_too parent name m h
 
-  child-same : IsUnique a → (parent : ℕ) (name : List ℕ) → child b parent name ≡ child a parent name
+  -- the look-ups find the same
+  pub child-same : IsUnique a → (parent : ℕ) (name : List ℕ) → child b parent name ≡ child a parent name
   child-same unique parent name = child-answer b (unique-same unique) parent name (child a parent name) (answer_too parent name _ (is_child_answer a parent name _ refl))
 
 -- ---- a row at another place

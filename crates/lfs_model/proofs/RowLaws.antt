@@ -1,11 +1,10 @@
 -- The laws of what changed of a row, from what came of it.
-use Rattle.std.proofs.Common.{◌≡◌, ◌≢◌, ◌⊎◌, ℕ, cond, false, List, Option, None, Some, inl, inr, refl, sym, ap, subst, ◌∙◌, ⊎_elim, arith, ne_eqb}
+use Rattle.std.proofs.Common.{◌≡◌, ◌≢◌, ◌⊎◌, ℕ, cond, List, Option, None, Some, inl, inr, refl, sym, ap, subst, ◌∙◌, ⊎_elim, ne_eqb}
 use Rattle.std.proofs.lemmas.Bool.{eq-eqb}
 use Rattle.std.specs.FinMap as map
 use Rattle.lfs_types.specs.Caller.{Caller}
 use Rattle.lfs_types.specs.Tree.{Row, World}
 use Rattle.lfs_types.specs.declared.request.Request.{Request}
-use Rattle.lfs_rules.specs.Bits.{has_bit}
 use Rattle.lfs_rules.specs.SetId.{set_id_cleared}
 use Rattle.lfs_model.specs.Effects.{mode_after}
 use Rattle.lfs_model.specs.LawGone as gone
@@ -14,7 +13,6 @@ use Rattle.lfs_model.specs.LawRewritten.{MayRewrite, Rewritten}
 use Rattle.lfs_model.specs.LawMode.{IsChmod, LosesSetId, Remoded}
 use Rattle.lfs_model.specs.LawOwner.{SameOwner, SetsOwner, MayGive, Given}
 use Rattle.lfs_model.specs.LawFlagged.{MayReflag, Reflagged}
-use Rattle.lfs_model.specs.LawSetId.{SameBytesAndOwner, LosesSetIds}
 use Rattle.lfs_model.specs.Rights.{EachCall}
 use Rattle.lfs_model.proofs.Fates.{Fate, fate}
 use Rattle.lfs_model.proofs.Fates.Fate.{Stays, Goes, Moves, Changes, Remodes, Gives, Reflags}
@@ -37,9 +35,6 @@ hangs_by r x s e parent name = record { parents = ap (λ (y : Row). y.parent) e 
 owner_by : (r x s : Row) → s ≡ x → x.file.uid ≡ r.file.uid → x.file.gid ≡ r.file.gid → SameOwner r.file s.file
 owner_by r x s e uid gid = record { uid = ap (λ (y : Row). y.file.uid) e ∙ uid; gid = ap (λ (y : Row). y.file.gid) e ∙ gid }
 
-bytes_by : (r x s : Row) → s ≡ x → x.file.bytes ≡ r.file.bytes → x.file.uid ≡ r.file.uid → x.file.gid ≡ r.file.gid → SameBytesAndOwner r.file s.file
-bytes_by r x s e bytes uid gid = record { bytes = ap (λ (y : Row). y.file.bytes) e ∙ bytes; owner = owner_by r x s e uid gid }
-
 -- a caller other than the superuser clears the set-id bits
 mode_ordinary : (caller : Caller) (mode : ℕ) → caller.uid ≢ 0 → mode_after caller mode ≡ set_id_cleared mode
 mode_ordinary caller mode other = ap (λ b. cond b mode (set_id_cleared mode)) (ne_eqb caller.uid 0 other)
@@ -48,13 +43,10 @@ mode_ordinary caller mode other = ap (λ b. cond b mode (set_id_cleared mode)) (
 mode_changed : (caller : Caller) (mode : ℕ) → mode_after caller mode ≢ mode → caller.uid ≢ 0
 mode_changed caller mode differs super = differs (ap (λ b. cond b mode (set_id_cleared mode)) (eq-eqb caller.uid 0 super))
 
-no_set_id : (mode : ℕ) → (has_bit (set_id_cleared mode) 0o4000 ≡ false) × (has_bit (set_id_cleared mode) 0o2000 ≡ false)
-no_set_id mode = (ne_eqb _ _ (omega arith), ne_eqb _ _ (omega arith))
-
 module _ (w : World) (caller : Caller) (request : Request) (v : World) (n : ℕ) (r : Row) where
-  gone_by : Fate w caller request v n r → map.get v.rows n ≡ None → gone.MayRemove w caller request n r
+  gone_by : Fate w caller request v n r → map.get v.rows n ≡ None → gone.MayRemove w caller request n r × gone.TakesOver w v request r
   gone_by (Stays e) none = gone_from _ _ none e
-  gone_by (Goes e x) none = x
+  gone_by (Goes e x over) none = (x, over)
   gone_by (Moves parent name e x) none = gone_from _ _ none e
   gone_by (Changes bytes e x) none = gone_from _ _ none e
   gone_by (Remodes mode e x) none = gone_from _ _ none e
@@ -64,7 +56,7 @@ module _ (w : World) (caller : Caller) (request : Request) (v : World) (n : ℕ)
   module _ (s : Row) (is : map.get v.rows n ≡ Some s) where
     moved_by : Fate w caller request v n r → (HangsStill r s → ⊥) → MayMove w caller request n r s.parent s.name
     moved_by (Stays e) differs = absurd (differs (hangs_by r _ s (row_of _ _ s e is) refl refl))
-    moved_by (Goes e x) differs = gone_from _ _ e is
+    moved_by (Goes e x over) differs = gone_from _ _ e is
     moved_by (Moves parent name e x) differs =
         subst (λ (y : Row). MayMove w caller request n r y.parent y.name) (sym (row_of _ _ s e is)) x
     moved_by (Changes bytes e x) differs = absurd (differs (hangs_by r _ s (row_of _ _ s e is) refl refl))
@@ -77,7 +69,7 @@ module _ (w : World) (caller : Caller) (request : Request) (v : World) (n : ℕ)
 
     rewritten_by : Fate w caller request v n r → s.file.bytes ≢ r.file.bytes → MayRewrite w caller request n r s.file.bytes
     rewritten_by (Stays e) differs = absurd (differs (ap bytes_in (row_of _ _ s e is)))
-    rewritten_by (Goes e x) differs = gone_from _ _ e is
+    rewritten_by (Goes e x over) differs = gone_from _ _ e is
     rewritten_by (Moves parent name e x) differs = absurd (differs (ap bytes_in (row_of _ _ s e is)))
     rewritten_by (Changes bytes e x) differs = subst (λ (y : Row). MayRewrite w caller request n r y.file.bytes) (sym (row_of _ _ s e is)) x
     rewritten_by (Remodes mode e x) differs = absurd (differs (ap bytes_in (row_of _ _ s e is)))
@@ -89,7 +81,7 @@ module _ (w : World) (caller : Caller) (request : Request) (v : World) (n : ℕ)
 
     remoded_by : Fate w caller request v n r → s.file.mode ≢ r.file.mode → IsChmod w caller request n r s ⊎ LosesSetId w caller request n r s
     remoded_by (Stays e) differs = absurd (differs (ap mode_in (row_of _ _ s e is)))
-    remoded_by (Goes e x) differs = gone_from _ _ e is
+    remoded_by (Goes e x over) differs = gone_from _ _ e is
     remoded_by (Moves parent name e x) differs = absurd (differs (ap mode_in (row_of _ _ s e is)))
     remoded_by (Changes bytes e x) differs =
         let same = row_of _ _ s e is in
@@ -105,7 +97,7 @@ module _ (w : World) (caller : Caller) (request : Request) (v : World) (n : ℕ)
 
     given_by : Fate w caller request v n r → (SameOwner r.file s.file → ⊥) → MayGive w caller request n r s.file.uid s.file.gid
     given_by (Stays e) differs = absurd (differs (owner_by r _ s (row_of _ _ s e is) refl refl))
-    given_by (Goes e x) differs = gone_from _ _ e is
+    given_by (Goes e x over) differs = gone_from _ _ e is
     given_by (Moves parent name e x) differs = absurd (differs (owner_by r _ s (row_of _ _ s e is) refl refl))
     given_by (Changes bytes e x) differs = absurd (differs (owner_by r _ s (row_of _ _ s e is) refl refl))
     given_by (Remodes mode e x) differs = absurd (differs (owner_by r _ s (row_of _ _ s e is) refl refl))
@@ -124,25 +116,12 @@ module _ (w : World) (caller : Caller) (request : Request) (v : World) (n : ℕ)
 
     reflagged_by : Fate w caller request v n r → s.file.flags ≢ r.file.flags → MayReflag w caller request n r s.file.flags
     reflagged_by (Stays e) differs = absurd (differs (ap flags_in (row_of _ _ s e is)))
-    reflagged_by (Goes e x) differs = gone_from _ _ e is
+    reflagged_by (Goes e x over) differs = gone_from _ _ e is
     reflagged_by (Moves parent name e x) differs = absurd (differs (ap flags_in (row_of _ _ s e is)))
     reflagged_by (Changes bytes e x) differs = absurd (differs (ap flags_in (row_of _ _ s e is)))
     reflagged_by (Remodes mode e x) differs = absurd (differs (ap flags_in (row_of _ _ s e is)))
     reflagged_by (Gives uid gid e x) differs = absurd (differs (ap flags_in (row_of _ _ s e is)))
     reflagged_by (Reflags flags e x) differs = subst (λ (y : Row). MayReflag w caller request n r y.file.flags) (sym (row_of _ _ s e is)) x
-
-    -- a mode that another than the superuser's change left has no set-id bits
-    clear_mode : caller.uid ≢ 0 → s.file.mode ≡ mode_after caller r.file.mode → (has_bit s.file.mode 0o4000 ≡ false) × (has_bit s.file.mode 0o2000 ≡ false)
-    clear_mode other e = subst (λ m. (has_bit m 0o4000 ≡ false) × (has_bit m 0o2000 ≡ false)) (sym (e ∙ mode_ordinary caller r.file.mode other)) (no_set_id r.file.mode)
-
-    cleared_by : Fate w caller request v n r → caller.uid ≢ 0 → (SameBytesAndOwner r.file s.file → ⊥) → (has_bit s.file.mode 0o4000 ≡ false) × (has_bit s.file.mode 0o2000 ≡ false)
-    cleared_by (Stays e) other differs = absurd (differs (bytes_by r _ s (row_of _ _ s e is) refl refl refl))
-    cleared_by (Goes e x) other differs = gone_from _ _ e is
-    cleared_by (Moves parent name e x) other differs = absurd (differs (bytes_by r _ s (row_of _ _ s e is) refl refl refl))
-    cleared_by (Changes bytes e x) other differs = clear_mode other (ap mode_in (row_of _ _ s e is))
-    cleared_by (Remodes mode e x) other differs = absurd (differs (bytes_by r _ s (row_of _ _ s e is) refl refl refl))
-    cleared_by (Gives uid gid e x) other differs = clear_mode other (ap mode_in (row_of _ _ s e is))
-    cleared_by (Reflags flags e x) other differs = absurd (differs (bytes_by r _ s (row_of _ _ s e is) refl refl refl))
 
 -- ---- the laws
 
@@ -163,6 +142,3 @@ given_law numbers w caller request answer tree is n r s there after differs = gi
 
 pub reflagged_law : EachCall Reflagged
 reflagged_law numbers w caller request answer tree is n r s there after differs = reflagged_by w caller request _ n r s after (fate numbers w caller tree n r there request answer is) differs
-
-pub loses_set_ids : EachCall LosesSetIds
-loses_set_ids numbers w caller request answer tree is n r s there after other differs = cleared_by w caller request _ n r s after (fate numbers w caller tree n r there request answer is) other differs

@@ -52,6 +52,7 @@ opening_tree = record {
       subst (λ (x : Row). IsSomeAnd (map.get opening_rows x.parent) (λ p. p.file.kind ≡ Directory)) is.1 (is_some_and _ (get-insert_same map.empty root root_row) refl);
   reached = λ n r e. (0, (only_root n r e).0);
   empty = λ n r e k. let is = only_root n r e in ap (λ (x : Row). x.file.bytes) (sym is.1);
+  numbers = λ n r e apart. absurd (apart (only_root n r e).0);
 }
 
 pub none_contained : (e : Entry) → Contains {X = Entry} [] e → ⊥

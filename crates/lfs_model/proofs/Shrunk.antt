@@ -78,6 +78,16 @@ module _ (rows : Rows) (tree : IsTree rows) (n : ℕ) (below : n ≡ root → �
       let from : ancestor rows k r.parent ≡ root = subst (λ o. ancestor rows k (parent_of o) ≡ root) e h in
       subst (λ o. ancestor shrunk k (parent_of o) ≡ root) (sym here) (climb k r.parent up.value (parent_apart m r e) up.is from)
 
+  -- the way up of a row that is left is what it was
+  pub ancestors_left : (k m : ℕ) (r : Row) → m ≢ n → map.get rows m ≡ Some r → ancestor shrunk k m ≡ ancestor rows k m
+  unfolding ancestor
+  ancestors_left zero m r other e = refl
+  ancestors_left (suc k) m r other e =
+      let up = some_and (map.get rows r.parent) _ (tree.parents m r e) in
+      ap (λ o. ancestor shrunk k (parent_of o)) (get-remove_other rows n m other ∙ e)
+      ∙ ancestors_left k r.parent up.value (parent_apart m r e) up.is
+      ∙ sym (ap (λ o. ancestor rows k (parent_of o)) e)
+
   -- the rows without it are a tree
   pub IsTree-shrunk : IsTree shrunk
   IsTree-shrunk = record {
@@ -93,4 +103,5 @@ module _ (rows : Rows) (tree : IsTree rows) (n : ℕ) (below : n ≡ root → �
         let way = tree.reached m r was.1 in
         (way.0, climb way.0 m r was.0 was.1 way.1);
     empty = λ m r e. tree.empty m r (row_left rows n m r e).1;
+    numbers = λ m r e. tree.numbers m r (row_left rows n m r e).1;
   }

@@ -17,7 +17,7 @@ use Rattle.lfs_types.specs.declared.request.Place.{Place}
 use Rattle.lfs_types.specs.declared.request.Request.{Request}
 use Rattle.lfs_types.specs.declared.request.Request.TheVariants.{Stat, Read, Write, List as Names, SetLength, Create, Mkdir, Unlink, Rmdir, Rename, Chmod, Chown, Chflags, SetLevel, Sync}
 use Rattle.lfs_rules.specs.SetId.{set_id_cleared}
-use Rattle.lfs_model.specs.World.{Rows, file_at, name_of, children}
+use Rattle.lfs_model.specs.World.{Rows, file_at, name_of, child, children}
 use Rattle.lfs_model.specs.Rules.{front, last, reached, start_of}
 
 -- the least number from n up that no row has, looked for among so many numbers
@@ -70,6 +70,13 @@ abbrev pub with_place : Option Row → ℕ → ℕ → List ℕ → World → Wo
 with_place None n parent name w = w
 with_place (Some r) n parent name w = record w { rows = map.insert w.rows n (record r { parent = parent; name = name }) }
 
+-- the world after a row got a place to which a name leads here: another row is taken away from it, and a row that has it
+-- already stays
+abbrev pub after_rename : World → ℕ → Option ℕ → ℕ → List ℕ → World
+after_rename w n None parent name = with_place (map.get w.rows n) n parent name w
+after_rename w n (Some m) parent name =
+    if m == n then w else with_place (map.get w.rows n) n parent name (without_row m w)
+
 -- the world with a row's file changed
 abbrev pub with_change : World → List (List ℕ) → (File → File) → World
 with_change w path change = let n = reached w.rows root path in with_file (map.get w.rows n) n change w
@@ -94,8 +101,8 @@ effect numbers w caller (Mkdir path mode) = with_new numbers w caller path Direc
 effect numbers w caller (Unlink path) = without_row (reached w.rows root path) w
 effect numbers w caller (Rmdir path) = without_row (reached w.rows root path) w
 effect numbers w caller (Rename from to) =
-    let n = reached w.rows root from in
-    with_place (map.get w.rows n) n (reached w.rows root (front to)) (last to) w
+    let dir = reached w.rows root (front to) in
+    after_rename w (reached w.rows root from) (child w.rows dir (last to)) dir (last to)
 effect numbers w caller (Chmod path mode) = with_change w path (λ f. record f { mode = mode })
 effect numbers w caller (Chown path uid gid) = with_change w path (given caller uid gid)
 effect numbers w caller (Chflags path flags) = with_change w path (λ f. record f { flags = flags })

@@ -11,6 +11,7 @@ use Rattle.lfs_model.specs.declared.journal.Entry.{Entry}
 use Rattle.lfs_model.specs.declared.journal.Event.TheVariants.{User, Cleaner}
 use Rattle.lfs_model.specs.World.{Rows, IsTree}
 use Rattle.lfs_model.specs.Rules.{file_max}
+use Rattle.lfs_model.specs.LawDone.{Done}
 use Rattle.lfs_model.specs.LawFlagged.{Reflagged}
 use Rattle.lfs_model.specs.LawGone.{Gone}
 use Rattle.lfs_model.specs.LawLevel.{Relevelled}
@@ -20,7 +21,7 @@ use Rattle.lfs_model.specs.LawNew.{New}
 use Rattle.lfs_model.specs.LawOneThing.{OneThing}
 use Rattle.lfs_model.specs.LawOwner.{Given}
 use Rattle.lfs_model.specs.LawRewritten.{Rewritten}
-use Rattle.lfs_model.specs.LawSetId.{LosesSetIds}
+use Rattle.lfs_model.specs.LawServed.{IsAnsweredAsMay}
 use Rattle.lfs_model.specs.LawShown.{Shown}
 use Rattle.lfs_model.specs.Steps.{IsEvent, IsLegal, after_event, world_of}
 
@@ -29,9 +30,10 @@ pub record IsSound (rows : Rows) : Type 0 where
   pub tree : IsTree rows
   pub fits : (n : ℕ) (r : Row) → map.get rows n ≡ Some r → length r.file.bytes ≤ file_max
 
--- the laws of what one call changes and shows
+-- the laws of who may make a call, and of what one call does, changes and shows
 pub record MeetsLaws (numbers : ℕ) (w : World) (caller : Caller) (request : Request) (answer : Answer) (after : World)
     : Type 0 where
+  pub may : IsAnsweredAsMay w caller request answer
   pub gone : Gone numbers w caller request answer after
   pub new : New numbers w caller request answer after
   pub moved : Moved numbers w caller request answer after
@@ -39,9 +41,9 @@ pub record MeetsLaws (numbers : ℕ) (w : World) (caller : Caller) (request : Re
   pub remoded : Remoded numbers w caller request answer after
   pub given : Given numbers w caller request answer after
   pub reflagged : Reflagged numbers w caller request answer after
-  pub set_ids : LosesSetIds numbers w caller request answer after
   pub relevelled : Relevelled numbers w caller request answer after
   pub one_thing : OneThing numbers w caller request answer after
+  pub done : Done numbers w caller request answer after
   pub shown : Shown numbers w caller request answer after
 
 -- An entry stands lawfully between two worlds: it may happen in the first, both are sound trees, a user's call meets

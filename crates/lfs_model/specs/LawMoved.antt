@@ -8,7 +8,7 @@ use Rattle.lfs_types.specs.declared.attrs.Kind.TheVariants.{Directory}
 use Rattle.lfs_types.specs.declared.request.Request.{Request}
 use Rattle.lfs_types.specs.declared.request.Request.TheVariants.{Rename}
 use Rattle.lfs_model.specs.Rules.{reached, row_grants}
-use Rattle.lfs_model.specs.Rights.{Law, LeadsTo, MayPlace, MayTakeAway}
+use Rattle.lfs_model.specs.Rights.{Law, LeadsTo, MayTakePlace, MayTakeAway}
 
 -- the call is to move the row of this number to this parent and this name
 abbrev pub Renames : World → ℕ → ℕ → List ℕ → Request → Type 0
@@ -25,7 +25,7 @@ pub record HangsStill (old new : Row) : Type 0 where
 pub record MayMove (w : World) (caller : Caller) (request : Request) (n : ℕ) (r : Row) (parent : ℕ) (name : List ℕ)
     : Type 0 where
   pub taken : MayTakeAway w.rows caller n r.parent
-  pub placed : MayPlace w.rows caller parent name
+  pub placed : MayTakePlace w.rows caller r.file.kind parent name
   pub directory : r.file.kind ≡ Directory → parent ≢ r.parent → row_grants caller bits.Write (map.get w.rows n) ≡ true
   pub asked : Renames w n parent name request
 

@@ -1,13 +1,14 @@
--- A call changes one thing at most: one row, or the level. Of a row that stays it changes only its bytes, or parent
--- and name, or mode, or owner and group, or flags. A call that only looks, a Sync, and a call that isn't served change
--- nothing.
-use Rattle.std.specs.Prelude.{◌≡◌, ◌≢◌, ◌⊎◌, ℕ, Some}
+-- A call changes one thing at most: one row, or the level; a Rename two rows, where one gets the place of the other, which
+-- is gone. Of a row that stays it changes only its bytes, or parent and name, or mode, or owner and group, or flags. A
+-- call that only looks, a Sync, and a call that isn't served change nothing.
+use Rattle.std.specs.Prelude.{◌≡◌, ◌≢◌, ◌⊎◌, ℕ, None, Some}
 use Rattle.std.specs.FinMap as map
-use Rattle.lfs_types.specs.Tree.{Row, World}
+use Rattle.lfs_types.specs.Tree.{Row, World, root}
 use Rattle.lfs_types.specs.declared.answer.Answer.{Answer}
 use Rattle.lfs_types.specs.declared.request.Request.{Request}
-use Rattle.lfs_types.specs.declared.request.Request.TheVariants.{Stat, Read, List as Names, Sync}
+use Rattle.lfs_types.specs.declared.request.Request.TheVariants.{Stat, Read, List as Names, Rename, Sync}
 use Rattle.lfs_rules.specs.SetId.{set_id_cleared}
+use Rattle.lfs_model.specs.Rules.{reached}
 use Rattle.lfs_model.specs.Rights.{Law}
 use Rattle.lfs_model.specs.Runs.{IsUnserved}
 
@@ -51,9 +52,16 @@ IsLooking (Names path) = Unit {0}
 IsLooking Sync = Unit {0}
 IsLooking request = ⊥
 
+-- by a Rename the row at its first path, m, gets the place of that at its second, n, which is gone
+abbrev pub TakesPlace : World → Request → World → ℕ → ℕ → Type 0
+TakesPlace w (Rename from to) after m n =
+    (reached w.rows root from ≡ m) × (reached w.rows root to ≡ n) × (map.get after.rows n ≡ None)
+TakesPlace w request after m n = ⊥
+
 -- what a call changed is one thing
 pub record IsOneThing (w : World) (request : Request) (answer : Answer) (after : World) : Type 0 where
-  pub row : (m n : ℕ) → (IsAsBefore w after m → ⊥) → (IsAsBefore w after n → ⊥) → m ≡ n
+  pub row : (m n : ℕ) → (IsAsBefore w after m → ⊥) → (IsAsBefore w after n → ⊥)
+      → (m ≡ n) ⊎ TakesPlace w request after m n ⊎ TakesPlace w request after n m
   pub level : after.level ≢ w.level → after.rows ≡ w.rows
   pub part : (n : ℕ) (r s : Row) → map.get w.rows n ≡ Some r → map.get after.rows n ≡ Some s
       → DiffersInPlace r s ⊎ DiffersInBytes r s ⊎ DiffersInMode r s ⊎ DiffersInOwner r s ⊎ DiffersInFlags r s

@@ -1,6 +1,6 @@
 -- Nothing else makes a difference: two trees in which a caller has the same view decide his call alike, and answer it
 -- alike.
-use Rattle.std.specs.Prelude.{◌≡◌, ◌⊎◌, ◌↔◌, ℕ, ◌&&◌, Bool, true, false, List, [], ◌∷◌, Option, None, Some, option_map, if◌then◌else◌}
+use Rattle.std.specs.Prelude.{◌≡◌, ◌⊎◌, ◌↔◌, ℕ, ◌==◌, ◌&&◌, Bool, true, false, List, [], ◌∷◌, length, Option, None, Some, option_map, if◌then◌else◌}
 use Rattle.std.specs.Prelude as lists
 use Rattle.std.specs.FinMap as map
 use Rattle.lfs_types.specs.Caller.{Caller}
@@ -8,12 +8,12 @@ use Rattle.lfs_types.specs.Tree.{World, root, attrs_of}
 use Rattle.lfs_types.specs.declared.attrs.Attrs.{Attrs}
 use Rattle.lfs_types.specs.declared.attrs.Bit.TheVariants as bits
 use Rattle.lfs_types.specs.declared.request.Request.{Request}
-use Rattle.lfs_types.specs.declared.request.Request.TheVariants.{Read, List as Names, Rmdir}
+use Rattle.lfs_types.specs.declared.request.Request.TheVariants.{Read, List as Names, Rmdir, Rename}
 use Rattle.lfs_types.specs.declared.rule.Denial.{Denial}
-use Rattle.lfs_types.specs.declared.rule.Rule.TheVariants.{IsEmpty}
+use Rattle.lfs_types.specs.declared.rule.Rule.TheVariants.{IsEmpty, IsNotBeneathItself, GrantsWrite}
 use Rattle.lfs_rules.specs.Grants.{grants_of}
-use Rattle.lfs_model.specs.World.{Rows, file_at, IsChild, IsTree}
-use Rattle.lfs_model.specs.Rules.{decide, is_directory_row, row_grants}
+use Rattle.lfs_model.specs.World.{Rows, children, file_at, IsChild, IsTree}
+use Rattle.lfs_model.specs.Rules.{decide, is_directory_row, reached, row_grants}
 use Rattle.lfs_model.specs.Effects.{answer_of}
 use Rattle.lfs_model.specs.LawDenied.{child_of}
 use Rattle.lfs_model.specs.LawShown.{IsSeen}
@@ -59,11 +59,32 @@ pub record HasSameView (w v : World) (caller : Caller) (request : Request) : Typ
   pub rows : views w caller request ≡ views v caller request
   pub contents : ShowsAlike w v caller request
 
--- the one exception: a Rmdir tells whether the directory is empty, by the denial that says so and by no other
-abbrev pub TellsEmpty : Request → Option Denial → Option Denial → Type 0
-TellsEmpty (Rmdir path) None (Some denial) = denial.rule ≡ IsEmpty
-TellsEmpty (Rmdir path) (Some denial) None = denial.rule ≡ IsEmpty
-TellsEmpty request one other = ⊥
+-- whether nothing hangs in the row that a path leads to
+abbrev pub is_empty_at : World → List (List ℕ) → Bool
+is_empty_at w path = length (children w.rows (reached w.rows root path)) == 0
+
+-- a Rename is denied since what hangs at its second path isn't empty
+abbrev pub IsFull : List (List ℕ) → Option Denial → Type 0
+IsFull to o = o ≡ Some (record { rule = IsEmpty; path = 1; at = length to })
+
+-- what may come of a Rename whose second path leads to an empty directory: one of the rules behind, or none
+abbrev pub MayFollow : Option Denial → Type 0
+MayFollow None = Unit {0}
+MayFollow (Some denial) =
+    ((denial.rule ≡ IsNotBeneathItself) × (denial.path ≡ 1)) ⊎ ((denial.rule ≡ GrantsWrite) × (denial.path ≡ 0))
+
+-- the directory at a path is empty in one world, and not in another
+abbrev pub IsEmptyInOne : World → World → List (List ℕ) → Type 0
+IsEmptyInOne w v path = (is_empty_at w path ≡ true) × (is_empty_at v path ≡ false)
+
+-- the one exception: a Rmdir and a Rename tell whether the directory is empty that they would take away, by the denial
+-- that says so and by no other; and only where it is empty in one of the worlds and not in the other
+abbrev pub TellsEmpty : World → World → Request → Option Denial → Option Denial → Type 0
+TellsEmpty w v (Rmdir path) None (Some denial) = (denial.rule ≡ IsEmpty) × IsEmptyInOne w v path
+TellsEmpty w v (Rmdir path) (Some denial) None = (denial.rule ≡ IsEmpty) × IsEmptyInOne v w path
+TellsEmpty w v (Rename from to) one other =
+    (MayFollow one × IsFull to other × IsEmptyInOne w v to) ⊎ (MayFollow other × IsFull to one × IsEmptyInOne v w to)
+TellsEmpty w v request one other = ⊥
 
 -- such worlds decide the call alike; and where they allow it, they answer it alike
 abbrev pub View : Type 0
@@ -73,5 +94,5 @@ View =
     → IsTree v.rows
     → HasSameView w v caller request
     → ((decide w caller request ≡ decide v caller request)
-    ⊎ TellsEmpty request (decide w caller request) (decide v caller request))
+    ⊎ TellsEmpty w v request (decide w caller request) (decide v caller request))
     × (decide w caller request ≡ None → answer_of w request ≡ answer_of v request)

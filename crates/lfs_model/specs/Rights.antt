@@ -1,16 +1,17 @@
 -- What a caller may reach, write, own, take away and place in a tree, and what is said of each call.
-use Rattle.std.specs.Prelude.{◌≡◌, ◌≢◌, ◌⊎◌, ℕ, suc, ◌||◌, Bool, true, false, List, [], ◌∷◌, ◌++◌}
+use Rattle.std.specs.Prelude.{◌≡◌, ◌≢◌, ◌⊎◌, ℕ, suc, ◌||◌, Bool, true, false, List, [], ◌∷◌, ◌++◌, IsSomeAnd}
 use Rattle.std.specs.FinMap as map
 use Rattle.lfs_types.specs.Caller.{Caller}
-use Rattle.lfs_types.specs.Tree.{World, root}
+use Rattle.lfs_types.specs.Tree.{File, World, root}
 use Rattle.lfs_types.specs.declared.answer.Answer.{Answer}
 use Rattle.lfs_types.specs.declared.attrs.Attrs.{Attrs}
 use Rattle.lfs_types.specs.declared.attrs.Bit.TheVariants as bits
+use Rattle.lfs_types.specs.declared.attrs.Kind.{Kind}
 use Rattle.lfs_types.specs.declared.request.Request.{Request}
 use Rattle.lfs_types.specs.declared.request.Request.TheVariants.{Stat, Read, Write, List as Names, SetLength, Create, Mkdir, Unlink, Rmdir, Rename, Chmod, Chown, Chflags, SetLevel, Sync}
 use Rattle.lfs_rules.specs.Bits.{has_bit}
 use Rattle.lfs_rules.specs.Locks.{is_immutable, is_append_only}
-use Rattle.lfs_rules.specs.Owners.{is_owner_or_superuser}
+use Rattle.lfs_rules.specs.Owners.{is_in_group, is_owner_or_superuser}
 use Rattle.lfs_model.specs.World.{Rows, ancestor, IsChild, IsTree}
 use Rattle.lfs_model.specs.Rules.{attrs_at, is_directory_row, reached, row_grants}
 use Rattle.lfs_model.specs.Steps.{IsAnswer, after_answer}
@@ -41,9 +42,15 @@ pub record MayRetitle (rows : Rows) (caller : Caller) (n : ℕ) : Type 0 where
   pub owns : Owns rows caller n
   pub loose : is_fixed (attrs_at rows n) ≡ false
 
--- A caller may take a row away from its parent: he reaches the row and may write the parent, neither is fixed, and
--- if the parent is sticky, he is the superuser or the owner of one of the two.
+-- whoever owns a file may give it this owner and this group: the superuser any; another the present owner, with the
+-- present group or one of his own
+abbrev pub IsGivable : Caller → File → ℕ → ℕ → Type 0
+IsGivable caller file uid gid = (caller.uid ≡ 0) ⊎ ((uid ≡ file.uid) × ((gid ≡ file.gid) ⊎ (is_in_group caller gid ≡ true)))
+
+-- A caller may take a row away from its parent: it isn't the root, which is its own; he reaches the row and may write
+-- the parent, neither is fixed, and if the parent is sticky, he is the superuser or the owner of one of the two.
 pub record MayTakeAway (rows : Rows) (caller : Caller) (n parent : ℕ) : Type 0 where
+  pub below : n ≢ root
   pub reaches : Reaches rows caller n
   pub writes : MayWrite rows caller parent
   pub loose : is_fixed (attrs_at rows n) ≡ false
@@ -58,6 +65,20 @@ pub record MayPlace (rows : Rows) (caller : Caller) (parent : ℕ) (name : List 
   pub writes : MayWrite rows caller parent
   pub searches : row_grants caller bits.Search (map.get rows parent) ≡ true
   pub free : (m : ℕ) → IsChild rows parent name m → ⊥
+
+-- A row may be replaced by one of this kind: it is of that kind, nothing hangs in it, and the caller may take it away.
+pub record MayReplace (rows : Rows) (caller : Caller) (kind : Kind) (m parent : ℕ) : Type 0 where
+  pub taken : MayTakeAway rows caller m parent
+  pub childless : (name : List ℕ) (k : ℕ) → IsChild rows m name k → ⊥
+  pub alike : IsSomeAnd (map.get rows m) (λ r. r.file.kind ≡ kind)
+
+-- A caller may put a row of this kind under a parent and a name: the parent is a directory that he may write and that
+-- grants him search, and a row that has the place may be replaced.
+pub record MayTakePlace (rows : Rows) (caller : Caller) (kind : Kind) (parent : ℕ) (name : List ℕ) : Type 0 where
+  pub directory : is_directory_row (map.get rows parent) ≡ true
+  pub writes : MayWrite rows caller parent
+  pub searches : row_grants caller bits.Search (map.get rows parent) ≡ true
+  pub there : (m : ℕ) → IsChild rows parent name m → MayReplace rows caller kind m parent
 
 -- a path leads to a name in a directory: the names before the last lead to the directory, and the last is the name
 pub record LeadsTo (rows : Rows) (path : List (List ℕ)) (parent : ℕ) (name : List ℕ) : Type 0 where

@@ -109,6 +109,20 @@ abbrev pub position : ℕ → List ℕ → ℕ
 position n [] = 0
 position n (m ∷ ms) = if m == n then 0 else 1 + position n ms
 
+-- the tests of a directory in which a name is looked for, at component k of the path of this index
+abbrev pub searching_tests : Caller → ℕ → Attrs → ℕ → List Check
+searching_tests caller path dir k =
+    asks (is_directory_kind dir.kind) IsDirectory path k
+    ∷ asks (grants_of caller dir bits.Search) GrantsSearch path k
+    ∷ []
+
+-- the tests of a directory that gets a free name, at component k of the path of this index
+abbrev pub entering_tests : Caller → ℕ → Attrs → ℕ → List Check
+entering_tests caller path dir k =
+    asks (not (is_immutable dir)) IsMutable path k
+    ∷ asks (grants_of caller dir bits.Write) GrantsWrite path k
+    ∷ []
+
 -- the tests of the directory that gets a new name, at component k of the path of this index; the name may be free in it
 abbrev pub making_tests : Caller → Bool → ℕ → Attrs → ℕ → List Check
 making_tests caller free path dir k =
@@ -128,15 +142,16 @@ making rows caller path names =
     asks (not (length names == 0)) NameFree path 0
     ∷ walk rows caller path 0 root parents ++ making_tests caller free path (attrs_at rows dir) (length parents)
 
--- the tests of a directory, at component k, and of what hangs in it, whose name is to be taken away
-abbrev pub removing_tests : Caller → Attrs → Attrs → ℕ → List Check
-removing_tests caller dir file k =
-    asks (not (is_immutable dir)) IsMutable 0 k
-    ∷ asks (grants_of caller dir bits.Write) GrantsWrite 0 k
-    ∷ asks (not (is_append_only dir)) IsNotAppendOnly 0 k
-    ∷ asks (not (is_barred caller dir file)) PassesSticky 0 (k + 1)
-    ∷ asks (not (is_immutable file)) IsMutable 0 (k + 1)
-    ∷ asks (not (is_append_only file)) IsNotAppendOnly 0 (k + 1)
+-- the tests of a directory, at component k of the path of this index, and of what hangs in it, whose name is to be taken
+-- away
+abbrev pub removing_tests : Caller → ℕ → Attrs → Attrs → ℕ → List Check
+removing_tests caller path dir file k =
+    asks (not (is_immutable dir)) IsMutable path k
+    ∷ asks (grants_of caller dir bits.Write) GrantsWrite path k
+    ∷ asks (not (is_append_only dir)) IsNotAppendOnly path k
+    ∷ asks (not (is_barred caller dir file)) PassesSticky path (k + 1)
+    ∷ asks (not (is_immutable file)) IsMutable path (k + 1)
+    ∷ asks (not (is_append_only file)) IsNotAppendOnly path (k + 1)
     ∷ []
 
 -- the tests of a call that takes away a name, up to those that a file and a directory differ in
@@ -145,7 +160,7 @@ removing rows caller names =
     let dir = attrs_at rows (reached rows root (front names)) in
     let file = attrs_at rows (reached rows root names) in
     asks (not (length names == 0)) IsNotRoot 0 0
-    ∷ walk rows caller 0 0 root names ++ removing_tests caller dir file (length (front names))
+    ∷ walk rows caller 0 0 root names ++ removing_tests caller 0 dir file (length (front names))
 
 -- the test of what an Unlink removes
 abbrev pub unlink_tests : Attrs → ℕ → List Check
@@ -168,6 +183,52 @@ apart_test rows moved names =
 abbrev pub leaves_test : Caller → Bool → Attrs → ℕ → Check
 leaves_test caller stays file k =
     asks (not (is_directory_kind file.kind) || stays || grants_of caller file bits.Write) GrantsWrite 0 k
+
+-- ---- a row that gets another place
+
+-- whether a name leads to the row of this number
+abbrev pub is_there : ℕ → Option ℕ → Bool
+is_there n None = false
+is_there n (Some m) = m == n
+
+-- the tests of a row, at component k of the second path, that is to be replaced by a moved one: a file by a file, a
+-- directory, which may be empty, by a directory
+abbrev pub replaced_tests : Bool → Attrs → Attrs → ℕ → List Check
+replaced_tests empty moved there k =
+    asks (not (is_directory_kind there.kind) || is_directory_kind moved.kind) IsNoDirectory 1 k
+    ∷ asks (is_directory_kind there.kind || not (is_directory_kind moved.kind)) IsDirectory 1 k
+    ∷ asks empty IsEmpty 1 k
+    ∷ []
+
+-- the tests of the directory, at component k of the second path, in which a moved row gets a name that leads here
+abbrev pub placing_tests : Rows → Caller → ℕ → ℕ → Option ℕ → ℕ → List Check
+placing_tests rows caller moved dir None k = entering_tests caller 1 (attrs_at rows dir) k
+placing_tests rows caller moved dir (Some m) k =
+    removing_tests caller 1 (attrs_at rows dir) (attrs_at rows m) k
+    ++ replaced_tests (length (children rows m) == 0) (attrs_at rows moved) (attrs_at rows m) (k + 1)
+
+-- the last tests of a Rename: of the way to the new place, and of what is moved
+abbrev pub last_tests : Rows → Caller → List (List ℕ) → List (List ℕ) → List Check
+last_tests rows caller from to =
+    let moved = reached rows root from in
+    let stays = reached rows root (front from) == reached rows root (front to) in
+    apart_test rows moved to
+    ∷ leaves_test caller stays (attrs_at rows moved) (length from)
+    ∷ []
+
+-- the tests of a row that gets a place to which a name leads here: none where it has that place already
+abbrev pub moving_tests : Rows → Caller → List (List ℕ) → List (List ℕ) → Option ℕ → List Check
+moving_tests rows caller from to there =
+    let moved = reached rows root from in
+    if is_there moved there then [] else
+    placing_tests rows caller moved (reached rows root (front to)) there (length (front to)) ++ last_tests rows caller from to
+
+-- the tests of the way to a place, up to whether a name may be looked for there
+abbrev pub arriving : Rows → Caller → List (List ℕ) → List Check
+arriving rows caller names =
+    let parents = front names in
+    asks (not (length names == 0)) IsNotRoot 1 0
+    ∷ walk rows caller 1 0 root parents ++ searching_tests caller 1 (attrs_at rows (reached rows root parents)) (length parents)
 
 -- the tests of what a path leads to: the walk, and tests of its attributes at the last component
 abbrev pub reaching : Rows → Caller → List (List ℕ) → (Attrs → ℕ → List Check) → List Check
@@ -260,12 +321,8 @@ rule_table w caller (Rmdir path) =
     let dir = reached w.rows root path in
     removing w.rows caller path ++ rmdir_tests (length (children w.rows dir) == 0) (attrs_at w.rows dir) (length path)
 rule_table w caller (Rename from to) =
-    let moved = reached w.rows root from in
-    let stays = reached w.rows root (front from) == reached w.rows root (front to) in
-    removing w.rows caller from ++ (making w.rows caller 1 to ++
-    (apart_test w.rows moved to
-    ∷ leaves_test caller stays (attrs_at w.rows moved) (length from)
-    ∷ []))
+    removing w.rows caller from ++ (arriving w.rows caller to ++
+    moving_tests w.rows caller from to (child w.rows (reached w.rows root (front to)) (last to)))
 rule_table w caller (Chmod path mode) = reaching w.rows caller path (chmod_tests caller)
 rule_table w caller (Chown path uid gid) = reaching w.rows caller path (chown_tests caller uid gid)
 rule_table w caller (Chflags path flags) = reaching w.rows caller path (chflags_tests caller w.level flags)

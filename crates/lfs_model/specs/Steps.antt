@@ -14,8 +14,8 @@ use Rattle.lfs_model.specs.declared.journal.Entry.{Entry}
 use Rattle.lfs_model.specs.declared.journal.Event.{Event}
 use Rattle.lfs_model.specs.declared.journal.Event.TheVariants.{User, Cleaner}
 use Rattle.lfs_model.specs.Cleaning.{IsCleaning}
-use Rattle.lfs_model.specs.World.{Rows, children}
-use Rattle.lfs_model.specs.Rules.{decide, front, reached}
+use Rattle.lfs_model.specs.World.{Rows, child, children}
+use Rattle.lfs_model.specs.Rules.{decide, front, last, reached}
 use Rattle.lfs_model.specs.Effects.{effect, answer_of}
 
 -- a row has each number that a new row may get
@@ -28,11 +28,13 @@ LacksInodes numbers w (Create path mode) = AllUsed numbers w.rows
 LacksInodes numbers w (Mkdir path mode) = AllUsed numbers w.rows
 LacksInodes numbers w request = ⊥
 
--- the call puts a new name in a directory that has at least 140, one for each block
+-- the call puts a new name in a directory that has at least 140, one for each block; a Rename, one that isn't there
 abbrev pub IsCrowded : World → Request → Type 0
 IsCrowded w (Create path mode) = FILE_BLOCKS ≤ length (children w.rows (reached w.rows root (front path)))
 IsCrowded w (Mkdir path mode) = FILE_BLOCKS ≤ length (children w.rows (reached w.rows root (front path)))
-IsCrowded w (Rename from to) = FILE_BLOCKS ≤ length (children w.rows (reached w.rows root (front to)))
+IsCrowded w (Rename from to) =
+    (child w.rows (reached w.rows root (front to)) (last to) ≡ None)
+    × (FILE_BLOCKS ≤ length (children w.rows (reached w.rows root (front to))))
 IsCrowded w request = ⊥
 
 -- the call may change files, or writes what waits

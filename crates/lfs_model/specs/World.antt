@@ -1,10 +1,11 @@
 -- The tree that users see: rows that hang by parent and name.
-use Rattle.std.specs.Prelude.{◌≡◌, ℕ, zero, suc, ◌==◌, ◌&&◌, not, Bool, false, List, [], find, filter, Option, None, Some, bytes_eq, IsSomeAnd}
+use Rattle.std.specs.Prelude.{◌≡◌, ◌≢◌, ◌≤◌, ℕ, zero, suc, ◌==◌, ◌&&◌, not, Bool, false, List, [], find, filter, Option, None, Some, bytes_eq, IsSomeAnd}
 use Rattle.std.specs.Ordering.{nat_cmp}
 use Rattle.std.specs.FinMap as map
 use Rattle.std.specs.FinMap.{FinMap}
 use Rattle.lfs_types.specs.Tree.{File, Row, root, fresh_root}
 use Rattle.lfs_types.specs.declared.attrs.Kind.TheVariants.{Directory}
+use Rattle.lfs_types.specs.declared.limits.TheConstants.{FIRST_INODE}
 
 abbrev pub Rows : Type 0
 Rows = FinMap nat_cmp Row
@@ -45,14 +46,16 @@ pub record IsChild (rows : Rows) (parent : ℕ) (name : List ℕ) (n : ℕ) : Ty
   pub hangs : row.parent ≡ parent
   pub named : row.name ≡ name
 
--- The world is a tree: the root is a directory that is its own parent, no two rows share parent and name, every
--- parent is a directory, each row's parents lead to the root, and a directory has no bytes.
+-- The world is a tree: the root is a directory that is its own parent, no two other rows share parent and name, every
+-- parent is a directory, each row's parents lead to the root, a directory has no bytes, and every other row's number is
+-- one that a new row may get: so 0, which stands for a name that leads nowhere, has no row.
 pub record IsTree (rows : Rows) : Type 0 where
   pub rooted : IsSomeAnd (map.get rows root) (λ r. (r.parent ≡ root) × (r.name ≡ []) × (r.file.kind ≡ Directory))
   pub unique : (parent : ℕ) (name : List ℕ) (m n : ℕ) → IsChild rows parent name m → IsChild rows parent name n → m ≡ n
   pub parents : (n : ℕ) (r : Row) → map.get rows n ≡ Some r → IsSomeAnd (map.get rows r.parent) (λ p. p.file.kind ≡ Directory)
   pub reached : (n : ℕ) (r : Row) → map.get rows n ≡ Some r → (k : ℕ) × (ancestor rows k n ≡ root)
   pub empty : (n : ℕ) (r : Row) → map.get rows n ≡ Some r → r.file.kind ≡ Directory → r.file.bytes ≡ []
+  pub numbers : (n : ℕ) (r : Row) → map.get rows n ≡ Some r → n ≢ root → FIRST_INODE ≤ n
 
 -- the name of a row, and none where there is no row
 abbrev pub name_of : Option Row → List ℕ

@@ -1,22 +1,32 @@
 //! Laws of the rules: what holds of every call and of every list of calls, whatever the store. Each function does
 //! nothing, and its contract is a law.
+//!
+//! `served_exactly_where_he_may` says which calls are allowed, and `done` what a served call does. `gone` to `one_thing`
+//! say that nothing else comes of it: they begin with what changed, and say which call changed it and by what right. So
+//! only `new` says all of the row that a Create or a Mkdir makes, and only `rewritten` the bytes of a file that a Write or
+//! a SetLength doesn't bring.
 
 ghost use Rattle.lfs_model.specs.LawBetween.{BytesBetween, PlaceBetween};
 ghost use Rattle.lfs_model.specs.LawBrought.{DecidesAlike};
 ghost use Rattle.lfs_model.specs.LawDenied.{TellsLittle};
+ghost use Rattle.lfs_model.specs.LawDone.{Done};
+ghost use Rattle.lfs_model.specs.LawDoor.{ClosedDoor};
 ghost use Rattle.lfs_model.specs.LawEach.{EachEntry};
 ghost use Rattle.lfs_model.specs.LawFlagged.{Reflagged};
 ghost use Rattle.lfs_model.specs.LawGone.{Gone};
+ghost use Rattle.lfs_model.specs.LawHidden.{HidesFromCall, HidesFromRun};
 ghost use Rattle.lfs_model.specs.LawLevel.{Relevelled};
+ghost use Rattle.lfs_model.specs.LawLocked.{NamesStay, NoNameComes};
 ghost use Rattle.lfs_model.specs.LawMode.{Remoded};
 ghost use Rattle.lfs_model.specs.LawMoved.{Moved};
 ghost use Rattle.lfs_model.specs.LawNew.{New};
 ghost use Rattle.lfs_model.specs.LawOneThing.{OneThing};
 ghost use Rattle.lfs_model.specs.LawOwner.{Given};
+ghost use Rattle.lfs_model.specs.LawPath.{GuardedIsLeft, PathStays};
+ghost use Rattle.lfs_model.specs.LawRegranted.{RightBetween};
 ghost use Rattle.lfs_model.specs.LawRewritten.{Rewritten};
-ghost use Rattle.lfs_model.specs.LawSetId.{LosesSetIds};
+ghost use Rattle.lfs_model.specs.LawServed.{ServedExactlyWhereMay};
 ghost use Rattle.lfs_model.specs.LawShown.{Shown};
-ghost use Rattle.lfs_model.specs.LawThere.{FindsRows};
 ghost use Rattle.lfs_model.specs.LawTrees.{LeavesTree};
 ghost use Rattle.lfs_model.specs.LawUnread.{NobodyReads};
 ghost use Rattle.lfs_model.specs.LawView.{View};
@@ -25,8 +35,26 @@ ghost use Rattle.lfs_model.specs.LawsFlags.{ImmutableStays, AppendOnlyGrows, Sys
 ghost use Rattle.lfs_model.specs.LawsRuns.{SameAnswers, UsersAlone};
 ghost use Rattle.lfs_model.specs.Rights.{EachCall};
 
-/// A file or a directory is gone only by the Unlink of a file or the Rmdir of an empty directory, at the call's path, of
-/// a caller who may take it away: who reaches it and may write its parent, neither of them fixed by a flag, and who is
+/// A call is allowed exactly where its caller may make it: each of its paths leads to a row, or to a place for a name, which
+/// he reaches and may read, write, own, take away or place as the call needs; what has the place that a Rename gives, and
+/// isn't the row itself, is of its kind, and he may take it away too; the bytes of a Write or the length of a SetLength are
+/// within the limit, a directory that is removed or replaced is empty, one that is moved goes neither into itself nor
+/// beneath, and only init lowers the level. Whoever may is denied by no rule; whoever may not, by one.
+pub fn served_exactly_where_he_may()
+    ensures { ServedExactlyWhereMay }
+{}
+
+/// A served call did what it asks: its bytes stand at their place, the file has its length, the new row hangs where the path
+/// leads, the removed one is gone, the moved one hangs at the second path and what else hung there is gone, mode, owner, group,
+/// flags and level are the call's; another than user 0 who writes, cuts or gives leaves no set-id bits, also where nothing
+/// else changes.
+pub fn done()
+    ensures { EachCall Done }
+{}
+
+/// A file or a directory is gone only by the Unlink of a file or the Rmdir of an empty directory, at the call's path, or
+/// by a Rename onto its path of another row of its kind, which then hangs in its place; of a directory only where it is
+/// empty. The caller may take it away: he reaches it and may write its parent, neither of them fixed by a flag, and is
 /// user 0 or the owner of one of the two where the parent is sticky.
 pub fn gone()
     ensures { EachCall Gone }
@@ -40,7 +68,8 @@ pub fn new()
 {}
 
 /// A row gets another parent or another name only by a Rename from its path, of a caller who may take it away and may
-/// place it where the call says. A directory that gets another parent grants the caller write.
+/// place it where the call says: what has the place, if anything, is of the row's kind, has nothing in it, and may be taken
+/// away by the caller. A directory that gets another parent grants the caller write.
 pub fn moved()
     ensures { EachCall Moved }
 {}
@@ -72,31 +101,32 @@ pub fn reflagged()
     ensures { EachCall Reflagged }
 {}
 
-/// Where the bytes, the owner or the group of a row changed and the caller isn't user 0, the row has no set-id bits.
-pub fn set_ids()
-    ensures { EachCall LosesSetIds }
-{}
-
 /// The securelevel changes only by a SetLevel of user 0 to the call's level, and falls only by init.
 pub fn relevelled()
     ensures { EachCall Relevelled }
 {}
 
-/// A call changes one thing at most: one row, or the securelevel. Of a row that stays it changes only its bytes, or its
-/// parent and name, or its mode, or its owner and group, or its flags; set-id bits may go with bytes, owner or group. A
-/// Stat, a Read, a List, a Sync, and a call that isn't served change nothing.
+/// A call changes one thing at most: one row, or the securelevel; a Rename two rows where the one at its first path gets the
+/// place of the one at its second, which is gone. Of a row that stays a call changes only its bytes, or its parent and name,
+/// or its mode, or its owner and group, or its flags; set-id bits may go with bytes, owner or group. A Stat, a Read, a List,
+/// a Sync, and a call that isn't served change nothing.
 pub fn one_thing()
     ensures { EachCall OneThing }
 {}
 
-/// Where the rules allow a call, the row at its path is there, and so is the directory in which it puts a name.
-pub fn finds_rows()
-    ensures { FindsRows }
-{}
-
-/// A denial at a component of a path tells little: every row before it is a directory that grants the caller search. Of
-/// the row there it says that it is no directory, or that it is one which doesn't grant search, or that it isn't there;
-/// by any other rule only that it is there. A denial of a SetLevel tells of no path.
+/// A denial is true and tells little. Every row on the path before its component is a directory that grants the caller
+/// search, and of the row there it says that its rule is broken:
+///
+/// - N1: it is a file. S1: it is a directory that doesn't grant him search. N2: it isn't there.
+/// - N3: the path ends there. K3: so, at the root. K1: at a directory. K2: at one in which something hangs.
+/// - K4: it is the row that is moved, and the path goes on.
+/// - F1: it is immutable. F2: it is append-only. M1: it doesn't grant him read. M2: it doesn't grant him write.
+/// - Y1: its parent is sticky, and he is neither user 0 nor the owner of one of the two.
+/// - O1: he is neither user 0 nor its owner. O2: nor an owner who keeps the owner, and the group or gives one of his own.
+/// - L1: he isn't user 0, and the call changes system flags, or flags beside a system lock. L2: the level is above 0, and
+///   the call turns off a system lock. Z1: the file would pass its limit.
+///
+/// A denial of a SetLevel tells of no path: he isn't user 0 (U1), or isn't init and the level would fall (L3).
 pub fn tells_little()
     ensures { TellsLittle }
 {}
@@ -111,8 +141,9 @@ pub fn decides_alike()
 /// Two trees in which a caller has the same view of a call decide it alike, and where they allow it, answer it alike. The
 /// view is the level; along each path of the call what a Stat shows of each row, or that none is there, up to and
 /// including the first that is no directory which grants him search; and for a Read or a List of a row that he reaches
-/// and that grants him read, its bytes or its children's names. One thing more an Rmdir tells: whether the directory that
-/// it would remove is empty. This says nothing of refusals for want of a resource, nor of the number of a new row.
+/// and that grants him read, its bytes or its children's names. One thing more an Rmdir and a Rename tell: whether the
+/// directory that they would remove is empty. This says nothing of refusals for want of a resource, nor of the number of a
+/// new row.
 pub fn same_view()
     ensures { View }
 {}
@@ -130,8 +161,9 @@ pub fn shown()
 {}
 
 /// Through each legal list of entries from a fresh volume's tree each entry may happen where it stands; before and after
-/// it there is a tree in which no file is longer than a file may be; a user's call meets each of the laws of what one
-/// call changes and shows, and a cleaner's call changes nothing.
+/// it there is a tree in which no file is longer than a file may be. A user's call that was served, or refused for a
+/// resource, he might make, one that was denied he might not; it meets each of the laws of what one call does, changes and
+/// shows. A cleaner's call changes nothing.
 pub fn each_entry()
     ensures { EachEntry }
 {}
@@ -186,4 +218,45 @@ pub fn append_only_grows()
 pub fn system_locks_stay()
     ensures immutable { SystemImmutableStays }
     ensures append_only { SystemAppendOnlyGrows }
+{}
+
+/// Where a row grants a user something at a later point of a run that it didn't grant, or no longer what it did, its owner then
+/// or user 0 set its mode, or gave it, in between; or it was removed, by a caller who might.
+pub fn regranted_between()
+    ensures { RightBetween }
+{}
+
+/// What hangs in an immutable or an append-only directory hangs there under its name, and in an immutable one nothing else,
+/// whatever is called, until the directory's flags are set.
+pub fn locked_names_stay()
+    ensures stay { NamesStay }
+    ensures come { NoNameComes }
+{}
+
+/// What stands beneath a directory stays as it is through any calls of users whom the directory doesn't grant search and who
+/// don't own it, whatever they and the cleaner do.
+pub fn closed_door()
+    ensures { ClosedDoor }
+{}
+
+/// What stands beneath a directory makes no difference to users whom the directory doesn't grant search. Two trees that differ
+/// only there decide each call of theirs alike, but that a Rmdir of the directory itself and a Rename onto it tell whether it
+/// is empty; and where they allow it, they answer it alike. Where none of them owns the directory, this holds through each run:
+/// the answers that may come from the one tree may come from the other, refusals for a resource among them. If one of them may
+/// read the directory, the same names must hang in it. If one calls Rmdir or Rename, it must be empty in both trees or in
+/// neither. If one is allowed to make a row, the same numbers must be in use: they are no secret, since a new row gets the least
+/// that no row has, wherever the others hang.
+pub fn closed_door_hides()
+    ensures call { HidesFromCall }
+    ensures run { HidesFromRun }
+{}
+
+/// A path stays as it is through any calls of users who own no row on it and may take none away, as the rows are before the
+/// first call: it leads through the same rows, in the same places and with the same kinds, owners, groups, modes and flags, and
+/// a walk along it asks the same of everybody. Only a file at its end may get other bytes, and lose its set-id bits with them.
+/// He may not take a row away whose directory grants him no write or no search, is immutable, append-only, or sticky and not
+/// his, nor one that is itself immutable or append-only. An owner is as harmless as others where the system locks his row.
+pub fn path_stays()
+    ensures stays { PathStays }
+    ensures guarded { GuardedIsLeft }
 {}

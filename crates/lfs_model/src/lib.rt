@@ -2,6 +2,7 @@
 //! store.
 #![tactic(auto)]
 
+pub mod counts;
 pub mod journal;
 pub mod laws;
 pub mod steps;

@@ -89,6 +89,18 @@ pub fn options_of<'a, S: AsStr>(alloc: Global, words: &'a [S]) -> Result<Options
     options_by(&mut command, words)
 }
 
+/// The fault of arguments that are no text.
+///
+/// # Errors
+///
+/// It is itself one, with exit code 2; or want of memory.
+pub fn not_utf8(alloc: Global) -> Error {
+    match command(alloc) {
+        Ok(mut command) => wrong_value(&mut command, "the arguments must be UTF-8"),
+        Err(error) => Error::from(error),
+    }
+}
+
 /// The options that a command finds in the words.
 fn options_by<'a, S: AsStr>(command: &mut Command<'a>, words: &'a [S]) -> Result<Options, Error> {
     match command.try_get_matches_from_mut(words) {
@@ -101,12 +113,12 @@ fn options_by<'a, S: AsStr>(command: &mut Command<'a>, words: &'a [S]) -> Result
 fn without_signs(command: &mut Command<'_>, matches: &ArgMatches<'_>) -> Result<Options, Error> {
     match sign_in(matches) {
         None => Ok(options_in(matches)),
-        Some(message) => Err(sign_error(command, message)),
+        Some(message) => Err(wrong_value(command, message)),
     }
 }
 
-/// The error of a number that begins with a sign, or want of memory.
-fn sign_error(command: &mut Command<'_>, message: &str) -> Error {
+/// The error of a value that is refused, or want of memory.
+fn wrong_value(command: &mut Command<'_>, message: &str) -> Error {
     match command.error(ErrorKind::ValueValidation, message) {
         Ok(error) => error,
         Err(error) => Error::from(error),

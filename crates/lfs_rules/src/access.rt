@@ -2,7 +2,7 @@
 
 ghost use Rattle.std.specs.Prelude.{◌≡◌};
 ghost use Rattle.lfs_rules.specs.Grants.{grants_of, owner_mask, group_mask, other_mask};
-ghost use Rattle.lfs_rules.specs.SetId.{set_id_cleared};
+ghost use Rattle.lfs_rules.specs.SetId.{HasLostSetIds, set_id_cleared};
 ghost use Rattle.lfs_rules.specs.Sticky.{is_barred};
 
 use bitflags::Flags;
@@ -28,7 +28,8 @@ pub fn grants(attrs: &Attrs, cred: &Cred, bit: Bit) -> bool
 
 /// The mode without its set-user-id and set-group-id bits.
 pub fn clear_set_id(mode: Mode) -> Mode
-    ensures { result ≡ set_id_cleared mode }
+    ensures cleared { result ≡ set_id_cleared mode }
+    ensures bits { HasLostSetIds mode result }
 {
     mode.without(ModeBits::S_ISUID.union(ModeBits::S_ISGID))
 }

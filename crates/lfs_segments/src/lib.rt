@@ -7,4 +7,5 @@ mod bytes;
 pub mod entry;
 pub mod log;
 pub mod segments;
+pub mod sizes;
 pub mod summary;

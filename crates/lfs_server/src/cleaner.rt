@@ -4,13 +4,11 @@ use crate::doorbell::Rings;
 use crate::gate::Gate;
 use lfs_cleaner::pass::Pass;
 use lfs_cleaner::wanting::superuser;
+use lfs_settle::entries::CLEANER;
 use lfs_types::cleaned::CleanedStore;
 use lfs_types::cred::Cred;
 use lfs_volume::volume::Volume;
 use std::sync::{Mutex, Wait};
-
-/// The session of the cleaner.
-const CLEANER: u8 = 255;
 
 /// Makes a pass for each ring, until all buttons of the doorbell are gone and the rings left are served.
 pub fn run_cleaner<R: Wait, F: CleanedStore + Drop, G: Gate>(

@@ -10,3 +10,4 @@ mod session;
 pub mod settle;
 
 pub use lfs_cleaner::pass;
+pub use lfs_types::script;

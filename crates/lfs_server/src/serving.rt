@@ -11,6 +11,7 @@ use crate::doorbell::{Button, Rings, doorbell};
 use crate::gate::Gate;
 use crate::session::{Session, run_session};
 use crate::settle::{Unsettled, settle};
+use lfs_settle::entries::CLEANER;
 use lfs_types::answer::Answer;
 use lfs_types::cleaned::CleanedStore;
 use lfs_types::cred::Cred;
@@ -27,9 +28,6 @@ use thiserror::Error;
 
 /// The greatest number of sessions.
 pub(crate) const MOST_SESSIONS: usize = 8;
-
-/// The session that only an entry of no session is told by.
-const STRANGER: u8 = 255;
 
 /// The thread of a session, which gives its answers; `None` where it could not be started.
 type SessionThread = Option<JoinHandle<Result<Vec<Answer>, AllocError>>>;
@@ -362,7 +360,7 @@ fn check_closed<F: FileStore + Drop>(
     ensures fault { IfErr result IsRunFault }
 {
     if volume.journal_limit() != limit || transcripts.len() > MOST_SESSIONS {
-        return Err(ServeFault::Unsettled(STRANGER));
+        return Err(ServeFault::Unsettled(CLEANER));
     }
     match settle(volume, setup, answers, sessions, transcripts) {
         Ok(()) => Ok(()),

@@ -11,6 +11,9 @@ use lfs_types::request::Request;
 use lfs_types::script::Script;
 use thiserror::Error;
 
+/// The session of the cleaner. Where only an entry of no session differs, it is told by this number too.
+pub const CLEANER: u8 = 255;
+
 /// The journal is no interleaving of what was asked and answered. It names the lowest session that differs: 0 is the
 /// setup, and 255 says that only an entry differs that is of no session.
 #[derive(Clone, Copy, PartialEq, Eq, Debug, Error)]
@@ -43,7 +46,7 @@ pub fn settle_entries(
         return Err(Unsettled(session));
     }
     if !are_known(scripts.len(), later) {
-        return Err(Unsettled(255));
+        return Err(Unsettled(CLEANER));
     }
     Ok(())
 }

@@ -3,6 +3,7 @@
 ghost use Rattle.std.specs.Prelude.{◌≡◌, ◌↔◌, ◌≤◌, ℕ, IsTrue, MatchOption, length, map};
 ghost use Rattle.lfs_settle.specs.Interleaving.{AgreesAt, AreKnown, IsBegun, IsKnown, IsLowest, IsSettled};
 
+use crate::entries::CLEANER;
 use crate::stepping::{after_call, after_setup_call, next_of};
 use lfs_model::journal::{Entry, Event};
 use lfs_types::answer::Answer;
@@ -113,7 +114,7 @@ fn is_known(sessions: usize, entry: &Entry) -> bool
     if entry.session >= 1 && usize::from(entry.session) <= sessions {
         return true;
     }
-    if entry.session != u8::MAX || entry.cred.uid() != 0 {
+    if entry.session != CLEANER || entry.cred.uid() != 0 {
         return false;
     }
     match entry.event {

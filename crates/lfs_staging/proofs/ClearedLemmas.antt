@@ -13,22 +13,23 @@ use Rattle.lfs_cache.specs.Contents.{block_in}
 use Rattle.lfs_cache.specs.Keys.{same_key}
 use Rattle.lfs_log.specs.Parts.{LogParts, record_place}
 use Rattle.lfs_log.specs.Parts as log
-use Rattle.lfs_ways.specs.declared.blocks.TheConstants.{BLOCK_CODES}
-use Rattle.lfs_ways.specs.declared.blocks.FileBlock.{FileBlock}
-use Rattle.lfs_ways.specs.declared.blocks.FileBlock.TheVariants.{Data}
-use Rattle.lfs_ways.specs.Blocks.{IsFileBlock, code_of, way_to}
-use Rattle.lfs_ways.specs.Counting.{placed}
-use Rattle.lfs_ways.specs.Log.{Assigns, IsLog}
-use Rattle.lfs_ways.specs.Moves.{Moves}
-use Rattle.lfs_ways.specs.Reading.{Clears, SameReadings, address, data_block, read, table}
-use Rattle.lfs_ways.specs.Ways.{IsKnown, IsWay, code_at, way_of}
-use Rattle.lfs_ways.proofs.BlockLemmas.{code_of-below}
-use Rattle.lfs_ways.proofs.CountingLemmas.{placed-cases}
-use Rattle.lfs_ways.proofs.LogLemmas.{left_log}
-use Rattle.lfs_ways.proofs.PlaceLemmas.{data_block-read, data_block-past}
-use Rattle.lfs_ways.proofs.ReadingLemmas.{cleared_address, cleared_addresses, cleared_bytes, cleared_others, kept_blocks}
-use Rattle.lfs_ways.proofs.WayLemmas.{known_way_of, no_way_through, same_code, up_known, way_of-code_of, way_of-known}
+use Rattle.lfs_bmap.specs.declared.blocks.TheConstants.{BLOCK_CODES}
+use Rattle.lfs_bmap.specs.declared.blocks.FileBlock.{FileBlock}
+use Rattle.lfs_bmap.specs.declared.blocks.FileBlock.TheVariants.{Data}
+use Rattle.lfs_bmap.specs.Blocks.{IsFileBlock, code_of, way_to}
+use Rattle.lfs_bmap.specs.Counting.{placed}
+use Rattle.lfs_bmap.specs.Log.{Assigns, IsLog}
+use Rattle.lfs_bmap.specs.Moves.{Moves}
+use Rattle.lfs_bmap.specs.Reading.{Clears, SameReadings, address, data_block, read, table}
+use Rattle.lfs_bmap.specs.Ways.{IsKnown, IsWay, code_at, way_of}
+use Rattle.lfs_bmap.proofs.BlockLemmas.{code_of-below}
+use Rattle.lfs_bmap.proofs.CountingLemmas.{placed-cases}
+use Rattle.lfs_bmap.proofs.LogLemmas.{left_log}
+use Rattle.lfs_bmap.proofs.PlaceLemmas.{data_block-read, data_block-past}
+use Rattle.lfs_bmap.proofs.ReadingLemmas.{cleared_address, cleared_addresses, cleared_bytes, cleared_others, kept_blocks}
+use Rattle.lfs_bmap.proofs.WayLemmas.{known_way_of, no_way_through, same_code, up_known, way_of-code_of, way_of-known}
 use Rattle.lfs_staging.specs.declared.parts.Parts.{Parts}
+use Rattle.lfs_staging.specs.Clean.{GainsNoClean}
 use Rattle.lfs_staging.specs.Keys.{log_state}
 use Rattle.lfs_staging.specs.Addressing.{IsWaiting, ParentWaits, Sets}
 use Rattle.lfs_staging.specs.View.{key_of, record_of, root_in, tree_of, version_of, waiting_in}
@@ -50,9 +51,11 @@ pub record Steps (p s q : Parts) (v : Inode) (block : FileBlock) (i : ℕ) (up :
   pub set : Sets p s v i up 0
   pub memory : q.log.memory ≡ p.log.memory
   pub rows : q.log.tables.rows ≡ p.log.tables.rows
-  pub waiting : q.waiting.items ≡ s.waiting.items
+  pub waiting : q.waiting ≡ s.waiting
   pub gone : block_in (key_of v.number v.version (code_of block)) q.cache.locked ≡ None
   pub kept : (key : Key) → same_key (key_of v.number v.version (code_of block)) key ≡ false → block_in key q.cache.locked ≡ block_in key s.cache.locked
+  pub clean : GainsNoClean s.cache q.cache
+  pub unclean : block_in (key_of v.number v.version (code_of block)) q.cache.lru ≡ None
 
 module _ (p s q : Parts) (v : Inode) (block : FileBlock) (i : ℕ) (up : List ℕ) (h : Steps p s q v block i up) where
   pub version_same : (m : ℕ) → version_of q m ≡ version_of p m

@@ -9,10 +9,10 @@ use Rattle.lfs_inodes.specs.Attributes.{Attributes}
 use Rattle.lfs_inodes.specs.Facts.{block_count}
 use Rattle.lfs_inodes.specs.Reading.{Fields, fields_of}
 use Rattle.lfs_cache.specs.Contents.{IsLocked}
-use Rattle.lfs_ways.specs.declared.blocks.FileBlock.TheVariants.{Single, Data}
-use Rattle.lfs_ways.specs.Reading.{data_block}
-use Rattle.lfs_ways.specs.Ways.{IsKnown, data_way}
-use Rattle.lfs_ways.proofs.WayLemmas.{same_code, way_of-data, way_of-known}
+use Rattle.lfs_bmap.specs.declared.blocks.FileBlock.TheVariants.{Single, Data}
+use Rattle.lfs_bmap.specs.Reading.{data_block}
+use Rattle.lfs_bmap.specs.Ways.{IsKnown, data_way}
+use Rattle.lfs_bmap.proofs.WayLemmas.{same_code, way_of-data, way_of-known}
 use Rattle.lfs_staging.specs.declared.parts.Parts.{Parts}
 use Rattle.lfs_staging.specs.Cutting.{ClearsBlock, ClearsBlocks, IsGivenBack, KeepsRest, MayClear, MayClearBelow}
 use Rattle.lfs_staging.specs.Addressing.{IsWaiting}
@@ -30,13 +30,13 @@ pub data_apart : (n m : ℕ) → n ≢ m → data_way n ≢ data_way m
 data_apart n m other e = other (let same = same_code (131 + n) (131 + m) (way_of-data n ∙ e ∙ sym (way_of-data m)) in omega arith)
 
 -- ---- what waits of a number
-pub is_waiting : (p : Parts) (number : ℕ) (v : Inode) → waiting_in p.waiting.items number ≡ Some v → (row_of p.log.tables number).used ≡ true
+pub is_waiting : (p : Parts) (number : ℕ) (v : Inode) → waiting_in p.waiting number ≡ Some v → (row_of p.log.tables number).used ≡ true
     → ((f : Fields) → record_of p number ≡ Some f → f.attributes.version ≡ version_of p number) → IsWaiting p v
 is_waiting p number v waits used own =
-    let same = waiting_number p.waiting.items number v waits in
+    let same = waiting_number p.waiting number v waits in
     let has : record_of p number ≡ Some (fields_of v) = record_of-waiting p number _ v (cond-true _ _ _ used) waits in
     record {
-      waits = ap (waiting_in p.waiting.items) same ∙ waits;
+      waits = ap (waiting_in p.waiting) same ∙ waits;
       in_use = ap (λ n. (row_of p.log.tables n).used) same ∙ used;
       at_version = own (fields_of v) has ∙ ap (version_of p) (sym same);
     }
@@ -54,7 +54,7 @@ rest_trans number a b c p q = record {
   fewer = let first = p.fewer in let second = q.fewer in omega arith;
 }
 
-pub rest_refl : (number : ℕ) (p : Parts) → IsSome (waiting_in p.waiting.items number) → KeepsRest number p p
+pub rest_refl : (number : ℕ) (p : Parts) → IsSome (waiting_in p.waiting number) → KeepsRest number p p
 rest_refl number p waits = record {
   log = stays-refl p;
   rows = refl;

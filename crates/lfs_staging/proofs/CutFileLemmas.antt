@@ -12,10 +12,10 @@ use Rattle.lfs_inodes.specs.Facts.{IsSizeOf, block_count}
 use Rattle.lfs_inodes.specs.Reading.{Fields, fields_of}
 use Rattle.lfs_cache.specs.Contents.{Contents}
 use Rattle.lfs_log.specs.Parts.{LogParts}
-use Rattle.lfs_ways.specs.Pieces.{IsCut, IsPadded}
-use Rattle.lfs_ways.specs.Reading.{data_block}
-use Rattle.lfs_ways.proofs.PieceLemmas.{cut_padded, past_cut, zero_block-at, zero_block-length}
-use Rattle.lfs_ways.proofs.PlaceLemmas.{data_block-same}
+use Rattle.lfs_bmap.specs.Pieces.{IsCut, IsPadded}
+use Rattle.lfs_bmap.specs.Reading.{data_block}
+use Rattle.lfs_bmap.proofs.PieceLemmas.{cut_padded, past_cut, zero_block-at, zero_block-length}
+use Rattle.lfs_bmap.proofs.PlaceLemmas.{data_block-same}
 use Rattle.lfs_staging.specs.declared.parts.Parts.{Parts}
 use Rattle.lfs_staging.specs.Changing.{StaysInLog, frames_of_length, frames_of_single}
 use Rattle.lfs_staging.specs.Cutting.{CutsFile, CutsLast, DropsBlocks, MayShorten, Shortens}
@@ -110,13 +110,13 @@ module _ (a b c d : Parts) (v : Inode) (len left blocks : ℕ) (may : MayStage a
             ]
       ]
 
-  waiting : length d.waiting.items ≤ length a.waiting.items + 1
+  waiting : length d.waiting ≤ length a.waiting + 1
   waiting =
       let one = one_record a b v.number parents.room in
-      let second : length c.waiting.items ≡ length b.waiting.items = ap length last.waiting in
-      let third : length (numbers_of d.waiting.items) ≡ length (numbers_of c.waiting.items) = ap length drops.rest.numbers in
-      let new = length-map d.waiting.items (λ (x : Inode). x.number) in
-      let old = length-map c.waiting.items (λ (x : Inode). x.number) in
+      let second : length c.waiting ≡ length b.waiting = ap length last.waiting in
+      let third : length (numbers_of d.waiting) ≡ length (numbers_of c.waiting) = ap length drops.rest.numbers in
+      let new = length-map d.waiting (λ (x : Inode). x.number) in
+      let old = length-map c.waiting (λ (x : Inode). x.number) in
       omega arith
 
   log_stays : StaysInLog a d

@@ -10,15 +10,15 @@ use Rattle.lfs_inodes.specs.Reading.{Fields, fields_of}
 use Rattle.lfs_cache.specs.declared.key.Key.{Key}
 use Rattle.lfs_cache.specs.Contents.{IsLocked}
 use Rattle.lfs_log.specs.Parts.{LogParts}
-use Rattle.lfs_ways.specs.declared.blocks.FileBlock.{FileBlock}
-use Rattle.lfs_ways.specs.declared.blocks.FileBlock.TheVariants.{Record, Single, Data}
-use Rattle.lfs_ways.specs.Blocks.{IsFileBlock, code_of, way_to}
-use Rattle.lfs_ways.specs.Pieces.{IsCut}
-use Rattle.lfs_ways.specs.Reading.{address, data_block}
-use Rattle.lfs_ways.specs.Ways.{IsKnown}
-use Rattle.lfs_ways.proofs.BlockLemmas.{code_of-below}
-use Rattle.lfs_ways.proofs.PieceLemmas.{below_cut}
-use Rattle.lfs_ways.proofs.WayLemmas.{way_of-code_of, way_of-known}
+use Rattle.lfs_bmap.specs.declared.blocks.FileBlock.{FileBlock}
+use Rattle.lfs_bmap.specs.declared.blocks.FileBlock.TheVariants.{Record, Single, Data}
+use Rattle.lfs_bmap.specs.Blocks.{IsFileBlock, code_of, way_to}
+use Rattle.lfs_bmap.specs.Pieces.{IsCut}
+use Rattle.lfs_bmap.specs.Reading.{address, data_block}
+use Rattle.lfs_bmap.specs.Ways.{IsKnown}
+use Rattle.lfs_bmap.proofs.BlockLemmas.{code_of-below}
+use Rattle.lfs_bmap.proofs.PieceLemmas.{below_cut}
+use Rattle.lfs_bmap.proofs.WayLemmas.{way_of-code_of, way_of-known}
 use Rattle.lfs_staging.specs.declared.parts.Parts.{Parts}
 use Rattle.lfs_staging.specs.Cutting.{CutsBlock, CutsLast}
 use Rattle.lfs_staging.specs.Staging.{HasParents, IsStaged, IsZeroPast, MayStage, StagesBlock, StagesParents}
@@ -64,7 +64,7 @@ module _ (old new : Parts) (v : Inode) (index : ℕ) (may : MayStage old v) (h :
     log = log_kept old new 0 h.same.log addresses staged.log;
     parents = h.parents;
     once = h.once staged.once;
-    few = few_records new v.number (without v.number old.waiting.items) h.room may.records;
+    few = few_records new v.number (without v.number old.waiting) h.room may.records;
     within = λ n block f is can locked.
         let was : record_of old n ≡ Some f = sym (h.same.records n) ∙ is in
         let version : version_of new n ≡ version_of old n = version-same old new n h.same.log in

@@ -8,11 +8,11 @@ use Rattle.lfs_inodes.specs.Attributes.{Attributes}
 use Rattle.lfs_inodes.specs.Facts.{block_count}
 use Rattle.lfs_inodes.specs.Reading.{Fields}
 use Rattle.lfs_cache.specs.Contents.{IsLocked}
-use Rattle.lfs_ways.specs.declared.blocks.FileBlock.TheVariants.{Single, Data}
-use Rattle.lfs_ways.specs.Blocks.{way_to}
-use Rattle.lfs_ways.specs.Ways.{data_way}
-use Rattle.lfs_ways.proofs.ReadingLemmas.{address-cell, table-root}
-use Rattle.lfs_ways.proofs.WayLemmas.{same_code, way_of-code_of, way_of-data}
+use Rattle.lfs_bmap.specs.declared.blocks.FileBlock.TheVariants.{Single, Data}
+use Rattle.lfs_bmap.specs.Blocks.{way_to}
+use Rattle.lfs_bmap.specs.Ways.{data_way}
+use Rattle.lfs_bmap.proofs.ReadingLemmas.{address-cell, table-root}
+use Rattle.lfs_bmap.proofs.WayLemmas.{same_code, way_of-code_of, way_of-data}
 use Rattle.lfs_staging.specs.declared.parts.Parts.{Parts}
 use Rattle.lfs_staging.specs.Cutting.{ClearsBlock, ClearsBlocks, DropsBlocks, IsAlone, IsGivenBack, MayClear, MayClearBelow}
 use Rattle.lfs_staging.specs.View.{key_of, record_of, root_in, tree_of}

@@ -4,7 +4,8 @@ use Rattle.std.specs.Ordering.{nat_cmp}
 use Rattle.std.specs.FinMap as map
 use Rattle.std.specs.FinMap.{get-empty}
 use Rattle.std.specs.Prelude.{IfSome, IfNone}
-use Rattle.std.proofs.lemmas.Bool.{cases_lt, cond-false}
+use Rattle.std.proofs.lemmas.Bool.{cases_Bool, cases_lt, cond-false}
+use Rattle.std.proofs.lemmas.Option.{none-some}
 use Rattle.std.proofs.lemmas.List.{get_or_past}
 use Rattle.lfs_types.specs.Tree.{File, Content, attrs_of}
 use Rattle.lfs_types.specs.Stored.{IsLeastFree, shown_attrs, bytes_of, bytes_of_file}
@@ -16,9 +17,9 @@ use Rattle.lfs_inodes.specs.declared.inode.Inode.{Inode}
 use Rattle.lfs_inodes.specs.Addresses.{addresses}
 use Rattle.lfs_inodes.specs.Attributes.{stat_of}
 use Rattle.lfs_inodes.specs.Reading.{Fields, fields_of}
-use Rattle.lfs_ways.specs.Pieces.{file_bytes}
-use Rattle.lfs_ways.specs.Reading.{Tree, data_block}
-use Rattle.lfs_ways.proofs.PieceLemmas.{file_bytes-length}
+use Rattle.lfs_bmap.specs.Pieces.{file_bytes}
+use Rattle.lfs_bmap.specs.Reading.{Tree, data_block}
+use Rattle.lfs_bmap.proofs.PieceLemmas.{file_bytes-length}
 use Rattle.lfs_staging.specs.declared.parts.Parts.{Parts}
 use Rattle.lfs_staging.specs.Files.{file_with, file_at, with_file, content_below, content_of}
 use Rattle.lfs_staging.specs.Store.{AreFiles, IsFile}
@@ -122,6 +123,13 @@ used_shown p number files used =
 -- and another one has none
 pub free_place : (p : Parts) (number : ℕ) → (row_of p.log.tables number).used ≡ false → place_of p.log.tables number ≡ None
 free_place p number free = cond-false _ _ _ free
+
+-- a number that has a record is in use
+pub record_used : (p : Parts) (number : ℕ) (f : Fields) → record_of p number ≡ Some f → (row_of p.log.tables number).used ≡ true
+record_used p number f has = elim (cases_Bool (row_of p.log.tables number).used) [
+  | inl used ↦ used
+  | inr free ↦ absurd (none-some f (sym (record_of-unused p number (free_place p number free)) ∙ has))
+]
 
 pub free_shown : (p : Parts) (number : ℕ) → (row_of p.log.tables number).used ≡ false → map.get (content_of p) number ≡ None
 free_shown p number free =

@@ -4,25 +4,24 @@ use Rattle.std.proofs.lemmas.Bool.{cases_lt, false≢true}
 use Rattle.std.proofs.lemmas.List.{get_or_past}
 use Rattle.std.proofs.lemmas.List.Elements.{All-weaker}
 use Rattle.std.specs.Prelude.{All}
-use Rattle.std.specs.Vec.{vec_capacity}
 use Rattle.lfs_ifile.specs.Inode.{fresh_row}
 use Rattle.lfs_cache.specs.Changes.{IsContents}
 use Rattle.lfs_ifile.specs.declared.inode.InodeRow.{InodeRow}
 use Rattle.lfs_ifile.specs.Tables.{row_at, row_of}
 use Rattle.lfs_inodes.specs.declared.inode.Inode.{Inode}
 use Rattle.lfs_cache.specs.declared.key.Key.{Key}
-use Rattle.lfs_cache.specs.Contents.{Contents, block_in, block_of, forgotten, forgotten_by, without_key}
+use Rattle.lfs_cache.specs.Contents.{block_in}
 use Rattle.lfs_log.specs.Parts.{live_of}
-use Rattle.lfs_ways.specs.declared.blocks.TheConstants.{BLOCK_CODES}
-use Rattle.lfs_ways.specs.declared.blocks.FileBlock.{FileBlock}
-use Rattle.lfs_ways.specs.declared.blocks.FileBlock.TheVariants.{Record, Single, Data}
-use Rattle.lfs_ways.specs.Blocks.{IsFileBlock, code_of, way_to}
-use Rattle.lfs_ways.specs.Counting.{units, weight_of}
-use Rattle.lfs_ways.specs.Log.{IsLog}
-use Rattle.lfs_ways.specs.Reading.{address}
-use Rattle.lfs_ways.specs.Ways.{code_at, way_of}
-use Rattle.lfs_ways.proofs.CountingLemmas.{live-part, weight-here}
-use Rattle.lfs_ways.proofs.WayLemmas.{data_way-direct, data_way-single}
+use Rattle.lfs_bmap.specs.declared.blocks.TheConstants.{BLOCK_CODES}
+use Rattle.lfs_bmap.specs.declared.blocks.FileBlock.{FileBlock}
+use Rattle.lfs_bmap.specs.declared.blocks.FileBlock.TheVariants.{Record, Single, Data}
+use Rattle.lfs_bmap.specs.Blocks.{IsFileBlock, code_of, way_to}
+use Rattle.lfs_bmap.specs.Counting.{units, weight_of}
+use Rattle.lfs_bmap.specs.Log.{IsLog}
+use Rattle.lfs_bmap.specs.Reading.{address}
+use Rattle.lfs_bmap.specs.Ways.{code_at, way_of}
+use Rattle.lfs_bmap.proofs.CountingLemmas.{live-part, weight-here}
+use Rattle.lfs_bmap.proofs.WayLemmas.{data_way-direct, data_way-single}
 use Rattle.lfs_staging.specs.declared.parts.Parts.{Parts}
 use Rattle.lfs_staging.specs.Keys.{log_state}
 use Rattle.lfs_staging.specs.Addressing.{numbers_of, IsWaiting, ParentWaits, StaysWaiting}
@@ -65,26 +64,16 @@ pub waited_parent : (p : Parts) (v : Inode) → IsWaiting p v → (up : List ℕ
 waited_parent p v is [] waits some = absurd (some refl)
 waited_parent p v is (j ∷ above) waits some = subst (λ n. IsSome (block_in (key_of v.number n (code_at (j ∷ above))) p.cache.locked)) is.at_version waits
 
--- where nothing clean is held, nothing clean is when a key was forgotten
-forgotten_none : (o : Option (List ℕ)) (k : Key) (c : Contents) → c.lru ≡ [] → (forgotten_by o k c).lru ≡ []
-forgotten_none None k c none = none
-forgotten_none (Some b) k c none = ap (without_key k) none
-
-pub forgotten_clean : (k : Key) (c : Contents) → c.lru ≡ [] → (forgotten k c).lru ≡ []
-forgotten_clean k c none = forgotten_none (block_of k c) k c none
-
 -- what waits stays of its number where the inode map is the same
-pub stays_landed : (p r s q : Parts) (v : Inode) → StaysWaiting r s v → r.waiting.items ≡ p.waiting.items → vec_capacity r.waiting ≡ vec_capacity p.waiting → q.waiting.items ≡ s.waiting.items → vec_capacity q.waiting ≡ vec_capacity s.waiting → q.log.tables.rows ≡ s.log.tables.rows
-    → IsContents q.cache → q.cache.lru ≡ [] → StaysWaiting p q v
-stays_landed p r s q v stays before capacity after room rows formed none = record {
+pub stays_landed : (p r s q : Parts) (v : Inode) → StaysWaiting r s v → r.waiting ≡ p.waiting → q.waiting ≡ s.waiting → q.log.tables.rows ≡ s.log.tables.rows
+    → IsContents q.cache → StaysWaiting p q v
+stays_landed p r s q v stays before after rows formed = record {
   cache = formed;
-  none_clean = none;
   present = subst (λ items. All (λ (x : Inode). IsPresent q x.number x.version) items) (sym after)
       (All-weaker (λ (x : Inode). IsPresent s x.number x.version) (λ (x : Inode). IsPresent q x.number x.version) (λ x h. record {
         in_use = ap (λ (rs : List InodeRow). (row_at rs x.number).used) rows ∙ h.in_use;
         at_version = h.at_version ∙ sym (ap (λ (rs : List InodeRow). (row_at rs x.number).version) rows);
-      }) s.waiting.items stays.present);
-  room = room ∙ stays.room ∙ capacity;
+      }) s.waiting stays.present);
   after = stays.after;
   here = record {
     waits = ap (λ items. waiting_in items stays.after.number) after ∙ stays.here.waits;

@@ -1,7 +1,6 @@
 -- How many frames wait, and of whom.
-use Rattle.std.proofs.Common.{◌≡◌, ℕ, ◌+◌, ◌≤◌, List, [], ◌∷◌, ◌++◌, length, None, Some, IsSome, is_some, true, false, refl, sym, ap, ◌∙◌, subst, inl, inr, arith}
+use Rattle.std.proofs.Common.{◌≡◌, ℕ, ◌+◌, ◌≤◌, List, [], ◌∷◌, length, None, Some, IsSome, is_some, true, false, refl, sym, ap, ◌∙◌, subst, inl, inr, arith}
 use Rattle.std.proofs.lemmas.Bool.{cond-true, cond-false, false≢true, cases_eq}
-use Rattle.std.proofs.lemmas.List.{append-nil}
 use Rattle.std.proofs.lemmas.Option.{none-some}
 use Rattle.lfs_inodes.specs.declared.inode.Inode.{Inode}
 use Rattle.lfs_cache.specs.declared.key.Key.{Key}
@@ -13,6 +12,7 @@ use Rattle.lfs_cache.proofs.Entries.{same_cases, same_is, same_self}
 use Rattle.lfs_staging.specs.Addressing.{numbers_of}
 use Rattle.lfs_staging.specs.View.{waiting_in}
 use Rattle.lfs_staging.specs.Waiting.{AreOnce}
+use Rattle.lfs_staging.proofs.HeldLemmas.{locked_apart}
 use Rattle.lfs_staging.proofs.WaitingLemmas.{waiting-head, waiting-tail}
 
 -- ---- frames
@@ -58,19 +58,16 @@ part_most (e ∷ es) ys apart there =
     subst IsSome (sym (block_other e.0 k ys other)) (there k (subst IsSome (sym (cond-false _ _ _ other)) in_rest))) in
     omega arith
 
-keys_apart : (c : Contents) → IsContents c → c.lru ≡ [] → AreApart (keys_of c.locked)
-keys_apart c formed none = subst (λ es. AreApart (keys_of es)) (append-nil c.locked) (subst (λ es. AreApart (keys_of (c.locked ++ es))) none formed.apart)
-
 -- where what waits waited, no more frames do
-pub locked_most : (c d : Contents) → IsContents d → d.lru ≡ [] → ((k : Key) → IsLocked k d → IsLocked k c) → length d.locked ≤ length c.locked
-locked_most c d formed none only = part_most d.locked c.locked (keys_apart d formed none) only
+pub locked_most : (c d : Contents) → IsContents d → ((k : Key) → IsLocked k d → IsLocked k c) → length d.locked ≤ length c.locked
+locked_most c d formed only = part_most d.locked c.locked (locked_apart d formed) only
 
 -- and fewer where a key waits no more
-pub locked_less : (c d : Contents) (key : Key) → IsContents d → d.lru ≡ [] → ((k : Key) → IsLocked k d → IsLocked k c) → IsLocked key c → block_in key d.locked ≡ None
+pub locked_less : (c d : Contents) (key : Key) → IsContents d → ((k : Key) → IsLocked k d → IsLocked k c) → IsLocked key c → block_in key d.locked ≡ None
     → length d.locked + 1 ≤ length c.locked
-locked_less c d key formed none only was gone =
+locked_less c d key formed only was gone =
     let less = without_less key c.locked was in
-    let rest = part_most d.locked (without_key key c.locked) (keys_apart d formed none) (λ k locked. elim (same_cases key k) [
+    let rest = part_most d.locked (without_key key c.locked) (locked_apart d formed) (λ k locked. elim (same_cases key k) [
       | inl same ↦ absurd (false≢true (sym (ap is_some gone) ∙ subst (λ x. is_some (block_in x d.locked) ≡ true) (sym (same_is key k same)) locked))
       | inr other ↦ subst IsSome (sym (block_other key k c.locked other)) (only k locked)
     ]) in

@@ -2,7 +2,7 @@
 use Rattle.std.proofs.Common.{◌≡◌, ◌≢◌, ℕ, ◌+◌, ◌-◌, ◌/◌, ◌%◌, ◌<◌, ◌≤◌, ◌⊎◌, List, [], ◌∷◌, length, Some, IsSome, is_some, true, false, refl, sym, ap, ◌∙◌, subst, inl, inr, arith}
 use Rattle.std.specs.Prelude.{slice_index}
 use Rattle.std.proofs.lemmas.Bool.{cases_eq, cases_lt, false≢true}
-use Rattle.std.proofs.lemmas.Option.{same_Some}
+use Rattle.std.proofs.lemmas.Option.{none-some, same_Some}
 use Rattle.std.proofs.lemmas.List.{length-map}
 use Rattle.lfs_types.specs.Blocks.{zero_block}
 use Rattle.lfs_ifile.specs.declared.inode.InodeRow.{InodeRow}
@@ -17,24 +17,26 @@ use Rattle.lfs_cache.specs.declared.key.Key.{Key}
 use Rattle.lfs_cache.specs.Contents.{Contents, IsLocked, block_in}
 use Rattle.lfs_cache.specs.Keys.{same_key}
 use Rattle.lfs_cache.proofs.Entries.{same_cases, same_is}
+use Rattle.lfs_segments.specs.Memory.{SegmentMemory, block_at}
 use Rattle.lfs_log.specs.Parts.{IsParts}
-use Rattle.lfs_ways.specs.declared.blocks.FileBlock.{FileBlock}
-use Rattle.lfs_ways.specs.declared.blocks.FileBlock.TheVariants.{Record, Single, Data}
-use Rattle.lfs_ways.specs.Blocks.{IsFileBlock, code_of, way_to}
-use Rattle.lfs_ways.specs.Log.{IsLog}
-use Rattle.lfs_ways.specs.Pieces.{IsPadded}
-use Rattle.lfs_ways.specs.Reading.{address, data_block}
-use Rattle.lfs_ways.specs.Ways.{IsKnown, IsWay, code_at, data_way}
-use Rattle.lfs_ways.proofs.PieceLemmas.{zero_block-at, zero_block-length}
-use Rattle.lfs_ways.proofs.WayLemmas.{data_way-direct, data_way-single, no_way_through, way_of-data}
-use Rattle.lfs_staging.specs.declared.parts.TheConstants.{WAITING_LIMIT}
+use Rattle.lfs_bmap.specs.declared.blocks.FileBlock.{FileBlock}
+use Rattle.lfs_bmap.specs.declared.blocks.FileBlock.TheVariants.{Record, Single, Data}
+use Rattle.lfs_bmap.specs.Blocks.{IsFileBlock, code_of, way_to}
+use Rattle.lfs_bmap.specs.Log.{IsLog}
+use Rattle.lfs_bmap.specs.Pieces.{IsPadded}
+use Rattle.lfs_bmap.specs.Reading.{address, data_block}
+use Rattle.lfs_bmap.specs.Ways.{IsKnown, IsWay, code_at, data_way, way_of}
+use Rattle.lfs_bmap.proofs.PieceLemmas.{zero_block-at, zero_block-length}
+use Rattle.lfs_bmap.proofs.WayLemmas.{data_way-direct, data_way-single, no_way_through, way_of-data}
+use Rattle.lfs_staging.specs.declared.records.TheConstants.{WAITING_LIMIT}
 use Rattle.lfs_staging.specs.declared.parts.Parts.{Parts}
 use Rattle.lfs_staging.specs.Cutting.{ClearsBlock, IsGivenBack, KeepsRest, MayClear}
 use Rattle.lfs_staging.specs.Keys.{log_state}
 use Rattle.lfs_staging.specs.Addressing.{ParentWaits, StaysWaiting, numbers_of}
-use Rattle.lfs_staging.specs.Staging.{IsStaged, ParentsWait}
-use Rattle.lfs_staging.specs.Store.{AreFiles, IsFile, IsPresent, IsWithin}
+use Rattle.lfs_staging.specs.Staging.{IsStaged}
+use Rattle.lfs_staging.specs.Store.{AreFiles, IsFile, IsPresent, IsWithin, Mirrors, ParentsWait}
 use Rattle.lfs_staging.specs.View.{key_of, record_of, tree_of, version_of, waiting_in}
+use Rattle.lfs_staging.proofs.CleanLemmas.{apart_present, coded_below, logged_kept}
 use Rattle.lfs_staging.proofs.ClearedLemmas.{Steps, address_here, address_rest, address_same, data_same, moves, record_other, version_same, waits_key, zeros_here}
 use Rattle.lfs_staging.proofs.TableLemmas.{apart_code, apart_number}
 use Rattle.lfs_staging.proofs.FrameLemmas.{locked_less, locked_most, once_numbers}
@@ -188,11 +190,25 @@ module _ (p s q : Parts) (v : Inode) (block : FileBlock) (i : ℕ) (up : List �
             file_after number f f was refl (λ k past. inl ne) was.formed
       ]
 
+  -- what is clean was, and is no block that was given back
+  mirrors_after : Mirrors q
+  mirrors_after = record {
+    each = λ key bytes there.
+        let k = key_of v.number v.version (code_of block) in
+        let was = files.mirrors.each key bytes (h.set.clean.each key bytes (h.clean.each key bytes there)) in
+        let at : address (tree_of q key.ino) (way_of key.lbn) ≡ address (tree_of p key.ino) (way_of key.lbn) = elim (same_cases k key) [
+          | inl is ↦ absurd (none-some bytes (sym h.unclean ∙ subst (λ x. block_in x q.cache.lru ≡ Some bytes) (sym (same_is k key is)) there))
+          | inr other ↦ address_same p s q v block i up h key.ino key.lbn (coded_below key.lbn was.coded)
+              (apart_present p k key (record { in_use = h.is.in_use; at_version = h.is.at_version }) was.present other)
+        ] in
+        logged_kept p q key bytes was (present_after key.ino key.version was.present) at
+        (ap (λ (m : SegmentMemory). block_at m (address (tree_of p key.ino) (way_of key.lbn))) h.memory);
+  }
+
   whole_after : AreFiles q
   whole_after = record {
     parts = parts;
     cache = stays.cache;
-    readable = record { none_clean = stays.none_clean };
     reserved = λ number low other. ap (λ (rs : List InodeRow). (row_at rs number).used) h.rows ∙ files.reserved number low other;
     recorded = λ number used. elim (cases_eq number v.number) [
       | inl e ↦ ap is_some (ap (record_of q) e ∙ record_here)
@@ -201,18 +217,18 @@ module _ (p s q : Parts) (v : Inode) (block : FileBlock) (i : ℕ) (up : List �
     files = files_after;
     records = stays.present;
     frames = λ key locked. present_after key.ino key.version (files.frames key (frames_only key locked));
-    room = subst (λ n. WAITING_LIMIT ≤ n) (sym stays.room) files.room;
     coded = λ key locked. files.coded key (frames_only key locked);
+    mirrors = mirrors_after;
   }
 
   -- ---- what waits
-  record_waits : IsSome (waiting_in q.waiting.items v.number)
-  record_waits = ap (λ n. is_some (waiting_in q.waiting.items n)) (sym number_after) ∙ ap is_some stays.here.waits
+  record_waits : IsSome (waiting_in q.waiting v.number)
+  record_waits = ap (λ n. is_some (waiting_in q.waiting n)) (sym number_after) ∙ ap is_some stays.here.waits
 
   parents_after : ParentsWait q
   parents_after = record {
     records = λ key locked. elim (cases_eq key.ino v.number) [
-      | inl e ↦ ap (λ n. is_some (waiting_in q.waiting.items n)) e ∙ record_waits
+      | inl e ↦ ap (λ n. is_some (waiting_in q.waiting n)) e ∙ record_waits
       | inr ne ↦ ap is_some (stays.others key.ino ne) ∙ may.staged.parents.records key (frames_only key locked)
     ];
     singles = λ key locked high.
@@ -245,11 +261,11 @@ module _ (p s q : Parts) (v : Inode) (block : FileBlock) (i : ℕ) (up : List �
               let there : key ≡ key_of v.number (version_of p v.number) (131 + index) = λ j. key_of (e j) ((version ∙ ap (version_of p) e) j) (code j) in
               (may.alone is index (omega arith) (omega arith)).free (subst (λ k. IsLocked k p.cache) there was)
 
-  few_after : length q.waiting.items ≤ WAITING_LIMIT
+  few_after : length q.waiting ≤ WAITING_LIMIT
   few_after =
-      let same : length (numbers_of q.waiting.items) ≡ length (numbers_of p.waiting.items) = ap length stays.numbers in
-      let new = length-map q.waiting.items (λ (x : Inode). x.number) in
-      let old = length-map p.waiting.items (λ (x : Inode). x.number) in
+      let same : length (numbers_of q.waiting) ≡ length (numbers_of p.waiting) = ap length stays.numbers in
+      let new = length-map q.waiting (λ (x : Inode). x.number) in
+      let old = length-map p.waiting (λ (x : Inode). x.number) in
       let few = may.staged.few in
       omega arith
 
@@ -270,7 +286,7 @@ module _ (p s q : Parts) (v : Inode) (block : FileBlock) (i : ℕ) (up : List �
     whole = whole_after;
     log = log;
     parents = parents_after;
-    once = once_numbers p.waiting.items q.waiting.items stays.numbers may.staged.once;
+    once = once_numbers p.waiting q.waiting stays.numbers may.staged.once;
     few = few_after;
     within = within_after;
   }
@@ -294,7 +310,7 @@ module _ (p s q : Parts) (v : Inode) (block : FileBlock) (i : ℕ) (up : List �
     numbers = stays.numbers;
     waits = record_waits;
     only = frames_only;
-    fewer = locked_most p.cache q.cache stays.cache stays.none_clean frames_only;
+    fewer = locked_most p.cache q.cache stays.cache frames_only;
   }
 
   pub cleared : IsLog (log_state q) 0 → q.log.tables.states ≡ p.log.tables.states → q.log.clean ≡ p.log.clean → ClearsBlock v.number block p q
@@ -307,7 +323,7 @@ module _ (p s q : Parts) (v : Inode) (block : FileBlock) (i : ℕ) (up : List �
         free = λ locked. false≢true (sym (ap is_some h.gone) ∙ subst (λ k. IsLocked k q.cache) key locked);
         addresses = λ way there ne. address_rest p s q v block i up h way there (λ e. ne (e ∙ sym h.way));
         kept = λ other apart was. frames_kept other (subst (λ k. same_key k other ≡ false) key apart) was;
-        less = λ was. locked_less p.cache q.cache (key_of v.number v.version (code_of block)) stays.cache stays.none_clean frames_only (subst (λ k. IsLocked k p.cache) key was) h.gone;
+        less = λ was. locked_less p.cache q.cache (key_of v.number v.version (code_of block)) stays.cache frames_only (subst (λ k. IsLocked k p.cache) key was) h.gone;
         zeros = zeros_here p s q v block i up h;
         data_same = data_same p s q v block i up h;
       }

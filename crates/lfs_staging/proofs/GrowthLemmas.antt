@@ -19,13 +19,13 @@ use Rattle.lfs_inodes.proofs.FieldLemmas.{AreFields-fields_of}
 use Rattle.lfs_cache.specs.Changes.{IsContents}
 use Rattle.lfs_cache.specs.Contents.{Contents, IsLocked}
 use Rattle.lfs_log.specs.Parts.{IsParts, LogParts}
-use Rattle.lfs_ways.specs.declared.blocks.FileBlock.{FileBlock}
-use Rattle.lfs_ways.specs.declared.blocks.FileBlock.TheVariants.{Record, Single, Data}
-use Rattle.lfs_ways.specs.Blocks.{code_of}
-use Rattle.lfs_ways.specs.Pieces.{IsPadded, IsPut, file_bytes}
-use Rattle.lfs_ways.specs.Reading.{address, data_block}
-use Rattle.lfs_ways.specs.Ways.{data_way}
-use Rattle.lfs_ways.proofs.PieceLemmas.{put_splice}
+use Rattle.lfs_bmap.specs.declared.blocks.FileBlock.{FileBlock}
+use Rattle.lfs_bmap.specs.declared.blocks.FileBlock.TheVariants.{Record, Single, Data}
+use Rattle.lfs_bmap.specs.Blocks.{code_of}
+use Rattle.lfs_bmap.specs.Pieces.{IsPadded, IsPut, file_bytes}
+use Rattle.lfs_bmap.specs.Reading.{address, data_block}
+use Rattle.lfs_bmap.specs.Ways.{data_way}
+use Rattle.lfs_bmap.proofs.PieceLemmas.{put_splice}
 use Rattle.lfs_staging.specs.declared.parts.Parts.{Parts}
 use Rattle.lfs_staging.specs.Files.{content_of, file_at, file_with}
 use Rattle.lfs_staging.specs.Changing.{frames_of_put, frames_of_single}
@@ -34,6 +34,8 @@ use Rattle.lfs_staging.specs.Staging.{IsStaged, MayStage, StagesRecord}
 use Rattle.lfs_staging.specs.Store.{AreFiles, IsFile, IsPresent, IsWithin}
 use Rattle.lfs_staging.specs.View.{LiesIn, blocks_of, key_of, record_of, root_in, tree_of, version_of}
 use Rattle.lfs_staging.specs.Waiting.{without}
+use Rattle.lfs_staging.proofs.CleanLemmas.{mirrors_log}
+use Rattle.lfs_staging.proofs.HeldLemmas.{GainsNoClean-same}
 use Rattle.lfs_staging.proofs.FileLemmas.{file_at-record, file_at-some, get-content_of}
 use Rattle.lfs_staging.proofs.KeptLemmas.{AllWithin, few_records, log_kept, may_present, present_kept, record_once, record_parents, record_present, record_room, record_trees}
 use Rattle.lfs_staging.proofs.StagingLemmas.{version-same}
@@ -96,7 +98,6 @@ module _ (old new : Parts) (v w : Inode) (may : MayStage old v) (h : StagesRecor
   grown_files = record {
     parts = subst IsParts (sym h.log) may.files.parts;
     cache = subst IsContents (sym h.cache) may.files.cache;
-    readable = record { none_clean = ap (λ (s : Contents). s.lru) h.cache ∙ may.files.readable.none_clean };
     reserved = λ n low other. ap (λ (l : LogParts). (row_of l.tables n).used) h.log ∙ may.files.reserved n low other;
     recorded = λ n used. elim (cases_eq n v.number) [
       | inl is ↦ ap (λ m. is_some (record_of new m)) is ∙ ap is_some grown_here
@@ -112,8 +113,8 @@ module _ (old new : Parts) (v w : Inode) (may : MayStage old v) (h : StagesRecor
         let r = record_present old new w h may.files was_present k d low in
         present_kept old new _ _ h.log r;
     frames = λ key locked. present_kept old new key.ino key.version h.log (may.files.frames key (subst (IsLocked key) h.cache locked));
-    room = subst (λ n. 64 ≤ n) (sym h.room) may.files.room;
     coded = λ key locked. may.files.coded key (subst (IsLocked key) h.cache locked);
+    mirrors = mirrors_log old new may.files.mirrors (GainsNoClean-same old.cache new.cache h.cache) h.log (λ n way known. ap (λ t. address t way) (grown_trees n));
   }
 
   grown_again : MayStage new w
@@ -126,7 +127,7 @@ module _ (old new : Parts) (v w : Inode) (may : MayStage old v) (h : StagesRecor
     in_range = subst (λ n. n < length new.log.tables.rows) (sym same_number) (subst (λ n. v.number < n) (sym (ap (λ (l : LogParts). length l.tables.rows) h.log)) may.in_range);
     in_use = (present_kept old new w.number w.version h.log was_present).in_use;
     here = h.here;
-    records = subst (λ (vs : List Inode). length vs < 64) (sym (record_room old new w h ∙ ap (λ n. without n old.waiting.items) same_number)) may.records;
+    records = subst (λ (vs : List Inode). length vs < 64) (sym (record_room old new w h ∙ ap (λ n. without n old.waiting) same_number)) may.records;
   }
 
   grown_within : AllWithin old → AllWithin new
@@ -140,8 +141,8 @@ module _ (old new : Parts) (v w : Inode) (may : MayStage old v) (h : StagesRecor
         | inr other ↦ was n block f (sym (grown_others n other) ∙ is) can before
       ]
 
-  grown_room : without v.number new.waiting.items ≡ without v.number old.waiting.items
-  grown_room = subst (λ n. without n new.waiting.items ≡ without n old.waiting.items) same_number (record_room old new w h)
+  grown_room : without v.number new.waiting ≡ without v.number old.waiting
+  grown_room = subst (λ n. without n new.waiting ≡ without n old.waiting) same_number (record_room old new w h)
 
   pub grown_kept : (spare : ℕ) → IsStaged old spare → IsStaged new spare
   grown_kept spare staged = record {
@@ -149,7 +150,7 @@ module _ (old new : Parts) (v w : Inode) (may : MayStage old v) (h : StagesRecor
     log = log_kept old new spare h.log (λ n way known. ap (λ t. address t way) (grown_trees n)) staged.log;
     parents = record_parents old new w h staged.parents;
     once = record_once old new w h staged.once;
-    few = few_records new v.number (without v.number old.waiting.items) grown_room may.records;
+    few = few_records new v.number (without v.number old.waiting) grown_room may.records;
     within = grown_within staged.within;
   }
 
@@ -245,15 +246,15 @@ may_from p v number may has =
       in_range = subst (λ n. n < length p.log.tables.rows) (sym own) may.in_range;
       in_use = ap (λ n. (row_of p.log.tables n).used) own ∙ may.in_use;
       here = ap (record_of p) own ∙ has;
-      records = subst (λ n. length (without n p.waiting.items) < 64) (sym own) may.records;
+      records = subst (λ n. length (without n p.waiting) < 64) (sym own) may.records;
     }
 
 -- at most one record more waits where those of the other numbers are the same
-pub one_record : (old new : Parts) (number : ℕ) → without number new.waiting.items ≡ without number old.waiting.items → length new.waiting.items ≤ length old.waiting.items + 1
+pub one_record : (old new : Parts) (number : ℕ) → without number new.waiting ≡ without number old.waiting → length new.waiting ≤ length old.waiting + 1
 one_record old new number same =
-    let more = length-rest new.waiting.items number in
-    let less = length-without old.waiting.items number in
-    let is : length (without number new.waiting.items) ≡ length (without number old.waiting.items) = ap (λ (vs : List Inode). length vs) same in
+    let more = length-rest new.waiting number in
+    let less = length-without old.waiting number in
+    let is : length (without number new.waiting) ≡ length (without number old.waiting) = ap (λ (vs : List Inode). length vs) same in
     omega arith
 
 -- the frames that bytes take

@@ -1,7 +1,6 @@
 -- What stays of the files and of the log where something is staged.
 use Rattle.std.proofs.Common.{◌≡◌, ◌≢◌, ◌⊎◌, ℕ, ◌+◌, ◌*◌, ◌/◌, ◌%◌, ◌<◌, ◌≤◌, List, [], ◌∷◌, All, length, Some, IsSome, is_some, true, refl, sym, ap, ◌∙◌, subst, inl, inr, arith}
 use Rattle.std.specs.Prelude.{slice_index}
-use Rattle.std.specs.Vec.{vec_capacity}
 use Rattle.std.proofs.lemmas.Option.{same_Some}
 use Rattle.std.proofs.lemmas.Bool.{false≢true, cases_eq, cases_lt}
 use Rattle.std.proofs.lemmas.List.Elements.{All-cons, All-weaker}
@@ -12,32 +11,35 @@ use Rattle.lfs_inodes.specs.Reading.{Fields, fields_of}
 use Rattle.lfs_cache.specs.declared.key.Key.{Key}
 use Rattle.lfs_cache.specs.Changes.{IsContents}
 use Rattle.lfs_cache.specs.Contents.{Contents, IsLocked, block_in}
+use Rattle.lfs_segments.specs.Log.{Expects}
 use Rattle.lfs_segments.specs.Memory.{block_at, next_address}
 use Rattle.lfs_log.specs.Names.{named_at}
 use Rattle.lfs_log.specs.Parts.{IsParts, LogParts, live_of, record_place, state_of}
-use Rattle.lfs_ways.specs.declared.blocks.TheConstants.{BLOCK_CODES, FIRST_DATA_CODE}
-use Rattle.lfs_ways.specs.declared.blocks.FileBlock.{FileBlock}
-use Rattle.lfs_ways.specs.declared.blocks.FileBlock.TheVariants.{Record, Single, Data}
-use Rattle.lfs_ways.specs.Blocks.{code_of, way_to}
-use Rattle.lfs_ways.specs.Log.{IsLog, SameKeys}
-use Rattle.lfs_ways.specs.Pieces.{IsPadded}
-use Rattle.lfs_ways.specs.Reading.{SameReadings, Stages, address, data_block, read}
-use Rattle.lfs_ways.specs.Ways.{IsKnown, code_at, data_way, way_of}
-use Rattle.lfs_ways.specs.Blocks.{IsFileBlock}
-use Rattle.lfs_ways.proofs.BlockLemmas.{code_of-below}
-use Rattle.lfs_ways.proofs.LogLemmas.{written_log}
-use Rattle.lfs_ways.proofs.PlaceLemmas.{data_block-past, data_block-read, data_block-same}
-use Rattle.lfs_ways.proofs.ReadingLemmas.{SameReadings-refl, SameReadings-trans, data_leaf, read-waits, staged_addresses, staged_bytes, staged_others, staged_same}
-use Rattle.lfs_ways.proofs.WayLemmas.{same_code, way_of-code_of, way_of-data, way_of-known}
+use Rattle.lfs_bmap.specs.declared.blocks.TheConstants.{BLOCK_CODES, FIRST_DATA_CODE}
+use Rattle.lfs_bmap.specs.declared.blocks.FileBlock.{FileBlock}
+use Rattle.lfs_bmap.specs.declared.blocks.FileBlock.TheVariants.{Record, Single, Data}
+use Rattle.lfs_bmap.specs.Blocks.{code_of, way_to}
+use Rattle.lfs_bmap.specs.Log.{IsLog, SameKeys}
+use Rattle.lfs_bmap.specs.Pieces.{IsPadded}
+use Rattle.lfs_bmap.specs.Reading.{SameReadings, Stages, address, data_block, read}
+use Rattle.lfs_bmap.specs.Ways.{IsKnown, code_at, data_way, way_of}
+use Rattle.lfs_bmap.specs.Blocks.{IsFileBlock}
+use Rattle.lfs_bmap.proofs.BlockLemmas.{code_of-below}
+use Rattle.lfs_bmap.proofs.LogLemmas.{written_log}
+use Rattle.lfs_bmap.proofs.PlaceLemmas.{data_block-past, data_block-read, data_block-same}
+use Rattle.lfs_bmap.proofs.ReadingLemmas.{SameReadings-refl, SameReadings-trans, data_leaf, read-waits, staged_addresses, staged_bytes, staged_others, staged_same}
+use Rattle.lfs_bmap.proofs.WayLemmas.{same_code, way_of-code_of, way_of-data, way_of-known}
 use Rattle.lfs_staging.specs.declared.parts.Parts.{Parts}
 use Rattle.lfs_staging.specs.Keys.{log_state}
-use Rattle.lfs_staging.specs.Staging.{IsStaged, IsZeroPast, MayStage, ParentsWait, SameFiles, StagesBlock, StagesData, StagesOwnRecord, StagesParents, StagesRecord}
-use Rattle.lfs_staging.specs.Store.{AreFiles, IsPresent, IsSettled, IsStore, IsWithin}
+use Rattle.lfs_staging.specs.Staging.{IsStaged, IsZeroPast, MayStage, SameFiles, StagesBlock, StagesData, StagesOwnRecord, StagesParents, StagesRecord}
+use Rattle.lfs_staging.specs.Store.{AreFiles, IsPresent, IsStore, IsWithin, Mirrors, ParentsWait}
 use Rattle.lfs_staging.specs.View.{key_of, record_of, root_in, tree_of, version_of, waiting_in}
 use Rattle.lfs_staging.specs.Waiting.{AreOnce, without}
 use Rattle.lfs_staging.proofs.KeyLemmas.{place-block, place-record}
 use Rattle.lfs_staging.proofs.SettingLemmas.{some_there}
 use Rattle.lfs_staging.proofs.StagingLemmas.{record_of-same, version-same}
+use Rattle.lfs_staging.proofs.CleanLemmas.{mirrors_log}
+use Rattle.lfs_staging.proofs.HeldLemmas.{GainsNoClean-refl, GainsNoClean-same}
 use Rattle.lfs_staging.proofs.ViewLemmas.{code_at-way_to}
 use Rattle.lfs_staging.proofs.WaitingLemmas.{all_without, length-rest, once_staged, without-staged, waiting-head, waiting-staged}
 
@@ -125,14 +127,13 @@ padded_put old new index size bytes h others here whole zeros = record {
 pub files_kept : (old new : Parts) → AreFiles old → new.log ≡ old.log → ((n : ℕ) → record_of new n ≡ record_of old n)
     → ((n : ℕ) (way : List ℕ) → IsKnown way → address (tree_of new n) way ≡ address (tree_of old n) way)
     → ((n : ℕ) (f : Fields) → record_of old n ≡ Some f → IsPadded (data_block (tree_of old n)) f.attributes.size → IsPadded (data_block (tree_of new n)) f.attributes.size)
-    → IsContents new.cache → new.cache.lru ≡ []
-    → All (λ (v : Inode). IsPresent old v.number v.version) new.waiting.items → vec_capacity new.waiting ≡ vec_capacity old.waiting
+    → IsContents new.cache → Mirrors new
+    → All (λ (v : Inode). IsPresent old v.number v.version) new.waiting
     → ((key : Key) → IsLocked key new.cache → IsPresent old key.ino key.version)
     → ((key : Key) → IsLocked key new.cache → IsWaitingCode key.lbn) → AreFiles new
-files_kept old new h log records addresses padded formed lru waiting room frames coded = record {
+files_kept old new h log records addresses padded formed mirrors waiting frames coded = record {
   parts = subst IsParts (sym log) h.parts;
   cache = formed;
-  readable = record { none_clean = lru };
   reserved = λ n low other. ap (λ (l : LogParts). (row_of l.tables n).used) log ∙ h.reserved n low other;
   recorded = λ n used. ap is_some (records n) ∙ h.recorded n (sym (ap (λ (l : LogParts). (row_of l.tables n).used) log) ∙ used);
   files = λ n f is.
@@ -146,10 +147,10 @@ files_kept old new h log records addresses padded formed lru waiting room frames
         padded = padded n f is_old was.padded;
       };
   records = All-weaker (λ (v : Inode). IsPresent old v.number v.version) (λ (v : Inode). IsPresent new v.number v.version)
-      (λ v present. present_kept old new v.number v.version log present) new.waiting.items waiting;
+      (λ v present. present_kept old new v.number v.version log present) new.waiting waiting;
   frames = λ key locked. present_kept old new key.ino key.version log (frames key locked);
-  room = subst (λ n. 64 ≤ n) (sym room) h.room;
   coded = coded;
+  mirrors = mirrors;
 }
 
 -- the same files are well formed still
@@ -168,32 +169,32 @@ SameFiles-trans a b c p q = record {
 
 -- ---- a record waits
 module _ (old new : Parts) (v : Inode) (h : StagesRecord v old new) where
-  pub record_waits : IsSome (waiting_in new.waiting.items v.number)
-  record_waits = ap (λ vs. is_some (waiting_in vs v.number)) h.waiting ∙ ap is_some (waiting-head v (without v.number old.waiting.items) v.number refl)
+  pub record_waits : IsSome (waiting_in new.waiting v.number)
+  record_waits = ap (λ vs. is_some (waiting_in vs v.number)) h.waiting ∙ ap is_some (waiting-head v (without v.number old.waiting) v.number refl)
 
   pub record_parents : ParentsWait old → ParentsWait new
   record_parents parents = record {
     records = λ key locked. elim (cases_eq key.ino v.number) [
-      | inl is ↦ subst (λ n. IsSome (waiting_in new.waiting.items n)) (sym is) record_waits
+      | inl is ↦ subst (λ n. IsSome (waiting_in new.waiting n)) (sym is) record_waits
       | inr other ↦
-          ap (λ vs. is_some (waiting_in vs key.ino)) h.waiting ∙ ap is_some (waiting-staged v old.waiting.items key.ino other)
+          ap (λ vs. is_some (waiting_in vs key.ino)) h.waiting ∙ ap is_some (waiting-staged v old.waiting key.ino other)
           ∙ parents.records key (subst (IsLocked key) h.cache locked)
     ];
     singles = λ key locked high. subst (IsLocked (key_of key.ino key.version 1)) (sym h.cache) (parents.singles key (subst (IsLocked key) h.cache locked) high);
   }
 
-  pub record_room : without v.number new.waiting.items ≡ without v.number old.waiting.items
-  record_room = ap (without v.number) h.waiting ∙ without-staged v (without v.number old.waiting.items)
+  pub record_room : without v.number new.waiting ≡ without v.number old.waiting
+  record_room = ap (without v.number) h.waiting ∙ without-staged v (without v.number old.waiting)
 
-  pub record_once : AreOnce old.waiting.items → AreOnce new.waiting.items
-  record_once once = subst AreOnce (sym h.waiting) (once_staged v old.waiting.items once)
+  pub record_once : AreOnce old.waiting → AreOnce new.waiting
+  record_once once = subst AreOnce (sym h.waiting) (once_staged v old.waiting once)
 
   -- each record that waits is of a number in use
-  pub record_present : AreFiles old → IsPresent old v.number v.version → All (λ (w : Inode). IsPresent old w.number w.version) new.waiting.items
+  pub record_present : AreFiles old → IsPresent old v.number v.version → All (λ (w : Inode). IsPresent old w.number w.version) new.waiting
   record_present files present =
       subst (λ ws. All (λ (w : Inode). IsPresent old w.number w.version) ws) (sym h.waiting)
-      (All-cons (λ (w : Inode). IsPresent old w.number w.version) v (without v.number old.waiting.items) present
-      (all_without (λ (w : Inode). IsPresent old w.number w.version) old.waiting.items v.number files.records))
+      (All-cons (λ (w : Inode). IsPresent old w.number w.version) v (without v.number old.waiting) present
+      (all_without (λ (w : Inode). IsPresent old w.number w.version) old.waiting v.number files.records))
 
   -- the files have the addresses and the blocks that they had, where the record has the addresses
   pub record_trees : ((n : ℕ) → root_in (record_of new n) ≡ root_in (record_of old n)) → (n : ℕ) → tree_of new n ≡ tree_of old n
@@ -225,8 +226,9 @@ module _ (old new : Parts) (v : Inode) (h : StagesRecord v old new) (has : recor
       let present : IsPresent old v.number v.version = record { in_use = used; at_version = file.own_version } in
       let same = record_same in
       files_kept old new files h.log records_same (λ n way known. (same.readings n).addresses way known) (same_padded old new same)
-      (subst IsContents (sym h.cache) files.cache) (ap (λ (s : Contents). s.lru) h.cache ∙ files.readable.none_clean)
-      (record_present old new v h files present) h.room
+      (subst IsContents (sym h.cache) files.cache)
+      (mirrors_log old new files.mirrors (GainsNoClean-same old.cache new.cache h.cache) h.log (λ n way known. (same.readings n).addresses way known))
+      (record_present old new v h files present)
       (λ key locked. files.frames key (subst (IsLocked key) h.cache locked))
       (λ key locked. files.coded key (subst (IsLocked key) h.cache locked))
 
@@ -241,8 +243,9 @@ module _ (old new : Parts) (number : ℕ) (block : FileBlock) (bytes : List ℕ)
       → ((n : ℕ) (f : Fields) → record_of old n ≡ Some f → IsPadded (data_block (tree_of old n)) f.attributes.size → IsPadded (data_block (tree_of new n)) f.attributes.size)
       → AreFiles new
   block_files files present coded addresses padded =
-      files_kept old new files h.log block_records addresses padded h.frames.formed h.frames.none_clean
-      (subst (λ ws. All (λ (w : Inode). IsPresent old w.number w.version) ws) (sym h.waiting) files.records) h.room
+      files_kept old new files h.log block_records addresses padded h.frames.formed
+      (mirrors_log old new files.mirrors h.frames.clean h.log addresses)
+      (subst (λ ws. All (λ (w : Inode). IsPresent old w.number w.version) ws) (sym h.waiting) files.records)
       (λ key locked. elim (h.frames.only key locked) [
         | inl is ↦ subst (λ (k : Key). IsPresent old k.ino k.version) (sym is) present
         | inr was ↦ files.frames key was
@@ -253,11 +256,11 @@ module _ (old new : Parts) (number : ℕ) (block : FileBlock) (bytes : List ℕ)
       ])
 
   -- and the parents of all that waits do
-  pub block_parents : ParentsWait old → IsSome (waiting_in old.waiting.items number)
+  pub block_parents : ParentsWait old → IsSome (waiting_in old.waiting number)
       → (143 ≤ code_of block → IsLocked (key_of number (version_of old number) 1) old.cache) → ParentsWait new
   block_parents parents record_there single = record {
     records = λ key locked. ap (λ vs. is_some (waiting_in vs key.ino)) h.waiting ∙ (elim (h.frames.only key locked) [
-      | inl is ↦ subst (λ (k : Key). IsSome (waiting_in old.waiting.items k.ino)) (sym is) record_there
+      | inl is ↦ subst (λ (k : Key). IsSome (waiting_in old.waiting k.ino)) (sym is) record_there
       | inr was ↦ parents.records key was
     ]);
     singles = λ key locked high. h.frames.kept (key_of key.ino key.version 1) (elim (h.frames.only key locked) [
@@ -281,16 +284,15 @@ module _ (old new : Parts) (number : ℕ) (h : StagesBlock number Single (read (
   }
 
 -- where it waits already, nothing changes
-pub single_staged : (p : Parts) (number : ℕ) → IsContents p.cache → p.cache.lru ≡ [] → IsLocked (key_of number (version_of p number) 1) p.cache
+pub single_staged : (p : Parts) (number : ℕ) → IsContents p.cache → IsLocked (key_of number (version_of p number) 1) p.cache
     → StagesBlock number Single (read (tree_of p number) (12 ∷ [])) p p
-single_staged p number formed none locked =
+single_staged p number formed locked =
     let there = some_there (block_in (key_of number (version_of p number) 1) p.cache.locked) locked in
     let waits : (tree_of p number).waits (12 ∷ []) ≡ Some there.0
     = ap (λ c. block_in (key_of number (version_of p number) c) p.cache.locked) (code_at-way_to Single) ∙ there.1 in
     record {
       log = refl;
       waiting = refl;
-      room = refl;
       staged = record {
         root = refl;
         waiting = waits ∙ ap Some (sym (read-waits (tree_of p number) (12 ∷ []) there.0 waits));
@@ -300,7 +302,7 @@ single_staged p number formed none locked =
       others = λ n other. refl;
       frames = record {
         formed = formed;
-        none_clean = none;
+        clean = GainsNoClean-refl p.cache;
         here = locked;
         kept = λ other waiting. waiting;
         only = λ other waiting. inr waiting;
@@ -375,7 +377,7 @@ own_staged old new v may h = record {
 }
 
 -- where it waits already, nothing changes
-pub own_waits : (p : Parts) (v : Inode) → MayStage p v → IsSome (waiting_in p.waiting.items v.number) → StagesOwnRecord v.number p p
+pub own_waits : (p : Parts) (v : Inode) → MayStage p v → IsSome (waiting_in p.waiting v.number) → StagesOwnRecord v.number p p
 own_waits p v may waits = record {
   same = record { log = refl; records = λ n. refl; readings = λ n. SameReadings-refl (tree_of p n) };
   cache = refl;
@@ -516,10 +518,10 @@ data_within old between new v index bytes has within h b was n block f is can lo
     ]
 
 -- at most one record more waits than those of other numbers
-pub few_records : (new : Parts) (number : ℕ) (others : List Inode) → without number new.waiting.items ≡ others → length others < 64 → length new.waiting.items ≤ 64
+pub few_records : (new : Parts) (number : ℕ) (others : List Inode) → without number new.waiting ≡ others → length others < 64 → length new.waiting ≤ 64
 few_records new number others is few =
-    let more = length-rest new.waiting.items number in
-    let same : length (without number new.waiting.items) ≡ length others = ap (λ (vs : List Inode). length vs) is in
+    let more = length-rest new.waiting number in
+    let same : length (without number new.waiting) ≡ length others = ap (λ (vs : List Inode). length vs) is in
     omega arith
 
 pub data_kept : (old between new : Parts) (v : Inode) (index : ℕ) (bytes : List ℕ) → index < 140 → index < block_count v.size → MayStage old v
@@ -532,22 +534,30 @@ data_kept old between new v index bytes low within may h b again spare staged =
       log = log_kept old new spare moved.log moved.addresses staged.log;
       parents = again.parents;
       once = subst AreOnce (sym b.waiting) (h.once staged.once);
-      few = few_records new v.number (without v.number old.waiting.items) moved.takes.records may.records;
+      few = few_records new v.number (without v.number old.waiting) moved.takes.records may.records;
       within = data_within old between new v index bytes may.here within h b staged.within;
     }
 
 -- ---- between calls
--- where nothing waits, a store is staged
-pub settled_staged : (p : Parts) → IsStore p → IsSettled p → IsStaged p 0
-unfolding AreOnce
-settled_staged p store settled =
-    let none : (key : Key) → IsLocked key p.cache → ⊥
-    = λ key locked. false≢true (sym (ap (λ es. is_some (block_in key es)) settled.no_frame) ∙ locked) in
-    record {
-      whole = store.whole;
-      log = store.log;
-      parents = record { records = λ key locked. absurd (none key locked); singles = λ key locked high. absurd (none key locked) };
-      once = subst AreOnce (sym settled.no_record) tt;
-      few = let none_waits : length p.waiting.items ≡ 0 = ap (λ (vs : List Inode). length vs) settled.no_record in omega arith;
-      within = λ number block f is can locked. absurd (none _ locked);
-    }
+-- a store is staged
+pub store_staged : (p : Parts) → IsStore p → IsStaged p 0
+store_staged p store = record {
+  whole = store.whole;
+  log = store.log;
+  parents = store.parents;
+  once = store.once;
+  few = store.few;
+  within = store.within;
+}
+
+-- and what is staged is a store where the log goes on with a summary
+pub staged_store : (p : Parts) → IsStaged p 0 → Expects p.log.memory [] → IsStore p
+staged_store p staged ready = record {
+  whole = staged.whole;
+  log = staged.log;
+  ready = ready;
+  parents = staged.parents;
+  once = staged.once;
+  few = staged.few;
+  within = staged.within;
+}

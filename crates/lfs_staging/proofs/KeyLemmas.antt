@@ -8,17 +8,17 @@ use Rattle.lfs_ifile.specs.declared.inode.InodePlace.{InodePlace}
 use Rattle.lfs_ifile.specs.declared.inode.InodeRow.{InodeRow}
 use Rattle.lfs_ifile.specs.Inode.{fresh_row, place_in}
 use Rattle.lfs_ifile.specs.Tables.{Tables, place_of, row_of}
-use Rattle.lfs_ways.specs.declared.blocks.TheConstants.{BLOCK_CODES}
-use Rattle.lfs_ways.specs.declared.blocks.FileBlock.{FileBlock}
-use Rattle.lfs_ways.specs.declared.blocks.FileBlock.TheVariants.{Record, Single, Data}
-use Rattle.lfs_ways.specs.Blocks.{IsFileBlock, code_of, way_to}
-use Rattle.lfs_ways.specs.Log.{LogState, IsLog}
-use Rattle.lfs_ways.specs.Moves.{present_address}
-use Rattle.lfs_ways.specs.Reading.{address}
-use Rattle.lfs_ways.specs.Ways.{code_at, way_of}
-use Rattle.lfs_ways.proofs.BlockLemmas.{code_of-below}
-use Rattle.lfs_ways.proofs.ReadingLemmas.{address-root}
-use Rattle.lfs_ways.proofs.WayLemmas.{way_of-code_of}
+use Rattle.lfs_bmap.specs.declared.blocks.TheConstants.{BLOCK_CODES}
+use Rattle.lfs_bmap.specs.declared.blocks.FileBlock.{FileBlock}
+use Rattle.lfs_bmap.specs.declared.blocks.FileBlock.TheVariants.{Record, Single, Data}
+use Rattle.lfs_bmap.specs.Blocks.{IsFileBlock, code_of, way_to}
+use Rattle.lfs_bmap.specs.Log.{LogState, IsLog}
+use Rattle.lfs_bmap.specs.Moves.{present_address}
+use Rattle.lfs_bmap.specs.Reading.{address}
+use Rattle.lfs_bmap.specs.Ways.{code_at, way_of}
+use Rattle.lfs_bmap.proofs.BlockLemmas.{code_of-below}
+use Rattle.lfs_bmap.proofs.ReadingLemmas.{address-root}
+use Rattle.lfs_bmap.proofs.WayLemmas.{way_of-code_of}
 use Rattle.lfs_staging.specs.declared.parts.Parts.{Parts}
 use Rattle.lfs_log.specs.Parts.{record_place}
 use Rattle.lfs_staging.specs.Keys.{log_state}

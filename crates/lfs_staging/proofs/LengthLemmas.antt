@@ -13,9 +13,9 @@ use Rattle.lfs_inodes.specs.declared.inode.Inode.{Inode}
 use Rattle.lfs_inodes.specs.Addresses.{addresses}
 use Rattle.lfs_inodes.specs.Attributes.{attributes, stat_of}
 use Rattle.lfs_inodes.specs.Reading.{Fields, fields_of}
-use Rattle.lfs_ways.specs.Pieces.{IsCut, IsPadded, file_bytes}
-use Rattle.lfs_ways.specs.Reading.{data_block}
-use Rattle.lfs_ways.proofs.PieceLemmas.{cut_resized, longer_cut}
+use Rattle.lfs_bmap.specs.Pieces.{IsCut, IsPadded, file_bytes}
+use Rattle.lfs_bmap.specs.Reading.{data_block}
+use Rattle.lfs_bmap.proofs.PieceLemmas.{cut_resized, longer_cut}
 use Rattle.lfs_staging.specs.declared.parts.Parts.{Parts}
 use Rattle.lfs_staging.specs.Cutting.{CutsFile, HasAttributes, with_length}
 use Rattle.lfs_staging.specs.Files.{content_of, file_at, file_with}

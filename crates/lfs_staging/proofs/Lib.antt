@@ -2,6 +2,8 @@ pub mod FileLemmas
 pub mod KeyLemmas
 pub mod OpeningLemmas
 pub mod ReadLemmas
+pub mod RecordsLemmas
+pub mod ReadingBlockLemmas
 pub mod ReplacingLemmas
 pub mod SameContentLemmas
 pub mod SettingLemmas
@@ -26,3 +28,6 @@ pub mod NewFileLemmas
 pub mod CutFileLemmas
 pub mod LengthLemmas
 pub mod ForgettingLemmas
+pub mod CleanLemmas
+pub mod FilledLemmas
+pub mod HeldLemmas

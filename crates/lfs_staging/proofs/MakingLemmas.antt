@@ -15,23 +15,24 @@ use Rattle.lfs_segments.specs.Memory.{SegmentMemory, block_at}
 use Rattle.lfs_log.specs.Parts as log
 use Rattle.lfs_log.specs.Parts.{IsParts, LogParts, record_place}
 use Rattle.lfs_types.specs.declared.limits.TheConstants.{FIRST_INODE, ROOT_INODE}
-use Rattle.lfs_ways.specs.declared.blocks.TheConstants.{BLOCK_CODES}
-use Rattle.lfs_ways.specs.Blocks.{code_of}
-use Rattle.lfs_ways.specs.Log.{IsLog}
-use Rattle.lfs_ways.specs.Pieces.{IsPadded}
-use Rattle.lfs_ways.specs.Reading.{address, data_block}
-use Rattle.lfs_ways.specs.Ways.{code_at, data_way, way_of}
-use Rattle.lfs_ways.proofs.LogLemmas.{written_log}
-use Rattle.lfs_staging.specs.declared.parts.TheConstants.{WAITING_LIMIT}
+use Rattle.lfs_bmap.specs.declared.blocks.TheConstants.{BLOCK_CODES}
+use Rattle.lfs_bmap.specs.Blocks.{code_of}
+use Rattle.lfs_bmap.specs.Log.{IsLog}
+use Rattle.lfs_bmap.specs.Pieces.{IsPadded}
+use Rattle.lfs_bmap.specs.Reading.{address, data_block}
+use Rattle.lfs_bmap.specs.Ways.{code_at, data_way, way_of}
+use Rattle.lfs_bmap.proofs.LogLemmas.{written_log}
+use Rattle.lfs_staging.specs.declared.records.TheConstants.{WAITING_LIMIT}
 use Rattle.lfs_staging.specs.declared.parts.Parts.{Parts}
 use Rattle.lfs_staging.specs.Changing.{StaysInLog}
 use Rattle.lfs_staging.specs.Files.{file_at, file_with}
 use Rattle.lfs_staging.specs.Keys.{log_state}
 use Rattle.lfs_staging.specs.Making.{HasNoBlock, KeepsOthers}
-use Rattle.lfs_staging.specs.Staging.{IsStaged, ParentsWait}
-use Rattle.lfs_staging.specs.Store.{AreFiles, IsFile, IsPresent}
+use Rattle.lfs_staging.specs.Staging.{IsStaged}
+use Rattle.lfs_staging.specs.Store.{AreFiles, IsFile, IsLogged, IsPresent, ParentsWait}
 use Rattle.lfs_staging.specs.View.{fields_at, key_of, record_of, root_in, tree_of, version_of, waiting_in, waiting_or}
 use Rattle.lfs_staging.specs.Waiting.{AreOnce}
+use Rattle.lfs_staging.proofs.CleanLemmas.{logged_kept}
 use Rattle.lfs_staging.proofs.FileLemmas.{file_at-record}
 use Rattle.lfs_staging.proofs.KeyLemmas.{place-block, place-record, unplaced}
 use Rattle.lfs_staging.proofs.ViewLemmas.{not_locked, nowhere}
@@ -87,9 +88,9 @@ module _ (number : ℕ) (old new : Parts) (h : KeepsOthers number old new) where
   pub other_record : (n : ℕ) → n ≢ number → record_of new n ≡ record_of old n
   unfolding record_of
   other_record n other =
-      ap (option_and_then (λ (place : InodePlace). waiting_or (waiting_in new.waiting.items n) (fields_at new.log.memory place))) (ap place_in (h.rows n other))
+      ap (option_and_then (λ (place : InodePlace). waiting_or (waiting_in new.waiting n) (fields_at new.log.memory place))) (ap place_in (h.rows n other))
       ∙ ap (λ w. option_and_then (λ (place : InodePlace). waiting_or w (fields_at new.log.memory place)) (place_of old.log.tables n)) (h.waiting n other)
-      ∙ ap (λ (m : SegmentMemory). option_and_then (λ (place : InodePlace). waiting_or (waiting_in old.waiting.items n) (fields_at m place)) (place_of old.log.tables n)) h.memory
+      ∙ ap (λ (m : SegmentMemory). option_and_then (λ (place : InodePlace). waiting_or (waiting_in old.waiting n) (fields_at m place)) (place_of old.log.tables n)) h.memory
 
   pub other_tree : (n : ℕ) → n ≢ number → tree_of new n ≡ tree_of old n
   other_tree n other =
@@ -136,11 +137,11 @@ module _ (number : ℕ) (old new : Parts) (h : KeepsOthers number old new) where
         → (number < FIRST_INODE → number ≢ ROOT_INODE → (row_of new.log.tables number).used ≡ false)
         → ((row_of new.log.tables number).used ≡ true → IsSome (record_of new number))
         → ((f : Fields) → record_of new number ≡ Some f → IsFile new number f)
-        → All (λ (v : Inode). IsPresent new v.number v.version) new.waiting.items → AreFiles new
-    files_still files parts kept_free recorded here present = record {
+        → All (λ (v : Inode). IsPresent new v.number v.version) new.waiting
+        → ((key : Key) (bytes : List ℕ) → IsLogged old key bytes → key.ino ≢ number) → AreFiles new
+    files_still files parts kept_free recorded here present apart = record {
       parts = parts;
       cache = subst IsContents (sym h.cache) files.cache;
-      readable = record { none_clean = ap (λ (s : Contents). s.lru) h.cache ∙ files.readable.none_clean };
       reserved = λ n low root. elim (cases_eq n number) [
         | inl is ↦ ap (λ m. (row_of new.log.tables m).used) is ∙ kept_free (subst (λ m. m < FIRST_INODE) is low) (λ e. root (is ∙ e))
         | inr other ↦ other_used n other ∙ files.reserved n low root
@@ -155,11 +156,18 @@ module _ (number : ℕ) (old new : Parts) (h : KeepsOthers number old new) where
       ];
       records = present;
       frames = λ key locked. let was = still_locked key locked in other_present key.ino key.version (none key was) (files.frames key was);
-      room = subst (λ n. 64 ≤ n) (sym h.room) files.room;
       coded = λ key locked. files.coded key (still_locked key locked);
+      mirrors = record {
+        each = λ key bytes there.
+            let was = files.mirrors.each key bytes (subst (λ (c : Contents). block_in key c.lru ≡ Some bytes) h.cache there) in
+            let other = apart key bytes was in
+            logged_kept old new key bytes was (other_present key.ino key.version other was.present)
+            (ap (λ t. address t (way_of key.lbn)) (other_tree key.ino other))
+            (ap (λ (m : SegmentMemory). block_at m (address (tree_of old key.ino) (way_of key.lbn))) h.memory);
+      };
     }
 
-    pub staged_still : IsStaged old 0 → AreFiles new → IsLog (log_state new) 0 → AreOnce new.waiting.items → length new.waiting.items ≤ WAITING_LIMIT → IsStaged new 0
+    pub staged_still : IsStaged old 0 → AreFiles new → IsLog (log_state new) 0 → AreOnce new.waiting → length new.waiting ≤ WAITING_LIMIT → IsStaged new 0
     staged_still staged files log_ once few = record {
       whole = files;
       log = log_;

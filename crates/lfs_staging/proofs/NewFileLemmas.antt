@@ -1,10 +1,10 @@
 -- A number that is given out to an empty file.
 use Rattle.std.proofs.Common.{◌≡◌, ◌≢◌, ℕ, ◌+◌, ◌/◌, ◌%◌, ◌<◌, ◌≤◌, List, [], ◌∷◌, All, length, Some, is_some, false, refl, sym, ap, ◌∙◌, subst, inl, inr, arith}
-use Rattle.std.specs.Prelude.{slice_index}
+use Rattle.std.specs.Prelude.{slice_index, if◌then◌else◌, ◌==◌}
 use Rattle.std.specs.Cmp.{nat_cmp_total}
 use Rattle.std.specs.FinMap as map
 use Rattle.std.specs.FinMap.{same_map, nat_cmp-IsAntisymmetric}
-use Rattle.std.proofs.lemmas.Bool.{cases_eq, cases_lt, false≢true}
+use Rattle.std.proofs.lemmas.Bool.{cases_eq, cases_lt, cond-false, cond-true, eq-eqb, false≢true, ne_eqb}
 use Rattle.std.proofs.lemmas.List.{get_or-set_other, get_or-set_same, length-set}
 use Rattle.std.proofs.lemmas.List.Elements.{All-cons, All-weaker}
 use Rattle.std.proofs.lemmas.Option.{same_Some}
@@ -14,7 +14,7 @@ use Rattle.lfs_types.specs.declared.attrs.Attrs.{Attrs}
 use Rattle.lfs_types.specs.declared.limits.TheConstants.{FILE_BLOCKS, FIRST_INODE}
 use Rattle.lfs_types.proofs.Maps.{get-insert_same, get-insert_other}
 use Rattle.lfs_ifile.specs.declared.inode.InodeRow.{InodeRow}
-use Rattle.lfs_ifile.specs.Inode.{fresh_row, given_row}
+use Rattle.lfs_ifile.specs.Inode.{fresh_row, given_row, raised_version}
 use Rattle.lfs_ifile.specs.Tables.{Tables, row_of}
 use Rattle.lfs_inodes.specs.declared.inode.Inode.{Inode}
 use Rattle.lfs_inodes.specs.Attributes.{Attributes, attributes_from, stat_of}
@@ -24,15 +24,15 @@ use Rattle.lfs_inodes.proofs.ZeroedLemmas.{slice_index-zeros}
 use Rattle.lfs_cache.specs.declared.key.Key.{Key}
 use Rattle.lfs_cache.specs.Contents.{IsLocked}
 use Rattle.lfs_log.specs.Parts as log
-use Rattle.lfs_ways.specs.Log.{Renews}
-use Rattle.lfs_ways.specs.Pieces.{IsPadded, file_bytes}
-use Rattle.lfs_ways.specs.Reading.{data_block}
-use Rattle.lfs_ways.specs.Ways.{data_way}
-use Rattle.lfs_ways.proofs.LogLemmas.{renewed_log}
-use Rattle.lfs_ways.proofs.PieceLemmas.{zero_block-length, zero_block-at}
-use Rattle.lfs_ways.proofs.PlaceLemmas.{data_block-past}
+use Rattle.lfs_bmap.specs.Log.{Renews}
+use Rattle.lfs_bmap.specs.Pieces.{IsPadded, file_bytes}
+use Rattle.lfs_bmap.specs.Reading.{data_block}
+use Rattle.lfs_bmap.specs.Ways.{data_way}
+use Rattle.lfs_bmap.proofs.LogLemmas.{renewed_log}
+use Rattle.lfs_bmap.proofs.PieceLemmas.{zero_block-length, zero_block-at}
+use Rattle.lfs_bmap.proofs.PlaceLemmas.{data_block-past}
 use Rattle.lfs_staging.specs.declared.parts.Parts.{Parts}
-use Rattle.lfs_staging.specs.declared.parts.TheConstants.{WAITING_LIMIT}
+use Rattle.lfs_staging.specs.declared.records.TheConstants.{WAITING_LIMIT}
 use Rattle.lfs_staging.specs.Changing.{StaysInLog}
 use Rattle.lfs_staging.specs.Files.{content_of, file_at}
 use Rattle.lfs_staging.specs.Keys.{log_state}
@@ -43,7 +43,7 @@ use Rattle.lfs_staging.specs.View.{record_of, root_in, tree_of, version_of, wait
 use Rattle.lfs_staging.specs.Waiting.{AreOnce, without}
 use Rattle.lfs_staging.proofs.FileLemmas.{file_at-some, free_place, get-content_of}
 use Rattle.lfs_staging.proofs.KeyLemmas.{unused_nowhere}
-use Rattle.lfs_staging.proofs.MakingLemmas.{all_nowhere, files_still, log_still, none_addressed, none_waits, other_file, other_present, staged_still, stays_in_log}
+use Rattle.lfs_staging.proofs.MakingLemmas.{all_nowhere, files_still, log_still, none_addressed, none_waits, other_file, other_present, other_version, staged_still, stays_in_log}
 use Rattle.lfs_staging.proofs.ReadLemmas.{data_block-read, no_bytes}
 use Rattle.lfs_staging.proofs.ViewLemmas.{all_zeros}
 use Rattle.lfs_staging.proofs.WaitingLemmas.{all_without, length-without, once_staged, waiting-staged}
@@ -70,8 +70,7 @@ module _ (number version : ℕ) (attrs : Attrs) (v : Inode) (old new : Parts) (h
     numbers = ap (λ (t : Tables). length t.rows) h.tables ∙ length-set old.log.tables.rows number (given_row version);
     rows = λ n other. ap (λ (t : Tables). row_of t n) h.tables ∙ get_or-set_other old.log.tables.rows number n (given_row version) fresh_row other;
     cache = h.cache;
-    waiting = λ n other. ap (λ vs. waiting_in vs n) h.waiting ∙ waiting-staged v old.waiting.items n (λ e. other (e ∙ own));
-    room = h.room;
+    waiting = λ n other. ap (λ vs. waiting_in vs n) h.waiting ∙ waiting-staged v old.waiting n (λ e. other (e ∙ own));
   }
 
   -- ---- the number has no block
@@ -117,17 +116,17 @@ module _ (number version : ℕ) (attrs : Attrs) (v : Inode) (old new : Parts) (h
       other_present number old new keeps_others w.number w.version
       (λ is. false≢true (sym free ∙ ap (λ n. (row_of old.log.tables n).used) (sym is) ∙ was.in_use)) was
 
-  present : All (λ (w : Inode). IsPresent new w.number w.version) new.waiting.items
+  present : All (λ (w : Inode). IsPresent new w.number w.version) new.waiting
   present =
       subst (λ ws. All (λ (w : Inode). IsPresent new w.number w.version) ws) (sym h.waiting)
-      (All-cons (λ (w : Inode). IsPresent new w.number w.version) v (without v.number old.waiting.items) present_here
-      (all_without (λ (w : Inode). IsPresent new w.number w.version) old.waiting.items v.number
-      (All-weaker (λ (w : Inode). IsPresent old w.number w.version) (λ (w : Inode). IsPresent new w.number w.version) present_before old.waiting.items files.records)))
+      (All-cons (λ (w : Inode). IsPresent new w.number w.version) v (without v.number old.waiting) present_here
+      (all_without (λ (w : Inode). IsPresent new w.number w.version) old.waiting v.number
+      (All-weaker (λ (w : Inode). IsPresent old w.number w.version) (λ (w : Inode). IsPresent new w.number w.version) present_before old.waiting files.records)))
 
-  pub waiting_more : length new.waiting.items ≤ length old.waiting.items + 1
+  pub waiting_more : length new.waiting ≤ length old.waiting + 1
   waiting_more =
-      let e : length new.waiting.items ≡ length (v ∷ without v.number old.waiting.items) = ap (λ (ws : List Inode). length ws) h.waiting in
-      let fewer = length-without old.waiting.items v.number in
+      let e : length new.waiting ≡ length (v ∷ without v.number old.waiting) = ap (λ (ws : List Inode). length ws) h.waiting in
+      let fewer = length-without old.waiting v.number in
       omega arith
 
   files_new : AreFiles new
@@ -136,6 +135,17 @@ module _ (number version : ℕ) (attrs : Attrs) (v : Inode) (old new : Parts) (h
       (λ used. ap is_some record_here)
       (λ f is. subst (IsFile new number) (same_Some (fields_of v) f (sym record_here ∙ is)) file_here)
       present
+      (λ key bytes was is. false≢true (sym free ∙ ap (λ n. (row_of old.log.tables n).used) (sym is) ∙ was.present.in_use))
+
+  -- ---- its version, and those of the others
+  pub made_versions : version ≡ raised_version (version_of old number) → (n : ℕ)
+      → version_of new n ≡ (if n == number then raised_version (version_of old n) else version_of old n)
+  made_versions is n = elim (cases_eq n number) [
+    | inl e ↦
+        ap (version_of new) e ∙ new_version ∙ is ∙ ap (λ m. raised_version (version_of old m)) (sym e)
+        ∙ sym (cond-true _ _ _ (eq-eqb n number e))
+    | inr ne ↦ other_version number old new keeps_others n ne ∙ sym (cond-false _ _ _ (ne_eqb n number ne))
+  ]
 
   -- ---- the log
   pub nothing_before : (code : ℕ) → (log_state old).at number code ≡ 0
@@ -148,12 +158,12 @@ module _ (number version : ℕ) (attrs : Attrs) (v : Inode) (old new : Parts) (h
   made_log = stays_in_log number old new keeps_others nothing_after
 
   pub made_staged : IsStaged old 0 → Renews (log.log_state old.log (log_state old).at) (log.log_state new.log (log_state old).at) number
-      → length old.waiting.items < WAITING_LIMIT → IsStaged new 0
+      → length old.waiting < WAITING_LIMIT → IsStaged new 0
   made_staged staged step few =
       let kept = renewed_log (log_state old) (log.log_state new.log (log_state old).at) 0 number staged.log step in
       staged_still number old new keeps_others no_frame staged files_new
       (log_still number old new keeps_others nothing_after (log_state old).at nothing_before (λ n c other. refl) kept)
-      (subst AreOnce (sym h.waiting) (once_staged v old.waiting.items staged.once))
+      (subst AreOnce (sym h.waiting) (once_staged v old.waiting staged.once))
       (let more = waiting_more in omega arith)
 
   -- ---- the content

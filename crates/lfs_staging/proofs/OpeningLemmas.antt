@@ -28,26 +28,28 @@ use Rattle.lfs_segments.specs.Memory.{SegmentMemory, block_at}
 use Rattle.lfs_log.specs.Names.{record_in, record_key}
 use Rattle.lfs_log.specs.Parts.{IsParts, LogParts, live_of, record_place}
 use Rattle.lfs_log.proofs.NameLemmas.{named_at-record}
-use Rattle.lfs_ways.specs.Counting.{placed, weight_of}
-use Rattle.lfs_ways.specs.Log.{LogState, IsLog, IsEmptyLog, Assigns, MayTake}
-use Rattle.lfs_ways.specs.Pieces.{IsPadded, file_bytes}
-use Rattle.lfs_ways.specs.Reading.{address, data_block}
-use Rattle.lfs_ways.specs.Ways.{code_at, data_way, way_of}
-use Rattle.lfs_ways.proofs.CountingLemmas.{placed-cases, weight-none, weight-here, weight-elsewhere}
-use Rattle.lfs_ways.proofs.LogLemmas.{taken_log}
-use Rattle.lfs_ways.proofs.PieceLemmas.{zero_block-length, zero_block-at}
-use Rattle.lfs_ways.proofs.PlaceLemmas.{data_block-past}
-use Rattle.lfs_ways.proofs.SegmentLemmas.{empty_log}
+use Rattle.lfs_bmap.specs.Counting.{placed, weight_of}
+use Rattle.lfs_bmap.specs.Log.{LogState, IsLog, IsEmptyLog, Assigns, MayTake}
+use Rattle.lfs_bmap.specs.Pieces.{IsPadded, file_bytes}
+use Rattle.lfs_bmap.specs.Reading.{address, data_block}
+use Rattle.lfs_bmap.specs.Ways.{code_at, data_way, way_of}
+use Rattle.lfs_bmap.proofs.CountingLemmas.{placed-cases, weight-none, weight-here, weight-elsewhere}
+use Rattle.lfs_bmap.proofs.LogLemmas.{taken_log}
+use Rattle.lfs_bmap.proofs.PieceLemmas.{zero_block-length, zero_block-at}
+use Rattle.lfs_bmap.proofs.PlaceLemmas.{data_block-past}
+use Rattle.lfs_bmap.proofs.SegmentLemmas.{empty_log}
 use Rattle.lfs_staging.specs.declared.parts.Parts.{Parts}
 use Rattle.lfs_staging.specs.Files.{content_of, file_at}
 use Rattle.lfs_staging.specs.Keys.{log_state}
 use Rattle.lfs_staging.specs.Opening.{IsOpening, fresh_used, HasRootRow, inodes_entry, root_fields, root_row}
 use Rattle.lfs_staging.specs.Store.{AreFiles, IsFile, IsPresent, IsStore}
 use Rattle.lfs_staging.specs.View.{key_of, record_of, root_in, tree_of, version_of, waiting_in}
+use Rattle.lfs_staging.proofs.CleanLemmas.{mirrors_none}
 use Rattle.lfs_staging.proofs.FileLemmas.{file_at-none, file_at-some, get-content_of}
 use Rattle.lfs_staging.proofs.KeyLemmas.{place-block, place-record}
 use Rattle.lfs_staging.proofs.ReadLemmas.{data_block-read, no_bytes}
 use Rattle.lfs_staging.proofs.ViewLemmas.{all_zeros, nowhere, record_of-logged, record_of-unused}
+use Rattle.lfs_staging.proofs.WaitingLemmas.{none_once}
 
 -- one of a list of the same ones, or past it
 all_clean : (n k : ℕ) → slice_index_or (replicate n Clean) k Clean ≡ Clean
@@ -82,7 +84,7 @@ root_in_slot m root = ap (option_map record_key) root
 abbrev root_place : InodePlace
 root_place = record { addr = 2; slot = 0; version = 1 }
 
-module _ (segments inodes : ℕ) (p : Parts) (h : IsOpening segments inodes p) where
+module _ (segments inodes frames : ℕ) (p : Parts) (h : IsOpening segments inodes frames p) where
   -- ---- records
   root_used : place_of p.log.tables 2 ≡ Some root_place
   root_used = ap place_in h.tables.root
@@ -247,7 +249,6 @@ module _ (segments inodes : ℕ) (p : Parts) (h : IsOpening segments inodes p) w
   opening_files formed = record {
     parts = h.parts;
     cache = formed;
-    readable = record { none_clean = ap (λ (c : Contents). c.lru) h.cache };
     reserved = λ number low other. ap (λ (r : InodeRow). r.used) (h.tables.others number other);
     recorded = λ number used. elim (cases_eq number 2) [
       | inl root ↦ ap (λ n. is_some (record_of p n)) root ∙ ap is_some root_record
@@ -257,13 +258,21 @@ module _ (segments inodes : ℕ) (p : Parts) (h : IsOpening segments inodes p) w
         let one = one_record number f is in
         subst (λ n. IsFile p n f) (sym one.0) (subst (IsFile p 2) (sym one.1) root_file);
     records = subst (λ vs. All (λ (v : Inode). IsPresent p v.number v.version) vs) (sym h.no_record) (λ k d low. absurd (omega arith));
-    room = h.room;
     frames = λ key locked. absurd (none_locked key locked);
     coded = λ key locked. absurd (none_locked key locked);
+    mirrors = mirrors_none p (ap (λ (c : Contents). c.lru) h.cache);
   }
 
   pub opening_store : (formed : IsContents p.cache) → IsStore p
-  opening_store formed = record { whole = opening_files formed; log = opening_log; ready = h.memory.ready }
+  opening_store formed = record {
+    whole = opening_files formed;
+    log = opening_log;
+    ready = h.memory.ready;
+    parents = record { records = λ key locked. absurd (none_locked key locked); singles = λ key locked high. absurd (none_locked key locked) };
+    once = none_once p.waiting h.no_record;
+    few = let none : length p.waiting ≡ 0 = ap (λ (vs : List Inode). length vs) h.no_record in omega arith;
+    within = λ number block f is can locked. absurd (none_locked _ locked);
+  }
 
   -- ---- the content
   root_content : file_at p 2 ≡ Some fresh_root

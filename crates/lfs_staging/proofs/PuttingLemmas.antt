@@ -1,16 +1,17 @@
 -- Bytes put into a file, block by block.
 use Rattle.std.proofs.Common.{◌≡◌, ℕ, ◌+◌, ◌*◌, ◌/◌, ◌%◌, ◌-◌, ◌<◌, ◌≤◌, List, length, refl, sym, ap, ◌∙◌, subst, inl, inr, arith}
 use Rattle.std.specs.Prelude.{slice_index}
-use Rattle.std.proofs.lemmas.Bool.{cases_eq, cases_lt}
+use Rattle.std.proofs.lemmas.Bool.{cases_eq, cases_lt, cond-true, lt-ltb}
 use Rattle.lfs_inodes.specs.declared.inode.Inode.{Inode}
 use Rattle.lfs_inodes.specs.Reading.{fields_of}
 use Rattle.lfs_cache.specs.Contents.{IsLocked}
-use Rattle.lfs_ways.specs.Pieces.{IsPadded, IsPut, Touches}
-use Rattle.lfs_ways.specs.Reading.{data_block}
-use Rattle.lfs_ways.proofs.PieceLemmas.{byte_put-after, untouched_put}
+use Rattle.lfs_bmap.specs.Pieces.{IsPadded, IsPut, Touches}
+use Rattle.lfs_bmap.specs.Reading.{data_block}
+use Rattle.lfs_bmap.proofs.PieceLemmas.{byte_put-after, untouched_put}
 use Rattle.lfs_staging.specs.declared.parts.Parts.{Parts}
+use Rattle.lfs_staging.specs.Changing.{frames_of_put, frames_of_single}
 use Rattle.lfs_staging.specs.Putting.{PutsBelow, PutsBlock, PutsBytes, TakesBelow}
-use Rattle.lfs_staging.specs.Staging.{IsStaged, IsZeroPast, MayStage, StagesData, TakesFrames}
+use Rattle.lfs_staging.specs.Staging.{HasFrames, IsStaged, IsZeroPast, MayStage, StagesData, TakesFrames}
 use Rattle.lfs_staging.specs.View.{key_of, tree_of}
 use Rattle.lfs_staging.proofs.StagingLemmas.{version-same}
 
@@ -95,6 +96,29 @@ takes_more a b c number first index p log q = record {
         inr (omega arith, omega arith, subst (λ version. IsLocked (key_of number version 1) c.cache) (sym (version-same b c number log)) (q.stays _ single.2))
   ];
   records = q.records ∙ p.records;
+}
+
+-- there are frames for one more where there are for all
+single_past : (end : ℕ) → 6144 < end → frames_of_single end ≡ 1
+single_past end past = cond-true {A = ℕ} _ 1 0 (lt-ltb 6144 end past)
+
+pub takes_room : (old p : Parts) (number start count index : ℕ) → start / 512 ≤ index → index < (start + count - 1) / 512 + 1 → 0 < count
+    → length old.cache.locked + frames_of_put start count ≤ 24 → TakesBelow number (start / 512) index old p → HasFrames p number index
+takes_room old p number start count index from to some room takes = record {
+  one = elim takes.frames [
+    | inl few ↦ omega arith
+    | inr single ↦
+        let past = single.0 in
+        let few = single.1 in
+        let one = single_past (start + count) (omega arith) in
+        omega arith
+  ];
+  two = λ high.
+      let one = single_past (start + count) (omega arith) in
+      elim takes.frames [
+        | inl few ↦ inr (omega arith)
+        | inr single ↦ inl single.2
+      ];
 }
 
 -- all

@@ -5,9 +5,9 @@ use Rattle.std.proofs.lemmas.Bool.{cases_eq, cond-true, cond-false, eq-eqb, ne_e
 use Rattle.std.proofs.lemmas.List.{length-take, length-drop, get_or-take, ext_get_or}
 use Rattle.lfs_types.specs.Stored.{Reads, slice_of}
 use Rattle.lfs_types.specs.declared.limits.TheConstants.{FILE_BLOCKS}
-use Rattle.lfs_ways.specs.Pieces.{IsGot, Touches, byte_at}
-use Rattle.lfs_ways.specs.Reading.{Tree, data_block, read}
-use Rattle.lfs_ways.specs.Ways.{data_way}
+use Rattle.lfs_bmap.specs.Pieces.{IsGot, Touches, byte_at}
+use Rattle.lfs_bmap.specs.Reading.{Tree, data_block, read}
+use Rattle.lfs_bmap.specs.Ways.{data_way}
 use Rattle.lfs_staging.specs.Filling.{IsFilled}
 
 -- a data block that a file can have

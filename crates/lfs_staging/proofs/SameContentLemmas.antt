@@ -3,8 +3,8 @@ use Rattle.std.proofs.Common.{◌≡◌, ℕ, zero, suc, ◌+◌, ◌/◌, ◌<�
 use Rattle.lfs_types.specs.Tree.{File, file_of}
 use Rattle.lfs_inodes.specs.Attributes.{Attributes, stat_of}
 use Rattle.lfs_inodes.specs.Reading.{Fields}
-use Rattle.lfs_ways.specs.Pieces.{file_bytes, joined}
-use Rattle.lfs_ways.specs.Reading.{Tree, data_block}
+use Rattle.lfs_bmap.specs.Pieces.{file_bytes, joined}
+use Rattle.lfs_bmap.specs.Reading.{Tree, data_block}
 use Rattle.lfs_staging.specs.declared.parts.Parts.{Parts}
 use Rattle.lfs_staging.specs.Files.{content_below, content_of, file_at, file_with, with_file}
 use Rattle.lfs_staging.specs.View.{record_of, tree_of}

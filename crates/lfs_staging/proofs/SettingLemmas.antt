@@ -3,7 +3,6 @@ use Rattle.std.proofs.Common.{◌≡◌, ◌≢◌, ℕ, List, length, [], ◌�
 use Rattle.std.specs.Prelude.{slice_set, All}
 use Rattle.std.proofs.lemmas.Bool.{cond-true}
 use Rattle.std.proofs.lemmas.List.Elements.{All-weaker}
-use Rattle.std.specs.Vec.{vec_capacity}
 use Rattle.lfs_cache.specs.Changes.{IsContents}
 use Rattle.lfs_ifile.specs.declared.inode.InodePlace.{InodePlace}
 use Rattle.lfs_ifile.specs.Tables.{place_of, row_of}
@@ -14,23 +13,24 @@ use Rattle.lfs_inodes.specs.Reading.{fields_of}
 use Rattle.lfs_cache.specs.Contents.{Contents, block_in}
 use Rattle.lfs_cache.specs.Keys.{same_key}
 use Rattle.lfs_log.specs.Parts.{LogParts}
-use Rattle.lfs_ways.specs.Reading.{table}
-use Rattle.lfs_ways.specs.declared.blocks.FileBlock.TheVariants.{Single}
-use Rattle.lfs_ways.proofs.ReadingLemmas.{table-root, table-read, read-waits}
+use Rattle.lfs_bmap.specs.Reading.{table}
+use Rattle.lfs_bmap.specs.declared.blocks.FileBlock.TheVariants.{Single}
+use Rattle.lfs_bmap.proofs.ReadingLemmas.{table-root, table-read, read-waits}
 use Rattle.lfs_staging.specs.declared.parts.Parts.{Parts}
 use Rattle.lfs_staging.specs.Addressing.{numbers_of, IsWaiting, Replaces, Sets, SetsEntry, StaysWaiting, replaced}
 use Rattle.lfs_staging.specs.Store.{IsPresent}
 use Rattle.lfs_staging.specs.View.{fields_at, key_of, record_of, root_in, tree_of, version_of, waiting_in, waiting_or}
+use Rattle.lfs_staging.proofs.HeldLemmas.{GainsNoClean-same}
 use Rattle.lfs_staging.proofs.ViewLemmas.{code_at-way_to, record_of-waiting}
 use Rattle.lfs_staging.proofs.ReplacingLemmas.{each_replaced}
 
 -- the record of a number is the same where the log is, and what waits for the number
-pub record_same : (p q : Parts) (number : ℕ) → q.log ≡ p.log → waiting_in q.waiting.items number ≡ waiting_in p.waiting.items number
+pub record_same : (p q : Parts) (number : ℕ) → q.log ≡ p.log → waiting_in q.waiting number ≡ waiting_in p.waiting number
     → record_of q number ≡ record_of p number
 unfolding record_of
 record_same p q number log waits =
     ap (λ w. option_and_then (λ (place : InodePlace). waiting_or w (fields_at q.log.memory place)) (place_of q.log.tables number)) waits
-    ∙ ap (λ (l : LogParts). option_and_then (λ (place : InodePlace). waiting_or (waiting_in p.waiting.items number) (fields_at l.memory place)) (place_of l.tables number)) log
+    ∙ ap (λ (l : LogParts). option_and_then (λ (place : InodePlace). waiting_or (waiting_in p.waiting number) (fields_at l.memory place)) (place_of l.tables number)) log
 
 -- the record that waits is the number's
 pub waiting_record : (p : Parts) (v : Inode) → IsWaiting p v → record_of p v.number ≡ Some (fields_of v)
@@ -72,7 +72,7 @@ some_there None h = absurd (cc)
 some_there (Some x) h = (x, refl)
 
 -- a record that has the same attributes waits in place of another one
-module _ (p q : Parts) (v w : Inode) (is : IsWaiting p v) (log : q.log ≡ p.log) (same : attributes w ≡ attributes v) (swap : Replaces p.waiting.items q.waiting.items w) where
+module _ (p q : Parts) (v w : Inode) (is : IsWaiting p v) (log : q.log ≡ p.log) (same : attributes w ≡ attributes v) (swap : Replaces p.waiting q.waiting w) where
   number_same : w.number ≡ v.number
   number_same = ap (λ (a : Attributes). a.number) same
 
@@ -84,7 +84,7 @@ module _ (p q : Parts) (v w : Inode) (is : IsWaiting p v) (log : q.log ≡ p.log
         ∙ ap (λ (l : LogParts). (row_of l.tables w.number).version) (sym log);
   }
 
-  pub replaced_others : (number : ℕ) → number ≢ v.number → waiting_in q.waiting.items number ≡ waiting_in p.waiting.items number
+  pub replaced_others : (number : ℕ) → number ≢ v.number → waiting_in q.waiting number ≡ waiting_in p.waiting number
   replaced_others number other = swap.others number (λ e. other (e ∙ number_same))
 
   pub sets_record : (i a : ℕ) → q.cache ≡ p.cache → addresses w ≡ slice_set (addresses v) i a → Sets p q v i [] a
@@ -97,16 +97,15 @@ module _ (p q : Parts) (v w : Inode) (is : IsWaiting p v) (log : q.log ≡ p.log
     waits = λ key other. ap (λ (s : Contents). block_in key s.locked) cache;
     record_only = λ _. cache;
     many = ap (λ (s : Contents). length s.locked) cache;
+    clean = GainsNoClean-same p.cache q.cache cache;
     still = tt;
   }
 
-  pub stays_record : q.cache ≡ p.cache → IsContents p.cache → p.cache.lru ≡ [] → All (λ (x : Inode). IsPresent p x.number x.version) p.waiting.items
-      → q.waiting.items ≡ replaced p.waiting.items w → vec_capacity q.waiting ≡ vec_capacity p.waiting → StaysWaiting p q v
-  stays_record cache contents none present items room = record {
+  pub stays_record : q.cache ≡ p.cache → IsContents p.cache → All (λ (x : Inode). IsPresent p x.number x.version) p.waiting
+      → q.waiting ≡ replaced p.waiting w → StaysWaiting p q v
+  stays_record cache contents present items = record {
     cache = subst IsContents (sym cache) contents;
-    none_clean = ap (λ (s : Contents). s.lru) cache ∙ none;
-    present = all_present p q p.waiting.items q.waiting.items log items present replaced_here;
-    room = room;
+    present = all_present p q p.waiting q.waiting log items present replaced_here;
     after = w;
     here = replaced_here;
     same = same;
@@ -122,7 +121,7 @@ module _ (p q : Parts) (v w : Inode) (is : IsWaiting p v) (log : q.log ≡ p.log
           (All-weaker (λ (x : Inode). IsPresent p x.number x.version) (λ (x : Inode). IsPresent q x.number x.version) (λ x h. present_kept p q x.number x.version log h) xs present))
 
 -- an address is set in the single indirect block
-module _ (p q : Parts) (v : Inode) (i a : ℕ) (b : List ℕ) (is : IsWaiting p v) (log : q.log ≡ p.log) (waiting : q.waiting.items ≡ p.waiting.items)
+module _ (p q : Parts) (v : Inode) (i a : ℕ) (b : List ℕ) (is : IsWaiting p v) (log : q.log ≡ p.log) (waiting : q.waiting ≡ p.waiting)
     (was : block_in (key_of v.number v.version 1) p.cache.locked ≡ Some b) (h : SetsEntry p.cache q.cache (key_of v.number v.version 1) i a b) where
   pub entry_here : IsWaiting q v
   entry_here = record {
@@ -140,16 +139,15 @@ module _ (p q : Parts) (v : Inode) (i a : ℕ) (b : List ℕ) (is : IsWaiting p 
     waits = λ key other. h.rewritten.others key (subst (λ c. same_key (key_of v.number v.version c) key ≡ false) (code_at-way_to Single) other);
     record_only = λ e. absurd (not_nil 12 [] e);
     many = h.rewritten.many;
+    clean = h.rewritten.clean;
     still = ap (λ c. is_some (block_in (key_of v.number v.version c) q.cache.locked)) (code_at-way_to Single) ∙ ap is_some h.rewritten.here;
   }
 
-  pub stays_entry : p.cache.lru ≡ [] → All (λ (x : Inode). IsPresent p x.number x.version) p.waiting.items → vec_capacity q.waiting ≡ vec_capacity p.waiting → StaysWaiting p q v
-  stays_entry none present room = record {
+  pub stays_entry : All (λ (x : Inode). IsPresent p x.number x.version) p.waiting → StaysWaiting p q v
+  stays_entry present = record {
     cache = h.rewritten.formed;
-    none_clean = h.rewritten.none_clean;
     present = subst (All (λ (x : Inode). IsPresent q x.number x.version)) (sym waiting)
-        (All-weaker (λ (x : Inode). IsPresent p x.number x.version) (λ (x : Inode). IsPresent q x.number x.version) (λ x was. present_kept p q x.number x.version log was) p.waiting.items present);
-    room = room;
+        (All-weaker (λ (x : Inode). IsPresent p x.number x.version) (λ (x : Inode). IsPresent q x.number x.version) (λ x was. present_kept p q x.number x.version log was) p.waiting present);
     after = v;
     here = entry_here;
     same = refl;

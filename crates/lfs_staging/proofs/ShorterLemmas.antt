@@ -15,20 +15,22 @@ use Rattle.lfs_inodes.proofs.ZeroedLemmas.{zeroed_from-is}
 use Rattle.lfs_cache.specs.Changes.{IsContents}
 use Rattle.lfs_cache.specs.Contents.{Contents, IsLocked}
 use Rattle.lfs_log.specs.Parts.{IsParts, LogParts}
-use Rattle.lfs_ways.specs.declared.blocks.FileBlock.{FileBlock}
-use Rattle.lfs_ways.specs.declared.blocks.FileBlock.TheVariants.{Record, Single, Data}
-use Rattle.lfs_ways.specs.Blocks.{IsFileBlock, code_of}
-use Rattle.lfs_ways.specs.Pieces.{IsPadded}
-use Rattle.lfs_ways.specs.Reading.{address, data_block}
-use Rattle.lfs_ways.specs.Ways.{data_way}
-use Rattle.lfs_ways.proofs.ReadingLemmas.{address-cell, table-root}
-use Rattle.lfs_ways.proofs.WayLemmas.{data_way-direct}
+use Rattle.lfs_bmap.specs.declared.blocks.FileBlock.{FileBlock}
+use Rattle.lfs_bmap.specs.declared.blocks.FileBlock.TheVariants.{Record, Single, Data}
+use Rattle.lfs_bmap.specs.Blocks.{IsFileBlock, code_of}
+use Rattle.lfs_bmap.specs.Pieces.{IsPadded}
+use Rattle.lfs_bmap.specs.Reading.{address, data_block}
+use Rattle.lfs_bmap.specs.Ways.{data_way}
+use Rattle.lfs_bmap.proofs.ReadingLemmas.{address-cell, table-root}
+use Rattle.lfs_bmap.proofs.WayLemmas.{data_way-direct}
 use Rattle.lfs_staging.specs.declared.parts.Parts.{Parts}
 use Rattle.lfs_staging.specs.Cutting.{IsAlone, IsGivenBack, MayShorten, Shortens}
 use Rattle.lfs_staging.specs.Staging.{IsStaged, StagesRecord}
 use Rattle.lfs_staging.specs.Store.{AreFiles, IsFile, IsPresent, IsWithin}
 use Rattle.lfs_staging.specs.View.{key_of, record_of, root_in, tree_of, version_of, waiting_in}
 use Rattle.lfs_staging.specs.Waiting.{without}
+use Rattle.lfs_staging.proofs.CleanLemmas.{mirrors_log}
+use Rattle.lfs_staging.proofs.HeldLemmas.{GainsNoClean-same}
 use Rattle.lfs_staging.proofs.KeptLemmas.{log_kept, present_kept, record_once, record_parents, record_present, record_room, record_trees}
 use Rattle.lfs_staging.proofs.StagingLemmas.{version-same}
 use Rattle.lfs_staging.proofs.WaitingLemmas.{length-less, waiting-head}
@@ -107,7 +109,6 @@ module _ (old new : Parts) (v w : Inode) (len : ℕ) (may : MayShorten old v.num
   files_after = record {
     parts = subst IsParts (sym h.log) files.parts;
     cache = subst IsContents (sym h.cache) files.cache;
-    readable = record { none_clean = ap (λ (s : Contents). s.lru) h.cache ∙ files.readable.none_clean };
     reserved = λ n low other. ap (λ (l : LogParts). (row_of l.tables n).used) h.log ∙ files.reserved n low other;
     recorded = λ n used. elim (cases_eq n v.number) [
       | inl is ↦ ap (λ m. is_some (record_of new m)) is ∙ ap is_some here
@@ -123,8 +124,8 @@ module _ (old new : Parts) (v w : Inode) (len : ℕ) (may : MayShorten old v.num
         let r = record_present old new w h files was_present k d low in
         present_kept old new _ _ h.log r;
     frames = λ key locked. present_kept old new key.ino key.version h.log (files.frames key (subst (IsLocked key) h.cache locked));
-    room = subst (λ n. 64 ≤ n) (sym h.room) files.room;
     coded = λ key locked. files.coded key (subst (IsLocked key) h.cache locked);
+    mirrors = mirrors_log old new files.mirrors (GainsNoClean-same old.cache new.cache h.cache) h.log (λ n way known. ap (λ t. address t way) (trees n));
   }
 
   -- what waits of the file lies within its length
@@ -152,14 +153,14 @@ module _ (old new : Parts) (v w : Inode) (len : ℕ) (may : MayShorten old v.num
         | inr other ↦ may.staged.within n block f (sym (others n other) ∙ is) can before
       ]
 
-  room_after : without v.number new.waiting.items ≡ without v.number old.waiting.items
-  room_after = subst (λ n. without n new.waiting.items ≡ without n old.waiting.items) same_number (record_room old new w h)
+  room_after : without v.number new.waiting ≡ without v.number old.waiting
+  room_after = subst (λ n. without n new.waiting ≡ without n old.waiting) same_number (record_room old new w h)
 
-  no_more : length new.waiting.items ≤ length old.waiting.items
+  no_more : length new.waiting ≤ length old.waiting
   no_more =
-      let items : length new.waiting.items ≡ length (without v.number old.waiting.items) + 1
-      = ap length h.waiting ∙ ap (λ n. length (w ∷ without n old.waiting.items)) same_number ∙ omega arith in
-      let less = length-less old.waiting.items v.number may.waits in
+      let items : length new.waiting ≡ length (without v.number old.waiting) + 1
+      = ap length h.waiting ∙ ap (λ n. length (w ∷ without n old.waiting)) same_number ∙ omega arith in
+      let less = length-less old.waiting v.number may.waits in
       omega arith
 
   staged_after : IsStaged new 0
@@ -185,5 +186,5 @@ module _ (old new : Parts) (v w : Inode) (len : ℕ) (may : MayShorten old v.num
     others = others;
     blocks = trees;
     waiting = no_more;
-    waits = ap is_some (ap (λ (vs : List Inode). waiting_in vs v.number) h.waiting ∙ waiting-head w (without w.number old.waiting.items) v.number same_number);
+    waits = ap is_some (ap (λ (vs : List Inode). waiting_in vs v.number) h.waiting ∙ waiting-head w (without w.number old.waiting) v.number same_number);
   }

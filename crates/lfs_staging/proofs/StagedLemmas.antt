@@ -9,21 +9,21 @@ use Rattle.lfs_inodes.specs.Reading.{Fields, fields_of}
 use Rattle.lfs_cache.specs.declared.key.Key.{Key}
 use Rattle.lfs_cache.specs.Contents.{IsLocked}
 use Rattle.lfs_log.specs.Parts.{LogParts}
-use Rattle.lfs_ways.specs.declared.blocks.FileBlock.TheVariants.{Single}
-use Rattle.lfs_ways.specs.Blocks.{code_of, way_to}
-use Rattle.lfs_ways.specs.Log.{Assigns, Renews}
-use Rattle.lfs_ways.specs.Reading.{address, read}
-use Rattle.lfs_ways.specs.Ways.{IsKnown}
-use Rattle.lfs_ways.proofs.MoveLemmas.{moves-assigned, moves-refl, moves-renewed, moves-same, moves-trans}
-use Rattle.lfs_ways.proofs.PlaceLemmas.{data_block-same}
-use Rattle.lfs_staging.specs.declared.parts.TheConstants.{WAITING_LIMIT}
+use Rattle.lfs_bmap.specs.declared.blocks.FileBlock.TheVariants.{Single}
+use Rattle.lfs_bmap.specs.Blocks.{code_of, way_to}
+use Rattle.lfs_bmap.specs.Log.{Assigns, Renews}
+use Rattle.lfs_bmap.specs.Reading.{address, read}
+use Rattle.lfs_bmap.specs.Ways.{IsKnown}
+use Rattle.lfs_bmap.proofs.MoveLemmas.{moves-assigned, moves-refl, moves-renewed, moves-same, moves-trans}
+use Rattle.lfs_bmap.proofs.PlaceLemmas.{data_block-same}
+use Rattle.lfs_staging.specs.declared.records.TheConstants.{WAITING_LIMIT}
 use Rattle.lfs_staging.specs.declared.parts.Parts.{Parts}
 use Rattle.lfs_staging.specs.Changing.{StaysInLog}
 use Rattle.lfs_staging.specs.Files.{content_of}
 use Rattle.lfs_staging.specs.Keys.{log_state}
 use Rattle.lfs_staging.specs.Putting.{MayChange}
-use Rattle.lfs_staging.specs.Staging.{IsStaged, MayStage, ParentsWait, SameFiles, StagesBlock, StagesOwnRecord}
-use Rattle.lfs_staging.specs.Store.{AreFiles, IsPresent, IsWithin}
+use Rattle.lfs_staging.specs.Staging.{IsStaged, MayStage, SameFiles, StagesBlock, StagesOwnRecord}
+use Rattle.lfs_staging.specs.Store.{AreFiles, IsPresent, IsWithin, ParentsWait}
 use Rattle.lfs_staging.specs.View.{key_of, record_of, tree_of, version_of, waiting_in}
 use Rattle.lfs_staging.specs.Waiting.{AreOnce, without}
 use Rattle.lfs_staging.proofs.KeptLemmas.{block_files, block_known, block_parents, few_records, keys_kept, log_kept, same_padded, single_same, within_code}
@@ -34,14 +34,14 @@ use Rattle.lfs_staging.proofs.WaitingLemmas.{length-without}
 
 -- a file in use may be changed where there is room for a record
 pub staged_change : (p : Parts) (number spare : ℕ) → IsStaged p spare → number < length p.log.tables.rows → (row_of p.log.tables number).used ≡ true
-    → length p.waiting.items < WAITING_LIMIT → MayChange p number
+    → length p.waiting < WAITING_LIMIT → MayChange p number
 staged_change p number spare staged low used few = record {
   files = staged.whole;
   parents = staged.parents;
   inside = lies_in p number spare low staged.whole.parts.laid_out staged.log;
   in_range = low;
   in_use = used;
-  records = let fewer = length-without p.waiting.items number in omega arith;
+  records = let fewer = length-without p.waiting number in omega arith;
 }
 
 -- ---- what is staged with what it has
@@ -53,7 +53,7 @@ content_same old new same =
 
 -- the blocks of the file may wait still
 pub may_again : (old new : Parts) (v : Inode) → MayStage old v → SameFiles old new → AreFiles new → ParentsWait new
-    → without v.number new.waiting.items ≡ without v.number old.waiting.items → MayStage new v
+    → without v.number new.waiting ≡ without v.number old.waiting → MayStage new v
 may_again old new v may same files parents room = record {
   files = files;
   parents = parents;
@@ -75,7 +75,7 @@ own_kept old new v may h spare staged = record {
   log = log_kept old new spare h.same.log (λ n way known. (h.same.readings n).addresses way known) staged.log;
   parents = h.parents;
   once = h.once staged.once;
-  few = few_records new v.number (without v.number old.waiting.items) h.room may.records;
+  few = few_records new v.number (without v.number old.waiting) h.room may.records;
   within = λ n block f is can locked.
       staged.within n block f (sym (h.same.records n) ∙ is) can
       (subst (λ version. IsLocked (key_of n version (code_of block)) old.cache) (version-same old new n h.same.log)
@@ -86,7 +86,7 @@ pub own_again : (old new : Parts) (v : Inode) → MayStage old v → StagesOwnRe
 own_again old new v may h = may_again old new v may h.same h.files h.parents h.room
 
 -- and where the single indirect block of a file waits with what it has, and its record does
-module _ (old new : Parts) (v : Inode) (may : MayStage old v) (waits : IsSome (waiting_in old.waiting.items v.number))
+module _ (old new : Parts) (v : Inode) (may : MayStage old v) (waits : IsSome (waiting_in old.waiting v.number))
     (h : StagesBlock v.number Single (read (tree_of old v.number) (12 ∷ [])) old new) where
   pub single_files : AreFiles new
   single_files =

@@ -6,31 +6,31 @@ use Rattle.lfs_inodes.specs.declared.inode.Inode.{Inode}
 use Rattle.lfs_cache.specs.declared.key.Key.{Key}
 use Rattle.lfs_cache.specs.Keys.{same_key}
 use Rattle.lfs_cache.specs.Changes.{GainsOnly, IsContents}
-use Rattle.lfs_cache.specs.Contents.{Contents, IsLocked, block_in, block_of, drop_last, taken_by, without_key, written, written_by}
+use Rattle.lfs_cache.specs.Contents.{IsLocked, block_in}
 use Rattle.lfs_cache.proofs.Entries.{same_is, same_cases}
 use Rattle.lfs_segments.specs.Memory.{block_at}
 use Rattle.lfs_log.specs.Parts.{LogParts}
-use Rattle.lfs_ways.specs.declared.blocks.FileBlock.{FileBlock}
-use Rattle.lfs_ways.specs.Blocks.{code_of, way_to}
-use Rattle.lfs_ways.specs.Reading.{Stages}
-use Rattle.lfs_ways.specs.Ways.{code_at}
-use Rattle.lfs_ways.proofs.WayLemmas.{known_way_of, way_of-code_of}
-use Rattle.lfs_ways.specs.Ways.{way_of}
+use Rattle.lfs_bmap.specs.declared.blocks.FileBlock.{FileBlock}
+use Rattle.lfs_bmap.specs.Blocks.{code_of, way_to}
+use Rattle.lfs_bmap.specs.Reading.{Stages}
+use Rattle.lfs_bmap.specs.Ways.{code_at}
+use Rattle.lfs_bmap.proofs.WayLemmas.{known_way_of, way_of-code_of}
+use Rattle.lfs_bmap.specs.Ways.{way_of}
 use Rattle.lfs_staging.specs.declared.parts.Parts.{Parts}
 use Rattle.lfs_staging.specs.Staging.{GrowsBy, StagesBlock, StagesRecord}
 use Rattle.lfs_staging.specs.View.{fields_at, key_of, record_of, root_in, tree_of, version_of, waiting_in, waiting_or}
 use Rattle.std.proofs.lemmas.Bool.{cond-true}
-use Rattle.std.specs.Vec.{vec_capacity}
 use Rattle.lfs_staging.specs.Waiting.{without}
+use Rattle.lfs_staging.proofs.HeldLemmas.{gains_none}
 use Rattle.lfs_staging.proofs.WaitingLemmas.{waiting-head, waiting-staged}
 use Rattle.lfs_staging.proofs.ViewLemmas.{code_at-way_to, record_of-waiting}
 
 -- ---- records
 -- a record is the same where the log and what waits of the number are
-pub record_of-same : (old new : Parts) (n : ℕ) → new.log ≡ old.log → waiting_in new.waiting.items n ≡ waiting_in old.waiting.items n → record_of new n ≡ record_of old n
+pub record_of-same : (old new : Parts) (n : ℕ) → new.log ≡ old.log → waiting_in new.waiting n ≡ waiting_in old.waiting n → record_of new n ≡ record_of old n
 unfolding record_of
 record_of-same old new n log waits =
-    ap (λ (l : LogParts). option_and_then (λ (place : InodePlace). waiting_or (waiting_in new.waiting.items n) (fields_at l.memory place)) (place_of l.tables n)) log
+    ap (λ (l : LogParts). option_and_then (λ (place : InodePlace). waiting_or (waiting_in new.waiting n) (fields_at l.memory place)) (place_of l.tables n)) log
     ∙ ap (λ w. option_and_then (λ (place : InodePlace). waiting_or w (fields_at old.log.memory place)) (place_of old.log.tables n)) waits
 
 pub version-same : (old new : Parts) (n : ℕ) → new.log ≡ old.log → version_of new n ≡ version_of old n
@@ -43,24 +43,12 @@ key-apart a b other = elim (same_cases a b) [
   | inr apart ↦ apart
 ]
 
-taken_lru : (empty age : ℕ) (s : Contents) → s.lru ≡ [] → (taken_by empty age s).lru ≡ []
-taken_lru (suc empty) age s none = none
-taken_lru zero (suc age) s none = none
-taken_lru zero zero s none = ap drop_last none
-
-written_lru-by : (o : Option (List ℕ)) (k : Key) (b : List ℕ) (s : Contents) → s.lru ≡ [] → (written_by o k b s).lru ≡ []
-written_lru-by None k b s none = taken_lru s.empty s.age s none
-written_lru-by (Some x) k b s none = ap (without_key k) none
-
-pub written_lru : (k : Key) (b : List ℕ) (s : Contents) → s.lru ≡ [] → (written k b s).lru ≡ []
-written_lru k b s none = written_lru-by (block_of k s) k b s none
-
 -- a key other than the one that was written waits as it did
-pub grown : (key : Key) (old new : Parts) → (formed : IsContents new.cache) → new.cache.lru ≡ [] → IsLocked key new.cache → GainsOnly key old.cache new.cache
+pub grown : (key : Key) (old new : Parts) → IsContents new.cache → IsLocked key new.cache → GainsOnly key old.cache new.cache
     → length new.cache.locked ≤ length old.cache.locked + 1 → (IsLocked key old.cache → length new.cache.locked ≡ length old.cache.locked) → GrowsBy key old new
-grown key old new formed lru here gains more none = record {
+grown key old new formed here gains more none = record {
   formed = formed;
-  none_clean = lru;
+  clean = gains_none old.cache new.cache key formed gains here;
   here = here;
   kept = λ other locked. elim (same_cases key other) [
     | inl same ↦ subst (λ k. IsLocked k new.cache) (same_is key other same) here
@@ -106,27 +94,26 @@ used_place : (p : Parts) (n : ℕ) → (row_of p.log.tables n).used ≡ true
     → place_of p.log.tables n ≡ Some (record { addr = (row_of p.log.tables n).address; slot = (row_of p.log.tables n).slot; version = (row_of p.log.tables n).version })
 used_place p n used = cond-true _ _ _ used
 
-pub staged_record : (old new : Parts) (v : Inode) → new.log ≡ old.log → new.cache ≡ old.cache → new.waiting.items ≡ v ∷ without v.number old.waiting.items
-    → vec_capacity new.waiting ≡ vec_capacity old.waiting → (row_of old.log.tables v.number).used ≡ true → StagesRecord v old new
-staged_record old new v log cache waiting room used = record {
+pub staged_record : (old new : Parts) (v : Inode) → new.log ≡ old.log → new.cache ≡ old.cache → new.waiting ≡ v ∷ without v.number old.waiting
+    → (row_of old.log.tables v.number).used ≡ true → StagesRecord v old new
+staged_record old new v log cache waiting used = record {
   log = log;
   cache = cache;
   waiting = waiting;
-  room = room;
   here =
       let now : (row_of new.log.tables v.number).used ≡ true = ap (λ (l : LogParts). (row_of l.tables v.number).used) log ∙ used in
-      record_of-waiting new v.number _ v (used_place new v.number now) (ap (λ vs. waiting_in vs v.number) waiting ∙ waiting-head v (without v.number old.waiting.items) v.number refl);
-  others = λ n other. record_of-same old new n log (ap (λ vs. waiting_in vs n) waiting ∙ waiting-staged v old.waiting.items n other);
+      record_of-waiting new v.number _ v (used_place new v.number now) (ap (λ vs. waiting_in vs v.number) waiting ∙ waiting-head v (without v.number old.waiting) v.number refl);
+  others = λ n other. record_of-same old new n log (ap (λ vs. waiting_in vs n) waiting ∙ waiting-staged v old.waiting n other);
 }
 
 -- ---- a block
 pub staged_block : (old new : Parts) (number version lbn : ℕ) (block : FileBlock) (bytes : List ℕ) → version ≡ version_of old number → lbn ≡ code_of block
-    → new.log ≡ old.log → new.waiting.items ≡ old.waiting.items → vec_capacity new.waiting ≡ vec_capacity old.waiting → old.cache.lru ≡ []
-    → new.cache ≡ written (key_of number version lbn) bytes old.cache → block_in (key_of number version lbn) new.cache.locked ≡ Some bytes
+    → new.log ≡ old.log → new.waiting ≡ old.waiting
+    → block_in (key_of number version lbn) new.cache.locked ≡ Some bytes
     → GainsOnly (key_of number version lbn) old.cache new.cache → length new.cache.locked ≤ length old.cache.locked + 1
     → (IsLocked (key_of number version lbn) old.cache → length new.cache.locked ≡ length old.cache.locked) → IsContents new.cache
     → StagesBlock number block bytes old new
-staged_block old new number version lbn block bytes at code log waiting room lru contents here gains more none formed =
+staged_block old new number version lbn block bytes at code log waiting here gains more none formed =
     let key : key_of number version lbn ≡ key_of number (version_of old number) (code_of block) = λ i. key_of number (at i) (code i) in
     let held : block_in (key_of number (version_of old number) (code_of block)) new.cache.locked ≡ Some bytes
     = subst (λ k. block_in k new.cache.locked ≡ Some bytes) key here in
@@ -136,11 +123,9 @@ staged_block old new number version lbn block bytes at code log waiting room lru
     record {
       log = log;
       waiting = waiting;
-      room = room;
       staged = tree-staged old new number block bytes log records held gained.dirty;
       others = tree-others old new number block bytes log records held gained.dirty;
       frames = grown (key_of number (version_of old number) (code_of block)) old new formed
-          (ap (λ (s : Contents). s.lru) contents ∙ written_lru (key_of number version lbn) bytes old.cache lru)
           (ap is_some held) gained more
           (λ locked. none (subst (λ k. IsLocked k old.cache) (sym key) locked));
     }

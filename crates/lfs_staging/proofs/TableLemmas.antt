@@ -11,13 +11,13 @@ use Rattle.lfs_inodes.proofs.Cells.{length-numbers}
 use Rattle.lfs_cache.specs.declared.key.Key.{Key}
 use Rattle.lfs_cache.specs.Keys.{same_key}
 use Rattle.lfs_log.specs.Parts.{record_place}
-use Rattle.lfs_ways.specs.declared.blocks.FileBlock.{FileBlock}
-use Rattle.lfs_ways.specs.declared.blocks.FileBlock.TheVariants.{Record, Single, Data}
-use Rattle.lfs_ways.specs.Blocks.{IsFileBlock, code_of, way_to}
-use Rattle.lfs_ways.specs.Reading.{Tree, read, table}
-use Rattle.lfs_ways.specs.Ways.{data_way}
-use Rattle.lfs_ways.proofs.ReadingLemmas.{read-waits, table-read, table-root}
-use Rattle.lfs_ways.proofs.WayLemmas.{data_way-direct, data_way-single}
+use Rattle.lfs_bmap.specs.declared.blocks.FileBlock.{FileBlock}
+use Rattle.lfs_bmap.specs.declared.blocks.FileBlock.TheVariants.{Record, Single, Data}
+use Rattle.lfs_bmap.specs.Blocks.{IsFileBlock, code_of, way_to}
+use Rattle.lfs_bmap.specs.Reading.{Tree, read, table}
+use Rattle.lfs_bmap.specs.Ways.{data_way}
+use Rattle.lfs_bmap.proofs.ReadingLemmas.{read-waits, table-read, table-root}
+use Rattle.lfs_bmap.proofs.WayLemmas.{data_way-direct, data_way-single}
 use Rattle.lfs_staging.specs.declared.parts.Parts.{Parts}
 use Rattle.lfs_staging.specs.Addressing.{IsWaiting}
 use Rattle.lfs_staging.specs.View.{key_of, tree_of}

@@ -20,12 +20,14 @@ use Rattle.lfs_cache.specs.declared.key.Key.{Key}
 use Rattle.lfs_cache.specs.Contents.{IsLocked}
 use Rattle.lfs_log.specs.Parts as log
 use Rattle.lfs_log.specs.Parts.{LogParts, MayMove, record_place}
-use Rattle.lfs_ways.specs.declared.blocks.FileBlock.TheVariants.{Single, Data}
-use Rattle.lfs_ways.specs.Counting.{placed}
-use Rattle.lfs_ways.specs.Log.{Assigns, IsLog, Renews}
-use Rattle.lfs_ways.proofs.CountingLemmas.{placed-code, placed-here, placed-number}
-use Rattle.lfs_ways.proofs.LogLemmas.{left_log, renewed_log}
-use Rattle.lfs_ways.proofs.SegmentLemmas.{left_fits}
+use Rattle.lfs_bmap.specs.declared.blocks.FileBlock.TheVariants.{Single, Data}
+use Rattle.lfs_bmap.specs.Counting.{placed}
+use Rattle.lfs_bmap.specs.Log.{Assigns, IsLog, Renews}
+use Rattle.lfs_bmap.proofs.CountingLemmas.{placed-code, placed-here, placed-number}
+use Rattle.lfs_bmap.proofs.LogLemmas.{left_log, renewed_log}
+use Rattle.lfs_bmap.proofs.SegmentLemmas.{left_fits}
+use Rattle.lfs_bmap.specs.Reading.{address}
+use Rattle.lfs_bmap.specs.Ways.{way_of}
 use Rattle.lfs_staging.specs.declared.parts.Parts.{Parts}
 use Rattle.lfs_staging.specs.Changing.{StaysInLog}
 use Rattle.lfs_staging.specs.Cutting.{with_length}
@@ -34,11 +36,11 @@ use Rattle.lfs_staging.specs.Keys.{log_state}
 use Rattle.lfs_staging.specs.Making.{Forgets, HasNoBlock, KeepsOthers}
 use Rattle.lfs_staging.specs.Staging.{IsStaged}
 use Rattle.lfs_staging.specs.Store.{AreFiles, IsPresent}
-use Rattle.lfs_staging.specs.View.{key_of, record_of, root_in, version_of, waiting_in}
+use Rattle.lfs_staging.specs.View.{key_of, record_of, root_in, tree_of, version_of, waiting_in}
 use Rattle.lfs_staging.specs.Waiting.{AreOnce, without}
 use Rattle.lfs_staging.proofs.FileLemmas.{file_at-none, free_place, get-content_of}
 use Rattle.lfs_staging.proofs.KeyLemmas.{place-record}
-use Rattle.lfs_staging.proofs.MakingLemmas.{all_nowhere, block_nowhere, files_still, log_still, other_file, other_present, staged_still, stays_in_log}
+use Rattle.lfs_staging.proofs.MakingLemmas.{all_nowhere, block_nowhere, files_still, log_still, none_addressed, other_file, other_present, staged_still, stays_in_log}
 use Rattle.lfs_staging.proofs.ViewLemmas.{record_of-unused}
 use Rattle.lfs_staging.proofs.WaitingLemmas.{all_without, length-without, once_without, waiting-tail, waiting-head, waiting-without}
 
@@ -134,8 +136,7 @@ module _ (number : ℕ) (old new : Parts) (h : Forgets number old new) (low : nu
     numbers = h.numbers;
     rows = h.rows;
     cache = h.cache;
-    waiting = λ n other. ap (λ vs. waiting_in vs n) h.waiting ∙ waiting-without old.waiting.items number n other;
-    room = h.room;
+    waiting = λ n other. ap (λ vs. waiting_in vs n) h.waiting ∙ waiting-without old.waiting number n other;
   }
 
   no_record : record_of new number ≡ None
@@ -153,12 +154,12 @@ module _ (number : ℕ) (old new : Parts) (h : Forgets number old new) (low : nu
   pub taken_log : StaysInLog old new
   taken_log = stays_in_log number old new keeps_others nothing_after
 
-  present : All (λ (w : Inode). IsPresent new w.number w.version) new.waiting.items
+  present : All (λ (w : Inode). IsPresent new w.number w.version) new.waiting
   present =
       subst (λ ws. All (λ (w : Inode). IsPresent new w.number w.version) ws) (sym h.waiting)
       (λ k d inside.
-      other_present number old new keeps_others _ _ (apart_without old.waiting.items number staged.once k d inside)
-      (all_without (λ (w : Inode). IsPresent old w.number w.version) old.waiting.items number staged.whole.records k d inside))
+      other_present number old new keeps_others _ _ (apart_without old.waiting number staged.once k d inside)
+      (all_without (λ (w : Inode). IsPresent old w.number w.version) old.waiting number staged.whole.records k d inside))
 
   files_new : AreFiles new
   files_new =
@@ -166,16 +167,17 @@ module _ (number : ℕ) (old new : Parts) (h : Forgets number old new) (low : nu
       (λ used. absurd (false≢true (sym h.unused ∙ used)))
       (λ f is. absurd (none-some f (sym no_record ∙ is)))
       present
+      (λ key bytes was is. was.somewhere (ap (λ n. address (tree_of old n) (way_of key.lbn)) is ∙ none_addressed old number block (way_of key.lbn)))
 
   pub taken_staged : (at : ℕ → ℕ → ℕ) → ((c : ℕ) → at number c ≡ 0) → ((n c : ℕ) → n ≢ number → at n c ≡ (log_state old).at n c)
       → IsLog (log.log_state new.log at) 0 → IsStaged new 0
   taken_staged at none others kept =
       staged_still number old new keeps_others block.no_frame staged files_new
       (log_still number old new keeps_others nothing_after at none others kept)
-      (subst AreOnce (sym h.waiting) (once_without old.waiting.items number staged.once))
-      (let fewer = length-without old.waiting.items number in
+      (subst AreOnce (sym h.waiting) (once_without old.waiting number staged.once))
+      (let fewer = length-without old.waiting number in
       let few = staged.few in
-      let e : length new.waiting.items ≡ length (without number old.waiting.items) = ap (λ (ws : List Inode). length ws) h.waiting in
+      let e : length new.waiting ≡ length (without number old.waiting) = ap (λ (ws : List Inode). length ws) h.waiting in
       omega arith)
 
   pub taken_content : content_of new ≡ map.remove (content_of old) number

@@ -1,26 +1,27 @@
 -- What the record of a number is, and the bytes that wait.
-use Rattle.std.proofs.Common.{◌≡◌, ℕ, ◌-◌, ◌<◌, ◌≤◌, List, [], ◌∷◌, length, Option, None, Some, option_and_then, is_some, refl, sym, ap, ◌∙◌, arith}
+use Rattle.std.proofs.Common.{◌≡◌, ◌≢◌, ℕ, ◌-◌, ◌<◌, ◌≤◌, List, [], ◌∷◌, length, Option, None, Some, option_and_then, is_some, refl, sym, ap, ◌∙◌, arith}
 use Rattle.std.specs.Prelude.{slice_index}
+use Rattle.std.proofs.lemmas.Option.{same_Some}
 use Rattle.std.proofs.lemmas.List.{get_or_append_left, get_or-append_right}
 use Rattle.lfs_inodes.specs.Addresses.{addresses, cells}
 use Rattle.lfs_types.specs.Blocks.{zero_block}
 use Rattle.lfs_inodes.proofs.ZeroedLemmas.{slice_index-cells_zero_block}
-use Rattle.lfs_ways.specs.Reading.{Tree, address, bytes_via, read}
-use Rattle.lfs_ways.specs.Ways.{data_way}
-use Rattle.lfs_ways.proofs.ReadingLemmas.{address-cell, address-root, table-root, table-read, read-via, via-none}
+use Rattle.lfs_bmap.specs.Reading.{Tree, address, bytes_via, read}
+use Rattle.lfs_bmap.specs.Ways.{data_way}
+use Rattle.lfs_bmap.proofs.ReadingLemmas.{address-cell, address-root, table-root, table-read, read-via, via-log, via-none, via-waits}
 use Rattle.lfs_ifile.specs.declared.inode.InodePlace.{InodePlace}
 use Rattle.lfs_ifile.specs.declared.inode.InodeRow.{InodeRow}
 use Rattle.lfs_ifile.specs.Inode.{place_in}
 use Rattle.lfs_ifile.specs.Tables.{place_of, row_at}
-use Rattle.lfs_segments.specs.Memory.{SegmentMemory}
+use Rattle.lfs_segments.specs.Memory.{SegmentMemory, block_at}
 use Rattle.lfs_inodes.specs.declared.inode.Inode.{Inode}
 use Rattle.lfs_inodes.specs.Reading.{fields_of}
 use Rattle.lfs_cache.specs.declared.key.Key.{Key}
 use Rattle.lfs_cache.specs.Contents.{Contents, block_in, IsLocked, block_of, or_else}
-use Rattle.lfs_ways.specs.Blocks.{code_of, way_to}
-use Rattle.lfs_ways.specs.Ways.{code_at}
-use Rattle.lfs_ways.specs.declared.blocks.FileBlock.{FileBlock}
-use Rattle.lfs_ways.proofs.WayLemmas.{way_of-code_of, code_at-way_of, data_way-direct, data_way-single}
+use Rattle.lfs_bmap.specs.Blocks.{code_of, way_to}
+use Rattle.lfs_bmap.specs.Ways.{code_at}
+use Rattle.lfs_bmap.specs.declared.blocks.FileBlock.{FileBlock}
+use Rattle.lfs_bmap.proofs.WayLemmas.{way_of-code_of, code_at-way_of, data_way-direct, data_way-single}
 use Rattle.lfs_staging.specs.declared.parts.Parts.{Parts}
 use Rattle.lfs_staging.specs.View.{record_of, fields_at, waiting_in, waiting_or, key_of, tree_from}
 
@@ -28,43 +29,34 @@ use Rattle.lfs_staging.specs.View.{record_of, fields_at, waiting_in, waiting_or,
 pub code_at-way_to : (block : FileBlock) → code_at (way_to block) ≡ code_of block
 code_at-way_to block = ap code_at (sym (way_of-code_of block)) ∙ code_at-way_of (code_of block)
 
-or_none : (o : Option (List ℕ)) → or_else o None ≡ o
-or_none None = refl
-or_none (Some b) = refl
-
--- where no clean block is held, what is held for a key waits
-pub held_waits : (key : Key) (c : Contents) → c.lru ≡ [] → block_of key c ≡ block_in key c.locked
-held_waits key c none =
-    ap (λ es. or_else (block_in key c.locked) (block_in key es)) none ∙ or_none (block_in key c.locked)
-
 -- a number that isn't in use has no record
 pub record_of-unused : (p : Parts) (number : ℕ) → place_of p.log.tables number ≡ None → record_of p number ≡ None
 unfolding record_of
 record_of-unused p number h =
-    ap (option_and_then (λ (place : InodePlace). waiting_or (waiting_in p.waiting.items number) (fields_at p.log.memory place))) h
+    ap (option_and_then (λ (place : InodePlace). waiting_or (waiting_in p.waiting number) (fields_at p.log.memory place))) h
 
 -- one in use has the record that waits
 pub record_of-waiting : (p : Parts) (number : ℕ) (place : InodePlace) (v : Inode) → place_of p.log.tables number ≡ Some place
-    → waiting_in p.waiting.items number ≡ Some v → record_of p number ≡ Some (fields_of v)
+    → waiting_in p.waiting number ≡ Some v → record_of p number ≡ Some (fields_of v)
 unfolding record_of
 record_of-waiting p number place v used waits =
-    ap (option_and_then (λ (place : InodePlace). waiting_or (waiting_in p.waiting.items number) (fields_at p.log.memory place))) used
+    ap (option_and_then (λ (place : InodePlace). waiting_or (waiting_in p.waiting number) (fields_at p.log.memory place))) used
     ∙ ap (λ w. waiting_or w (fields_at p.log.memory place)) waits
 
 -- or else the one in the log
 pub record_of-logged : (p : Parts) (number : ℕ) (place : InodePlace) → place_of p.log.tables number ≡ Some place
-    → waiting_in p.waiting.items number ≡ None → record_of p number ≡ fields_at p.log.memory place
+    → waiting_in p.waiting number ≡ None → record_of p number ≡ fields_at p.log.memory place
 unfolding record_of
 record_of-logged p number place used waits =
-    ap (option_and_then (λ (place : InodePlace). waiting_or (waiting_in p.waiting.items number) (fields_at p.log.memory place))) used
+    ap (option_and_then (λ (place : InodePlace). waiting_or (waiting_in p.waiting number) (fields_at p.log.memory place))) used
     ∙ ap (λ w. waiting_or w (fields_at p.log.memory place)) waits
 
--- what is held for a block of a file waits for it
-pub tree_waits : (p : Parts) (v : Inode) (block : FileBlock) (lbn : ℕ) (o : Option (List ℕ)) → p.cache.lru ≡ [] → lbn ≡ code_of block
-    → o ≡ block_of (key_of v.number v.version lbn) p.cache → (tree_from p v).waits (way_to block) ≡ o
-tree_waits p v block lbn o none code held =
+-- what waits for a block of a file
+pub tree_dirty : (p : Parts) (v : Inode) (block : FileBlock) (lbn : ℕ) (o : Option (List ℕ)) → lbn ≡ code_of block
+    → o ≡ block_in (key_of v.number v.version lbn) p.cache.locked → (tree_from p v).waits (way_to block) ≡ o
+tree_dirty p v block lbn o code held =
     let same : code_at (way_to block) ≡ lbn = code_at-way_to block ∙ sym code in
-    ap (λ k. block_in (key_of v.number v.version k) p.cache.locked) same ∙ sym (held_waits (key_of v.number v.version lbn) p.cache none) ∙ sym held
+    ap (λ k. block_in (key_of v.number v.version k) p.cache.locked) same ∙ sym held
 
 -- what isn't there
 pub no_some : {A : Type 0} (o : Option A) → ((x : A) → o ≡ Some x → ⊥) → o ≡ None
@@ -115,9 +107,9 @@ not_locked key c free = no_some (block_in key c.locked) (λ b e. free (ap is_som
 
 -- the record of a number rests on the blocks of the log, on the number's row and on what waits for it
 pub record_like : (p q : Parts) (number : ℕ) → q.log.memory ≡ p.log.memory → q.log.tables.rows ≡ p.log.tables.rows
-    → waiting_in q.waiting.items number ≡ waiting_in p.waiting.items number → record_of q number ≡ record_of p number
+    → waiting_in q.waiting number ≡ waiting_in p.waiting number → record_of q number ≡ record_of p number
 unfolding record_of
 record_like p q number memory rows waits =
     ap (λ w. option_and_then (λ (place : InodePlace). waiting_or w (fields_at q.log.memory place)) (place_of q.log.tables number)) waits
-    ∙ ap (λ (m : SegmentMemory). option_and_then (λ (place : InodePlace). waiting_or (waiting_in p.waiting.items number) (fields_at m place)) (place_of q.log.tables number)) memory
-    ∙ ap (λ (rs : List InodeRow). option_and_then (λ (place : InodePlace). waiting_or (waiting_in p.waiting.items number) (fields_at p.log.memory place)) (place_in (row_at rs number))) rows
+    ∙ ap (λ (m : SegmentMemory). option_and_then (λ (place : InodePlace). waiting_or (waiting_in p.waiting number) (fields_at m place)) (place_of q.log.tables number)) memory
+    ∙ ap (λ (rs : List InodeRow). option_and_then (λ (place : InodePlace). waiting_or (waiting_in p.waiting number) (fields_at p.log.memory place)) (place_in (row_at rs number))) rows

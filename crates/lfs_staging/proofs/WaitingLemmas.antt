@@ -25,6 +25,11 @@ without-none (v ∷ vs) number others =
     cond-false _ _ _ (ne_eqb v.number number (others 0 v (omega arith)))
     ∙ ap (λ ws. v ∷ ws) (without-none vs number (λ k d low. others (suc k) d (omega arith)))
 
+-- of no records none is there twice
+pub none_once : (vs : List Inode) → vs ≡ [] → AreOnce vs
+unfolding AreOnce
+none_once vs none = subst AreOnce (sym none) tt
+
 -- the record that waits at the head, and past it
 pub waiting-head : (v : Inode) (vs : List Inode) (number : ℕ) → v.number ≡ number → waiting_in (v ∷ vs) number ≡ Some v
 waiting-head v vs number is = cond-true _ _ _ (eq-eqb v.number number is)
@@ -48,7 +53,7 @@ pub waiting-staged : (v : Inode) (vs : List Inode) (other : ℕ) → other ≢ v
 waiting-staged v vs other apart = waiting-tail v (without v.number vs) other (λ e. apart (sym e)) ∙ waiting-without vs v.number other apart
 
 -- where no number waits twice, none of this number is left
-once_gone : (vs : List Inode) (number : ℕ) → AreOnce vs → waiting_in (without number vs) number ≡ None
+pub once_gone : (vs : List Inode) (number : ℕ) → AreOnce vs → waiting_in (without number vs) number ≡ None
 unfolding without AreOnce
 once_gone [] number once = refl
 once_gone (v ∷ vs) number once = elim (cases_eq v.number number) [

@@ -1,7 +1,6 @@
 -- The address of a block is set in what holds it, which waits: the record, or the single indirect block.
 use Rattle.std.specs.Prelude.{map, ◌≡◌, ◌≢◌, ℕ, List, [], ◌∷◌, length, Some, true, false, ◌==◌, slice_set, All, ⊤}
 use Rattle.std.specs.List.{position_or_len}
-use Rattle.std.specs.Vec.{vec_capacity}
 use Rattle.lfs_ifile.specs.Tables.{row_of}
 use Rattle.lfs_inodes.specs.declared.inode.Inode.{Inode}
 use Rattle.lfs_inodes.specs.Addresses.{cells}
@@ -10,9 +9,10 @@ use Rattle.lfs_cache.specs.declared.key.Key.{Key}
 use Rattle.lfs_cache.specs.Changes.{IsContents}
 use Rattle.lfs_cache.specs.Contents.{Contents, IsLocked, block_in}
 use Rattle.lfs_cache.specs.Keys.{same_key}
-use Rattle.lfs_ways.specs.Reading.{table}
-use Rattle.lfs_ways.specs.Ways.{code_at}
+use Rattle.lfs_bmap.specs.Reading.{table}
+use Rattle.lfs_bmap.specs.Ways.{code_at}
 use Rattle.lfs_staging.specs.declared.parts.Parts.{Parts}
+use Rattle.lfs_staging.specs.Clean.{GainsNoClean}
 use Rattle.lfs_staging.specs.Store.{IsPresent}
 use Rattle.lfs_staging.specs.View.{key_of, record_of, tree_of, version_of, waiting_in}
 
@@ -32,15 +32,15 @@ pub record Replaces (old new : List Inode) (v : Inode) : Type 0 where
 
 -- an inode is the record that waits of its number, which is in use at its version
 pub record IsWaiting (p : Parts) (v : Inode) : Type 0 where
-  pub waits : waiting_in p.waiting.items v.number ≡ Some v
+  pub waits : waiting_in p.waiting v.number ≡ Some v
   pub in_use : (row_of p.log.tables v.number).used ≡ true
   pub at_version : v.version ≡ version_of p v.number
 
--- In a cache that holds nothing clean, other bytes wait for a key, and nothing else changed.
+-- Other bytes wait for a key, what else waits is what waited, and no block is clean that wasn't.
 pub record Rewrites (old new : Contents) (key : Key) (block : List ℕ) : Type 0 where
   pub here : block_in key new.locked ≡ Some block
   pub others : (other : Key) → same_key key other ≡ false → block_in other new.locked ≡ block_in other old.locked
-  pub none_clean : new.lru ≡ []
+  pub clean : GainsNoClean old new
   pub formed : IsContents new
   pub many : length new.locked ≡ length old.locked
 
@@ -60,19 +60,18 @@ pub record Sets (old new : Parts) (v : Inode) (i : ℕ) (up : List ℕ) (a : ℕ
       → block_in key new.cache.locked ≡ block_in key old.cache.locked
   pub record_only : up ≡ [] → new.cache ≡ old.cache
   pub many : length new.cache.locked ≡ length old.cache.locked
+  pub clean : GainsNoClean old.cache new.cache
   pub still : ParentWaits new v up
 
 -- What waits is still formed: the record of the number too, which has the attributes that it had.
 pub record StaysWaiting (old new : Parts) (v : Inode) : Type 0 where
   pub cache : IsContents new.cache
-  pub none_clean : new.cache.lru ≡ []
-  pub present : All (λ (w : Inode). IsPresent new w.number w.version) new.waiting.items
-  pub room : vec_capacity new.waiting ≡ vec_capacity old.waiting
+  pub present : All (λ (w : Inode). IsPresent new w.number w.version) new.waiting
   pub after : Inode
   pub here : IsWaiting new after
   pub same : attributes after ≡ attributes v
-  pub others : (number : ℕ) → number ≢ v.number → waiting_in new.waiting.items number ≡ waiting_in old.waiting.items number
-  pub numbers : numbers_of new.waiting.items ≡ numbers_of old.waiting.items
+  pub others : (number : ℕ) → number ≢ v.number → waiting_in new.waiting number ≡ waiting_in old.waiting number
+  pub numbers : numbers_of new.waiting ≡ numbers_of old.waiting
 
 -- An address was set in an indirect block that waits.
 pub record SetsEntry (old new : Contents) (key : Key) (index address : ℕ) (before : List ℕ) : Type 0 where

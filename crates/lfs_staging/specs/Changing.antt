@@ -3,8 +3,9 @@ use Rattle.std.specs.Prelude.{◌≡◌, ℕ, ◌+◌, ◌*◌, ◌%◌, length,
 use Rattle.lfs_types.specs.declared.block.TheConstants.{BLOCK_SIZE}
 use Rattle.lfs_types.specs.declared.store.Change.{Change}
 use Rattle.lfs_types.specs.declared.store.Change.TheVariants.{Make, Remove, SetAttrs, Put, SetLength}
-use Rattle.lfs_ways.specs.declared.blocks.TheConstants.{DIRECT_BLOCKS}
-use Rattle.lfs_ways.specs.Moves.{Moves}
+use Rattle.lfs_ifile.specs.Inode.{raised_version}
+use Rattle.lfs_bmap.specs.declared.blocks.TheConstants.{DIRECT_BLOCKS}
+use Rattle.lfs_bmap.specs.Moves.{Moves}
 use Rattle.lfs_staging.specs.declared.parts.Parts.{Parts}
 use Rattle.lfs_staging.specs.Keys.{log_state}
 use Rattle.lfs_staging.specs.Putting.{blocks_of_put}
@@ -17,6 +18,14 @@ pub record StaysInLog (old new : Parts) : Type 0 where
   pub clean : new.log.clean ≡ old.log.clean
   pub numbers : length new.log.tables.rows ≡ length old.log.tables.rows
   pub moves : Moves (λ segment. ⊤) (log_state old) (log_state new)
+
+-- The version of a number after a change: the one behind its last where the change makes it, else the one that it had.
+abbrev pub version_after : Change → ℕ → ℕ → ℕ
+version_after (Make ino attrs) number version = if number == ino then raised_version version else version
+version_after (Remove ino) number version = version
+version_after (SetAttrs ino attrs) number version = version
+version_after (Put ino off bytes) number version = version
+version_after (SetLength ino len) number version = version
 
 -- one frame for the single indirect block, where a file's bytes up to this one reach past its direct blocks
 abbrev pub frames_of_single : ℕ → ℕ

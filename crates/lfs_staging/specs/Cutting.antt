@@ -14,13 +14,13 @@ use Rattle.lfs_inodes.specs.Reading.{Fields}
 use Rattle.lfs_cache.specs.declared.key.Key.{Key}
 use Rattle.lfs_cache.specs.Contents.{IsLocked}
 use Rattle.lfs_cache.specs.Keys.{same_key}
-use Rattle.lfs_ways.specs.declared.blocks.TheConstants.{DIRECT_BLOCKS, FIRST_DATA_CODE}
-use Rattle.lfs_ways.specs.declared.blocks.FileBlock.{FileBlock}
-use Rattle.lfs_ways.specs.declared.blocks.FileBlock.TheVariants.{Single, Data}
-use Rattle.lfs_ways.specs.Blocks.{IsFileBlock, code_of, way_to}
-use Rattle.lfs_ways.specs.Pieces.{IsCut, IsPadded}
-use Rattle.lfs_ways.specs.Reading.{address, data_block}
-use Rattle.lfs_ways.specs.Ways.{IsKnown, data_way}
+use Rattle.lfs_bmap.specs.declared.blocks.TheConstants.{DIRECT_BLOCKS, FIRST_DATA_CODE}
+use Rattle.lfs_bmap.specs.declared.blocks.FileBlock.{FileBlock}
+use Rattle.lfs_bmap.specs.declared.blocks.FileBlock.TheVariants.{Single, Data}
+use Rattle.lfs_bmap.specs.Blocks.{IsFileBlock, code_of, way_to}
+use Rattle.lfs_bmap.specs.Pieces.{IsCut, IsPadded}
+use Rattle.lfs_bmap.specs.Reading.{address, data_block}
+use Rattle.lfs_bmap.specs.Ways.{IsKnown, data_way}
 use Rattle.lfs_staging.specs.declared.parts.Parts.{Parts}
 use Rattle.lfs_staging.specs.Changing.{StaysInLog, frames_of_length}
 use Rattle.lfs_staging.specs.Addressing.{numbers_of}
@@ -47,7 +47,7 @@ pub record IsAlone (p : Parts) (number : ℕ) : Type 0 where
 pub record MayClear (p : Parts) (number : ℕ) (block : FileBlock) : Type 0 where
   pub staged : IsStaged p 0
   pub in_use : (row_of p.log.tables number).used ≡ true
-  pub waits : IsSome (waiting_in p.waiting.items number)
+  pub waits : IsSome (waiting_in p.waiting number)
   pub can : IsFileBlock block
   pub other : code_of block ≢ 0
   pub within : (f : Fields) → record_of p number ≡ Some f → IsWithin block f.attributes.size
@@ -65,8 +65,8 @@ pub record KeepsRest (number : ℕ) (old new : Parts) : Type 0 where
   pub rows : new.log.tables.rows ≡ old.log.tables.rows
   pub others : (n : ℕ) → n ≢ number → record_of new n ≡ record_of old n
   pub attributes : (f : Fields) → record_of old number ≡ Some f → HasAttributes new number f.attributes
-  pub numbers : numbers_of new.waiting.items ≡ numbers_of old.waiting.items
-  pub waits : IsSome (waiting_in new.waiting.items number)
+  pub numbers : numbers_of new.waiting ≡ numbers_of old.waiting
+  pub waits : IsSome (waiting_in new.waiting number)
   pub only : (key : Key) → IsLocked key new.cache → IsLocked key old.cache
   pub fewer : length new.cache.locked ≤ length old.cache.locked
 
@@ -86,7 +86,7 @@ pub record ClearsBlock (number : ℕ) (block : FileBlock) (old new : Parts) : Ty
 pub record MayClearBelow (p : Parts) (number end : ℕ) : Type 0 where
   pub staged : IsStaged p 0
   pub in_use : (row_of p.log.tables number).used ≡ true
-  pub waits : IsSome (waiting_in p.waiting.items number)
+  pub waits : IsSome (waiting_in p.waiting number)
   pub bounded : end ≤ FILE_BLOCKS
   pub within : (f : Fields) → record_of p number ≡ Some f → end ≤ block_count f.attributes.size
   pub single : DIRECT_BLOCKS < end → IsLocked (key_of number (version_of p number) 1) p.cache
@@ -115,7 +115,7 @@ pub record CutsBlock (number index len : ℕ) (old new : Parts) : Type 0 where
   pub staged : IsStaged new 0
   pub log : new.log ≡ old.log
   pub records : (n : ℕ) → record_of new n ≡ record_of old n
-  pub waiting : new.waiting.items ≡ old.waiting.items
+  pub waiting : new.waiting ≡ old.waiting
   pub addresses : (n : ℕ) (way : List ℕ) → IsKnown way → address (tree_of new n) way ≡ address (tree_of old n) way
   pub cut : IsCut index len (data_block (tree_of old number) index) (data_block (tree_of new number) index)
   pub others : (n m : ℕ) → (n ≢ number) ⊎ (m ≢ index) → data_block (tree_of new n) m ≡ data_block (tree_of old n) m
@@ -127,7 +127,7 @@ pub record CutsLast (number len : ℕ) (old new : Parts) : Type 0 where
   pub staged : IsStaged new 0
   pub log : new.log ≡ old.log
   pub records : (n : ℕ) → record_of new n ≡ record_of old n
-  pub waiting : new.waiting.items ≡ old.waiting.items
+  pub waiting : new.waiting ≡ old.waiting
   pub addresses : (n : ℕ) (way : List ℕ) → IsKnown way → address (tree_of new n) way ≡ address (tree_of old n) way
   pub cut : (m : ℕ) → m < block_count len → IsCut m len (data_block (tree_of old number) m) (data_block (tree_of new number) m)
   pub others : (n m : ℕ) → (n ≢ number) ⊎ (block_count len ≤ m) → data_block (tree_of new n) m ≡ data_block (tree_of old n) m
@@ -138,7 +138,7 @@ pub record CutsLast (number len : ℕ) (old new : Parts) : Type 0 where
 pub record MayShorten (p : Parts) (number len : ℕ) : Type 0 where
   pub staged : IsStaged p 0
   pub in_use : (row_of p.log.tables number).used ≡ true
-  pub waits : IsSome (waiting_in p.waiting.items number)
+  pub waits : IsSome (waiting_in p.waiting number)
   pub sized : (f : Fields) → record_of p number ≡ Some f → IsSizeOf f.attributes.kind len
   pub less : (f : Fields) → record_of p number ≡ Some f → len ≤ f.attributes.size
   pub gone : (index : ℕ) → block_count len ≤ index → index < FILE_BLOCKS → IsGivenBack p number index
@@ -153,8 +153,8 @@ pub record Shortens (number len : ℕ) (old new : Parts) : Type 0 where
   pub here : (f : Fields) → record_of old number ≡ Some f → HasAttributes new number (record (f.attributes) { size = len })
   pub others : (n : ℕ) → n ≢ number → record_of new n ≡ record_of old n
   pub blocks : (n : ℕ) → tree_of new n ≡ tree_of old n
-  pub waiting : length new.waiting.items ≤ length old.waiting.items
-  pub waits : IsSome (waiting_in new.waiting.items number)
+  pub waiting : length new.waiting ≤ length old.waiting
+  pub waits : IsSome (waiting_in new.waiting number)
 
 -- A file was cut: its record says the length, and its bytes are zero past it. Nothing else changed.
 pub record CutsFile (number len : ℕ) (old new : Parts) : Type 0 where
@@ -166,5 +166,5 @@ pub record CutsFile (number len : ℕ) (old new : Parts) : Type 0 where
   pub cut : (m : ℕ) → IsCut m len (data_block (tree_of old number) m) (data_block (tree_of new number) m)
   pub data_same : (n m : ℕ) → n ≢ number → data_block (tree_of new n) m ≡ data_block (tree_of old n) m
   pub frames : length new.cache.locked ≤ length old.cache.locked + frames_of_length len
-  pub waiting : length new.waiting.items ≤ length old.waiting.items + 1
-  pub waits : IsSome (waiting_in new.waiting.items number)
+  pub waiting : length new.waiting ≤ length old.waiting + 1
+  pub waits : IsSome (waiting_in new.waiting number)

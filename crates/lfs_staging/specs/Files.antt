@@ -4,8 +4,8 @@ use Rattle.std.specs.FinMap as map
 use Rattle.lfs_types.specs.Tree.{File, Content, file_of}
 use Rattle.lfs_inodes.specs.Attributes.{stat_of}
 use Rattle.lfs_inodes.specs.Reading.{Fields}
-use Rattle.lfs_ways.specs.Pieces.{file_bytes}
-use Rattle.lfs_ways.specs.Reading.{Tree, data_block}
+use Rattle.lfs_bmap.specs.Pieces.{file_bytes}
+use Rattle.lfs_bmap.specs.Reading.{Tree, data_block}
 use Rattle.lfs_staging.specs.declared.parts.Parts.{Parts}
 use Rattle.lfs_staging.specs.View.{record_of, tree_of}
 

@@ -1,8 +1,8 @@
 -- The log of a store as its keys see it.
 use Rattle.lfs_log.specs.Parts.{record_place}
 use Rattle.lfs_log.specs.Parts as log
-use Rattle.lfs_ways.specs.Log.{LogState}
-use Rattle.lfs_ways.specs.Reading.{places}
+use Rattle.lfs_bmap.specs.Log.{LogState}
+use Rattle.lfs_bmap.specs.Reading.{places}
 use Rattle.lfs_staging.specs.declared.parts.Parts.{Parts}
 use Rattle.lfs_staging.specs.View.{tree_of}
 

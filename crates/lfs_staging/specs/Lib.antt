@@ -9,5 +9,6 @@ pub mod Staging
 pub mod Waiting
 pub mod Putting
 pub mod Changing
+pub mod Clean
 pub mod Cutting
 pub mod Addressing

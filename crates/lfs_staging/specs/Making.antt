@@ -1,6 +1,5 @@
 -- A number is given out or taken back.
 use Rattle.std.specs.Prelude.{◌≡◌, ◌≢◌, ℕ, ◌∷◌, Some, length, replicate, slice_index, false}
-use Rattle.std.specs.Vec.{vec_capacity}
 use Rattle.lfs_types.specs.declared.attrs.Attrs.{Attrs}
 use Rattle.lfs_ifile.specs.Inode.{given_row}
 use Rattle.lfs_ifile.specs.Tables.{row_of, with_row}
@@ -23,8 +22,7 @@ pub record KeepsOthers (number : ℕ) (old new : Parts) : Type 0 where
   pub numbers : length new.log.tables.rows ≡ length old.log.tables.rows
   pub rows : (n : ℕ) → n ≢ number → row_of new.log.tables n ≡ row_of old.log.tables n
   pub cache : new.cache ≡ old.cache
-  pub waiting : (n : ℕ) → n ≢ number → waiting_in new.waiting.items n ≡ waiting_in old.waiting.items n
-  pub room : vec_capacity new.waiting ≡ vec_capacity old.waiting
+  pub waiting : (n : ℕ) → n ≢ number → waiting_in new.waiting n ≡ waiting_in old.waiting n
 
 -- A number has no block: none of it waits, and its record, if it has one, has no address.
 pub record HasNoBlock (p : Parts) (number : ℕ) : Type 0 where
@@ -38,8 +36,7 @@ pub record Makes (number version : ℕ) (attrs : Attrs) (v : Inode) (old new : P
   pub clean : new.log.clean ≡ old.log.clean
   pub parts : IsParts new.log
   pub cache : new.cache ≡ old.cache
-  pub waiting : new.waiting.items ≡ v ∷ without v.number old.waiting.items
-  pub room : vec_capacity new.waiting ≡ vec_capacity old.waiting
+  pub waiting : new.waiting ≡ v ∷ without v.number old.waiting
   pub here : record_of new v.number ≡ Some (fields_of v)
   pub attributes : attributes v ≡ attributes_from number version attrs 0
   pub addresses : addresses v ≡ replicate 13 0
@@ -56,5 +53,4 @@ pub record Forgets (number : ℕ) (old new : Parts) : Type 0 where
   pub unused : (row_of new.log.tables number).used ≡ false
   pub unplaced : (row_of new.log.tables number).address ≡ 0
   pub cache : new.cache ≡ old.cache
-  pub waiting : new.waiting.items ≡ without number old.waiting.items
-  pub room : vec_capacity new.waiting ≡ vec_capacity old.waiting
+  pub waiting : new.waiting ≡ without number old.waiting

@@ -15,8 +15,6 @@ use Rattle.lfs_inodes.specs.Reading.{Fields, fields_in}
 use Rattle.lfs_inodes.specs.Slots.{slot_of}
 use Rattle.lfs_cache.specs.Contents.{nothing_in}
 use Rattle.lfs_log.specs.Parts.{IsParts}
-use Rattle.std.specs.Vec.{vec_capacity}
-use Rattle.lfs_staging.specs.declared.parts.TheConstants.{WAITING_LIMIT}
 use Rattle.lfs_staging.specs.declared.parts.Parts.{Parts}
 
 -- a number of segments, of inode numbers or of frames is the first one out of its range, and below it
@@ -63,13 +61,12 @@ pub record HasRootRow (many_segments many_inodes : ℕ) (t : Tables) : Type 0 wh
   pub root : row_of t ROOT_INODE ≡ root_row
   pub others : (number : ℕ) → number ≢ ROOT_INODE → row_of t number ≡ fresh_row
 
--- the parts of such a volume; nothing waits
-pub record IsOpening (many_segments many_inodes : ℕ) (p : Parts) : Type 0 where
+-- the parts of such a volume: all frames are empty, and nothing waits
+pub record IsOpening (many_segments many_inodes many_frames : ℕ) (p : Parts) : Type 0 where
   pub memory : HasRootBlock p.log.memory
   pub size : p.log.memory.segments ≡ many_segments
   pub parts : IsParts p.log
   pub tables : HasRootRow many_segments many_inodes p.log.tables
-  pub cache : p.cache ≡ nothing_in LEAST_FRAMES
-  pub no_record : p.waiting.items ≡ []
-  pub room : WAITING_LIMIT ≤ vec_capacity p.waiting
+  pub cache : p.cache ≡ nothing_in many_frames
+  pub no_record : p.waiting ≡ []
   pub clean : p.log.clean + 1 ≡ many_segments

@@ -8,18 +8,18 @@ use Rattle.lfs_types.specs.declared.attrs.Attrs.{Attrs}
 use Rattle.lfs_inodes.specs.declared.inode.Inode.{Inode}
 use Rattle.lfs_inodes.specs.Reading.{Fields, fields_of}
 use Rattle.lfs_cache.specs.Contents.{IsLocked}
-use Rattle.lfs_ways.specs.declared.blocks.TheConstants.{DIRECT_BLOCKS}
-use Rattle.lfs_ways.specs.Pieces.{IsPut}
-use Rattle.lfs_ways.specs.Reading.{address, data_block}
-use Rattle.lfs_ways.specs.Ways.{IsKnown}
+use Rattle.lfs_bmap.specs.declared.blocks.TheConstants.{DIRECT_BLOCKS}
+use Rattle.lfs_bmap.specs.Pieces.{IsPut}
+use Rattle.lfs_bmap.specs.Reading.{address, data_block}
+use Rattle.lfs_bmap.specs.Ways.{IsKnown}
 use Rattle.lfs_staging.specs.declared.parts.Parts.{Parts}
 use Rattle.lfs_types.specs.declared.block.TheConstants.{BLOCK_SIZE}
 use Rattle.lfs_types.specs.declared.limits.TheConstants.{FILE_BYTES}
 use Rattle.lfs_ifile.specs.Tables.{row_of}
 use Rattle.lfs_inodes.specs.Facts.{IsSizeOf}
-use Rattle.lfs_staging.specs.declared.parts.TheConstants.{WAITING_LIMIT}
-use Rattle.lfs_staging.specs.Staging.{IsStaged, MayStage, ParentsWait, TakesFrames}
-use Rattle.lfs_staging.specs.Store.{AreFiles}
+use Rattle.lfs_staging.specs.declared.records.TheConstants.{WAITING_LIMIT}
+use Rattle.lfs_staging.specs.Staging.{IsStaged, MayStage, TakesFrames}
+use Rattle.lfs_staging.specs.Store.{AreFiles, ParentsWait}
 use Rattle.lfs_staging.specs.Waiting.{without}
 use Rattle.lfs_staging.specs.View.{LiesIn, blocks_of, key_of, record_of, tree_of, version_of}
 
@@ -45,7 +45,7 @@ pub record TakesBelow (number first before : ℕ) (old new : Parts) : Type 0 whe
   pub frames : (length new.cache.locked + first ≤ length old.cache.locked + before)
       ⊎ ((DIRECT_BLOCKS < before) × (length new.cache.locked + first ≤ length old.cache.locked + before + 1)
       × IsLocked (key_of number (version_of new number) 1) new.cache)
-  pub records : without number new.waiting.items ≡ without number old.waiting.items
+  pub records : without number new.waiting ≡ without number old.waiting
 
 -- What falls into the blocks below one of some bytes put at `start` of a file is there, and nothing else changed.
 pub record PutsBelow (v : Inode) (start : ℕ) (bytes : List ℕ) (before : ℕ) (old new : Parts) : Type 0 where
@@ -70,7 +70,7 @@ pub record PutsBytes (v : Inode) (start : ℕ) (bytes : List ℕ) (old new : Par
   pub frames : (length new.cache.locked ≤ length old.cache.locked + blocks_of_put start (length bytes))
       ⊎ ((DIRECT_BLOCKS * BLOCK_SIZE < start + length bytes)
       × (length new.cache.locked ≤ length old.cache.locked + blocks_of_put start (length bytes) + 1))
-  pub waiting : without v.number new.waiting.items ≡ without v.number old.waiting.items
+  pub waiting : without v.number new.waiting ≡ without v.number old.waiting
 
 -- The record of a file waits with a size of at least so many bytes. Nothing else changed.
 pub record GrowsTo (v w : Inode) (size : ℕ) (old new : Parts) : Type 0 where
@@ -83,7 +83,7 @@ pub record GrowsTo (v w : Inode) (size : ℕ) (old new : Parts) : Type 0 where
   pub blocks : (n : ℕ) → tree_of new n ≡ tree_of old n
   pub again : MayStage new w
   pub kept : (spare : ℕ) → IsStaged old spare → IsStaged new spare
-  pub room : without v.number new.waiting.items ≡ without v.number old.waiting.items
+  pub room : without v.number new.waiting ≡ without v.number old.waiting
 
 -- the content with bytes put at a place of a file
 abbrev pub with_put : ℕ → ℕ → List ℕ → Content → Content
@@ -98,7 +98,7 @@ pub record ChangesRecord (v w : Inode) (old new : Parts) : Type 0 where
   pub blocks : (n : ℕ) → tree_of new n ≡ tree_of old n
   pub again : MayStage new w
   pub kept : (spare : ℕ) → IsStaged old spare → IsStaged new spare
-  pub room : without v.number new.waiting.items ≡ without v.number old.waiting.items
+  pub room : without v.number new.waiting ≡ without v.number old.waiting
 
 -- the content with other attributes of a file, whose bytes stay
 abbrev pub with_attrs : ℕ → Attrs → Content → Content
@@ -111,7 +111,7 @@ pub record MayChange (p : Parts) (number : ℕ) : Type 0 where
   pub inside : LiesIn (blocks_of p) (tree_of p number)
   pub in_range : number < length p.log.tables.rows
   pub in_use : (row_of p.log.tables number).used ≡ true
-  pub records : length (without number p.waiting.items) < WAITING_LIMIT
+  pub records : length (without number p.waiting) < WAITING_LIMIT
 
 -- Bytes may be put at a place of a file: there are some, and it may have the size that it gets.
 pub record MayPut (p : Parts) (number start : ℕ) (bytes : List ℕ) : Type 0 where

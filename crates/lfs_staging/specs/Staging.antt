@@ -6,27 +6,21 @@ use Rattle.lfs_inodes.specs.declared.inode.Inode.{Inode}
 use Rattle.lfs_inodes.specs.Reading.{Fields, fields_of}
 use Rattle.lfs_cache.specs.declared.key.Key.{Key}
 use Rattle.lfs_cache.specs.Changes.{IsContents}
+use Rattle.lfs_cache.specs.declared.cache.TheConstants.{LOCKED_LIMIT}
 use Rattle.lfs_cache.specs.Contents.{IsLocked}
-use Rattle.lfs_ways.specs.declared.blocks.TheConstants.{DIRECT_BLOCKS, FIRST_DATA_CODE}
-use Rattle.lfs_ways.specs.declared.blocks.FileBlock.{FileBlock}
-use Rattle.lfs_ways.specs.Blocks.{IsFileBlock, code_of, way_to}
-use Rattle.lfs_ways.specs.Log.{IsLog}
-use Rattle.lfs_ways.specs.Reading.{SameReadings, Stages, address, data_block}
-use Rattle.lfs_ways.specs.Ways.{IsKnown}
-use Rattle.std.specs.Vec.{vec_capacity}
-use Rattle.lfs_staging.specs.declared.parts.TheConstants.{WAITING_LIMIT}
+use Rattle.lfs_bmap.specs.declared.blocks.TheConstants.{DIRECT_BLOCKS, FIRST_DATA_CODE}
+use Rattle.lfs_bmap.specs.declared.blocks.FileBlock.{FileBlock}
+use Rattle.lfs_bmap.specs.Blocks.{IsFileBlock, code_of, way_to}
+use Rattle.lfs_bmap.specs.Log.{IsLog}
+use Rattle.lfs_bmap.specs.Reading.{SameReadings, Stages, address, data_block}
+use Rattle.lfs_bmap.specs.Ways.{IsKnown}
+use Rattle.lfs_staging.specs.declared.records.TheConstants.{WAITING_LIMIT}
 use Rattle.lfs_staging.specs.declared.parts.Parts.{Parts}
+use Rattle.lfs_staging.specs.Clean.{GainsNoClean}
 use Rattle.lfs_staging.specs.Keys.{log_state}
-use Rattle.lfs_staging.specs.Store.{AreFiles, IsWithin}
+use Rattle.lfs_staging.specs.Store.{AreFiles, IsWithin, ParentsWait}
 use Rattle.lfs_staging.specs.View.{LiesIn, blocks_of, key_of, record_of, tree_of, version_of, waiting_in}
 use Rattle.lfs_staging.specs.Waiting.{AreOnce, without}
-
--- Where a block waits, its parents do: the record of its number, and for a data block past the direct ones the single
--- indirect block.
-pub record ParentsWait (p : Parts) : Type 0 where
-  pub records : (key : Key) → IsLocked key p.cache → IsSome (waiting_in p.waiting.items key.ino)
-  pub singles : (key : Key) → IsLocked key p.cache → FIRST_DATA_CODE + DIRECT_BLOCKS ≤ key.lbn
-      → IsLocked (key_of key.ino key.version 1) p.cache
 
 -- What holds in the middle of a call: of the files, of the log with so many spare bytes, and of what waits. There is room
 -- for the records, and each block that waits lies within its file.
@@ -34,8 +28,8 @@ pub record IsStaged (p : Parts) (spare : ℕ) : Type 0 where
   pub whole : AreFiles p
   pub log : IsLog (log_state p) spare
   pub parents : ParentsWait p
-  pub once : AreOnce p.waiting.items
-  pub few : length p.waiting.items ≤ WAITING_LIMIT
+  pub once : AreOnce p.waiting
+  pub few : length p.waiting ≤ WAITING_LIMIT
   pub within : (number : ℕ) (block : FileBlock) (f : Fields) → record_of p number ≡ Some f → IsFileBlock block
       → IsLocked (key_of number (version_of p number) (code_of block)) p.cache → IsWithin block f.attributes.size
 
@@ -43,15 +37,15 @@ pub record IsStaged (p : Parts) (spare : ℕ) : Type 0 where
 pub record StagesRecord (v : Inode) (old new : Parts) : Type 0 where
   pub log : new.log ≡ old.log
   pub cache : new.cache ≡ old.cache
-  pub waiting : new.waiting.items ≡ v ∷ without v.number old.waiting.items
-  pub room : vec_capacity new.waiting ≡ vec_capacity old.waiting
+  pub waiting : new.waiting ≡ v ∷ without v.number old.waiting
   pub here : record_of new v.number ≡ Some (fields_of v)
   pub others : (n : ℕ) → n ≢ v.number → record_of new n ≡ record_of old n
 
--- The frames that wait are those that waited, and one of this key; it is one more where it is new.
+-- The frames that wait are those that waited, and one of this key; it is one more where it is new. No block is clean that
+-- wasn't.
 pub record GrowsBy (key : Key) (old new : Parts) : Type 0 where
   pub formed : IsContents new.cache
-  pub none_clean : new.cache.lru ≡ []
+  pub clean : GainsNoClean old.cache new.cache
   pub here : IsLocked key new.cache
   pub kept : (other : Key) → IsLocked other old.cache → IsLocked other new.cache
   pub only : (other : Key) → IsLocked other new.cache → (other ≡ key) ⊎ IsLocked other old.cache
@@ -61,8 +55,7 @@ pub record GrowsBy (key : Key) (old new : Parts) : Type 0 where
 -- Bytes wait for a block of a number. Nothing else changed.
 pub record StagesBlock (number : ℕ) (block : FileBlock) (bytes : List ℕ) (old new : Parts) : Type 0 where
   pub log : new.log ≡ old.log
-  pub waiting : new.waiting.items ≡ old.waiting.items
-  pub room : vec_capacity new.waiting ≡ vec_capacity old.waiting
+  pub waiting : new.waiting ≡ old.waiting
   pub staged : Stages (tree_of old number) (tree_of new number) (way_to block) bytes
   pub others : (n : ℕ) → n ≢ number → tree_of new n ≡ tree_of old n
   pub frames : GrowsBy (key_of number (version_of old number) (code_of block)) old new
@@ -75,7 +68,7 @@ pub record SameFiles (old new : Parts) : Type 0 where
 
 -- The parents of a data block of a number wait.
 pub record HasParents (p : Parts) (number index : ℕ) : Type 0 where
-  pub record_waits : IsSome (waiting_in p.waiting.items number)
+  pub record_waits : IsSome (waiting_in p.waiting number)
   pub single_waits : DIRECT_BLOCKS ≤ index → IsLocked (key_of number (version_of p number) 1) p.cache
 
 -- A data block of the file with this record may wait: it is the record of a number in use, and there is room for it.
@@ -86,7 +79,13 @@ pub record MayStage (p : Parts) (v : Inode) : Type 0 where
   pub in_range : v.number < length p.log.tables.rows
   pub in_use : (row_of p.log.tables v.number).used ≡ true
   pub here : record_of p v.number ≡ Some (fields_of v)
-  pub records : length (without v.number p.waiting.items) < WAITING_LIMIT
+  pub records : length (without v.number p.waiting) < WAITING_LIMIT
+
+-- There is a frame for a data block of a number, and one for the single indirect block where it leads to it and doesn't
+-- wait.
+pub record HasFrames (p : Parts) (number index : ℕ) : Type 0 where
+  pub one : length p.cache.locked < LOCKED_LIMIT
+  pub two : DIRECT_BLOCKS ≤ index → IsLocked (key_of number (version_of p number) 1) p.cache ⊎ (length p.cache.locked + 2 ≤ LOCKED_LIMIT)
 
 -- some bytes may be data block `index` of a file of this size: they are zeros past it
 abbrev pub IsZeroPast : ℕ → ℕ → List ℕ → Type 0
@@ -98,9 +97,9 @@ pub record StagesOwnRecord (number : ℕ) (old new : Parts) : Type 0 where
   pub cache : new.cache ≡ old.cache
   pub files : AreFiles new
   pub parents : ParentsWait new
-  pub waits : IsSome (waiting_in new.waiting.items number)
-  pub room : without number new.waiting.items ≡ without number old.waiting.items
-  pub once : AreOnce old.waiting.items → AreOnce new.waiting.items
+  pub waits : IsSome (waiting_in new.waiting number)
+  pub room : without number new.waiting ≡ without number old.waiting
+  pub once : AreOnce old.waiting → AreOnce new.waiting
 
 -- The parents of a data block of a number wait, with what they had, and each file is what it was.
 pub record StagesParents (number index : ℕ) (old new : Parts) : Type 0 where
@@ -108,8 +107,8 @@ pub record StagesParents (number index : ℕ) (old new : Parts) : Type 0 where
   pub files : AreFiles new
   pub parents : ParentsWait new
   pub waits : HasParents new number index
-  pub room : without number new.waiting.items ≡ without number old.waiting.items
-  pub once : AreOnce old.waiting.items → AreOnce new.waiting.items
+  pub room : without number new.waiting ≡ without number old.waiting
+  pub once : AreOnce old.waiting → AreOnce new.waiting
   pub frames : length new.cache.locked ≤ length old.cache.locked + 1
   pub direct : index < DIRECT_BLOCKS → new.cache ≡ old.cache
   pub again : IsLocked (key_of number (version_of old number) 1) old.cache → length new.cache.locked ≡ length old.cache.locked
@@ -125,7 +124,7 @@ pub record TakesFrames (number index : ℕ) (old new : Parts) : Type 0 where
   pub most : length new.cache.locked ≤ length old.cache.locked + 2
   pub direct : index < DIRECT_BLOCKS → length new.cache.locked ≤ length old.cache.locked + 1
   pub again : IsLocked (key_of number (version_of old number) 1) old.cache → length new.cache.locked ≤ length old.cache.locked + 1
-  pub records : without number new.waiting.items ≡ without number old.waiting.items
+  pub records : without number new.waiting ≡ without number old.waiting
   pub block_waits : IsLocked (key_of number (version_of new number) (FIRST_DATA_CODE + index)) new.cache
 
 -- Bytes wait for a data block of a number: it reads as these bytes, and every other data block, every record and every

@@ -1,5 +1,5 @@
 -- What the parts of a store say of a file: its record, the addresses of its blocks, their bytes.
-use Rattle.std.specs.Prelude.{◌≡◌, ℕ, ◌*◌, ◌<◌, List, [], Option, Some, None, ◌==◌, find, option_and_then}
+use Rattle.std.specs.Prelude.{◌≡◌, ℕ, ◌*◌, ◌<◌, List, [], Option, Some, None, option_and_then}
 use Rattle.lfs_types.specs.declared.limits.TheConstants.{SEGMENT_BLOCKS}
 use Rattle.lfs_segments.specs.Memory.{SegmentMemory, block_at}
 use Rattle.lfs_ifile.specs.declared.inode.InodePlace.{InodePlace}
@@ -10,11 +10,12 @@ use Rattle.lfs_inodes.specs.Reading.{Fields, fields_of, fields_in}
 use Rattle.lfs_inodes.specs.Slots.{slot_of}
 use Rattle.lfs_cache.specs.declared.key.Key.{Key}
 use Rattle.lfs_cache.specs.Contents.{block_in}
-use Rattle.lfs_ways.specs.Blocks.{IsFileBlock, way_to}
-use Rattle.lfs_ways.specs.Reading.{Tree, address}
-use Rattle.lfs_ways.specs.Ways.{code_at}
-use Rattle.lfs_ways.specs.declared.blocks.FileBlock.{FileBlock}
+use Rattle.lfs_bmap.specs.Blocks.{IsFileBlock, way_to}
+use Rattle.lfs_bmap.specs.Reading.{Tree, address}
+use Rattle.lfs_bmap.specs.Ways.{code_at}
+use Rattle.lfs_bmap.specs.declared.blocks.FileBlock.{FileBlock}
 use Rattle.lfs_staging.specs.declared.parts.Parts.{Parts}
+pub use Rattle.lfs_staging.specs.Waiting.{waiting_in}
 
 -- the number of blocks of the volume
 abbrev pub blocks_of : Parts → ℕ
@@ -23,10 +24,6 @@ blocks_of p = p.log.memory.segments * SEGMENT_BLOCKS
 -- the version of a number
 abbrev pub version_of : Parts → ℕ → ℕ
 version_of p number = (row_of p.log.tables number).version
-
--- the first of some records that has a number
-abbrev pub waiting_in : List Inode → ℕ → Option Inode
-waiting_in records number = find (λ (v : Inode). v.number == number) records
 
 -- what the slot at a place of the log says
 abbrev pub fields_at : SegmentMemory → InodePlace → Option Fields
@@ -41,7 +38,7 @@ waiting_or (Some v) logged = Some (fields_of v)
 -- in use has none.
 unfoldable pub record_of : Parts → ℕ → Option Fields
 record_of p number =
-    option_and_then (λ (place : InodePlace). waiting_or (waiting_in p.waiting.items number) (fields_at p.log.memory place)) (place_of p.log.tables number)
+    option_and_then (λ (place : InodePlace). waiting_or (waiting_in p.waiting number) (fields_at p.log.memory place)) (place_of p.log.tables number)
 
 -- the name of a block of a file in the cache
 abbrev pub key_of : ℕ → ℕ → ℕ → Key
@@ -67,10 +64,6 @@ root_in (Some f) = f.addresses
 -- the file of a number, as its record and the parts show it
 abbrev pub tree_of : Parts → ℕ → Tree
 tree_of p number = tree_with p number (version_of p number) (root_in (record_of p number))
-
--- What reading asks of the parts: the cache holds nothing but what waits.
-pub record IsReadable (p : Parts) : Type 0 where
-  pub none_clean : p.cache.lru ≡ []
 
 -- the blocks of a file lie in the volume
 pub record LiesIn (blocks : ℕ) (t : Tree) : Type 0 where

@@ -1,7 +1,13 @@
 -- The records that wait to be written.
-use Rattle.std.specs.Prelude.{◌≡◌, ℕ, List, [], ◌∷◌, None, if◌then◌else◌, ◌==◌, ⊤}
+use Rattle.std.specs.Prelude.{◌≡◌, ℕ, ◌<◌, ◌≤◌, List, [], ◌∷◌, All, Bool, false, Option, None, find, length, slice_index_or, if◌then◌else◌, ◌==◌, ⊤}
+use Rattle.std.specs.Option.{is_some}
+use Rattle.lfs_types.specs.declared.limits.TheConstants.{MOST_INODES}
 use Rattle.lfs_inodes.specs.declared.inode.Inode.{Inode}
-use Rattle.lfs_staging.specs.View.{waiting_in}
+use Rattle.lfs_staging.specs.declared.records.TheConstants.{WAITING_LIMIT}
+
+-- the first of some records that has a number
+abbrev pub waiting_in : List Inode → ℕ → Option Inode
+waiting_in records number = find (λ (v : Inode). v.number == number) records
 
 -- some records without the first of a number
 unfoldable pub without : ℕ → List Inode → List Inode
@@ -12,3 +18,16 @@ without number (v ∷ vs) = if v.number == number then vs else v ∷ without num
 unfoldable pub AreOnce : List Inode → Type 0
 AreOnce [] = ⊤
 AreOnce (v ∷ vs) = (waiting_in vs v.number ≡ None) × AreOnce vs
+
+-- a record's number is below the greatest count of inode numbers
+abbrev pub IsNumbered : Inode → Type 0
+IsNumbered v = v.number < MOST_INODES
+
+-- Some records, each of another number, and for each number whether one of them is of it; there is room for all that may
+-- wait.
+pub record IsRecords (records : List Inode) (waits : List Bool) (capacity : ℕ) : Type 0 where
+  pub room : WAITING_LIMIT ≤ capacity
+  pub once : AreOnce records
+  pub numbered : All IsNumbered records
+  pub sized : length waits ≡ MOST_INODES
+  pub told : (number : ℕ) → number < MOST_INODES → slice_index_or waits number false ≡ is_some (waiting_in records number)

@@ -1,48 +1,30 @@
 //! Setting the address of a block in what holds it, which waits.
 
-ghost use Rattle.std.specs.Prelude.{◌≡◌, ◌<◌, ◌∷◌, [], ℕ, List, Some, IsSome, All, vec_capacity};
+ghost use Rattle.std.specs.Prelude.{◌≡◌, ◌<◌, ◌∷◌, [], ℕ, List, Some, IsSome, All};
 ghost use Rattle.lfs_inodes.specs.declared.inode.Inode.{Inode};
 ghost use Rattle.lfs_inodes.specs.declared.inode.TheConstants.{ADDRESS_LIMIT};
 ghost use Rattle.lfs_cache.specs.Changes.{IsContents};
 ghost use Rattle.lfs_cache.specs.declared.key.Key.{Key};
 ghost use Rattle.lfs_cache.specs.Contents.{block_in};
-ghost use Rattle.lfs_ways.specs.Blocks.{IsFileBlock, way_to};
-ghost use Rattle.lfs_staging.specs.Addressing.{IsWaiting, ParentWaits, Replaces, Sets, SetsEntry, StaysWaiting, replaced};
+ghost use Rattle.lfs_bmap.specs.Blocks.{IsFileBlock, way_to};
+ghost use Rattle.lfs_staging.specs.Addressing.{IsWaiting, ParentWaits, Sets, SetsEntry, StaysWaiting};
 ghost use Rattle.lfs_staging.specs.Store.{IsPresent, IsWithin};
-ghost use Rattle.lfs_staging.specs.View.{IsReadable, waiting_in};
 
 use crate::parts::Parts;
+use lfs_bmap::blocks::{DIRECT_BLOCKS, FileBlock};
 use lfs_cache::{Cache, Key};
 use lfs_inodes::addresses::with_entry;
 use lfs_inodes::inode::Inode;
-use lfs_ways::blocks::{DIRECT_BLOCKS, FileBlock};
-
-/// Puts a record in the place of the one of its number.
-fn replace(records: &mut Vec<Inode>, changed: Inode)
-    requires { IsSome (waiting_in records.old.items changed.number) }
-    ensures items { records.new.items ≡ replaced records.old.items changed }
-    ensures record { Replaces records.old.items records.new.items changed }
-    ensures capacity { vec_capacity records.new ≡ vec_capacity records.old }
-{
-    let place = records
-        .as_slice()
-        .iter()
-        .position(|inode| inode.number == changed.number);
-    match place {
-        Some(place) => records[place] = changed,
-        None => unreachable!(),
-    }
-}
 
 /// Sets an address in an indirect block that waits.
+#[tactic(auto, using(crate::proofs::HeldLemmas::gains_none))]
 fn set_entry(cache: &mut Cache, key: Key, index: usize, address: u32)
-    requires none_clean { cache.old.lru ≡ [] }
     requires inside { index < 128 }
     requires waits { IsSome (block_in key cache.old.locked) }
     ensures { (block : List ℕ) → block_in key cache.old.locked ≡ Some block
         → SetsEntry cache.old cache.new key index address block }
 {
-    match cache.peek(key) {
+    match cache.dirty(key) {
         Some(indirect) => {
             let changed = with_entry(indirect, index, address);
             cache.write(key, &changed);
@@ -59,9 +41,8 @@ impl Parts {
         requires block { IsFileBlock block }
         requires within { IsWithin block inode.now.size }
         requires in_volume { address < ADDRESS_LIMIT }
-        requires readable { IsReadable self.old }
         requires cache { IsContents self.old.cache }
-        requires present { All (λ (w : Inode). IsPresent self.old w.number w.version) self.old.waiting.items }
+        requires present { All (λ (w : Inode). IsPresent self.old w.number w.version) self.old.waiting }
         requires parent { (i : ℕ) (up : List ℕ) → way_to block ≡ i ∷ up
             → ParentWaits self.old inode.now up }
         ensures set { (i : ℕ) (up : List ℕ) → way_to block ≡ i ∷ up
@@ -70,12 +51,10 @@ impl Parts {
     {
         match block {
             FileBlock::Record => {}
-            FileBlock::Single => replace(&mut self.waiting, inode.with_single(address)),
+            FileBlock::Single => self.waiting.replace(inode.with_single(address)),
             FileBlock::Data(index) if index < DIRECT_BLOCKS => {
-                replace(
-                    &mut self.waiting,
-                    inode.with_direct(index as usize, address),
-                );
+                self.waiting
+                    .replace(inode.with_direct(index as usize, address));
             }
             FileBlock::Data(index) => {
                 let key = Key {

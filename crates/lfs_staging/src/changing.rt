@@ -1,8 +1,8 @@
 //! Changing what waits: bytes put into a file.
 
 ghost use Rattle.std.specs.Prelude.{◌≡◌, ◌+◌, ◌*◌, ◌-◌, ◌/◌, ◌<◌, ◌≤◌, ℕ, List, max, length, Some};
-ghost use Rattle.lfs_ways.specs.Reading.{address};
-ghost use Rattle.lfs_ways.specs.Ways.{IsKnown};
+ghost use Rattle.lfs_bmap.specs.Reading.{address};
+ghost use Rattle.lfs_bmap.specs.Ways.{IsKnown};
 ghost use Rattle.lfs_staging.specs.View.{record_of, tree_of};
 ghost use Rattle.lfs_types.specs.declared.limits.TheConstants.{FILE_BLOCKS};
 ghost use Rattle.lfs_cache.specs.declared.cache.TheConstants.{LOCKED_LIMIT};
@@ -11,13 +11,13 @@ ghost use Rattle.lfs_inodes.specs.Facts.{IsSizeOf, block_count};
 ghost use Rattle.lfs_staging.specs.Changing.{frames_of_put};
 ghost use Rattle.lfs_staging.specs.Putting.{GrowsTo, MayChange, MayPut, with_attrs, PutsBlock, PutsBytes, blocks_of_put, with_put};
 ghost use Rattle.lfs_staging.specs.Files.{content_of};
-ghost use Rattle.lfs_staging.specs.Staging.{IsStaged, MayStage};
+ghost use Rattle.lfs_staging.specs.Staging.{HasFrames, IsStaged, MayStage};
 
 use crate::parts::Parts;
+use lfs_bmap::blocks::FileBlock;
+use lfs_bmap::pieces::{blocks_touched, put_piece};
 use lfs_inodes::inode::Inode;
 use lfs_types::attrs::Attrs;
-use lfs_ways::blocks::FileBlock;
-use lfs_ways::pieces::{blocks_touched, put_piece};
 
 impl Parts {
     /// Puts bytes, at least one, into a file in use at byte `off`: they wait, with the record and the
@@ -26,7 +26,7 @@ impl Parts {
     pub fn put(&mut self, ino: u32, off: u64, bytes: &[u8])
         requires may { MayChange self.old ino }
         requires fits { MayPut self.old ino off bytes.now }
-        requires room { length self.old.cache.locked + 2 * blocks_of_put off (length bytes.now)
+        requires room { length self.old.cache.locked + frames_of_put off (length bytes.now)
             ≤ LOCKED_LIMIT }
         ensures content { content_of self.new ≡ with_put ino off bytes.now (content_of self.old) }
         ensures log { self.new.log ≡ self.old.log }
@@ -34,7 +34,7 @@ impl Parts {
             → address (tree_of self.new n) way ≡ address (tree_of self.old n) way }
         ensures frames { length self.new.cache.locked
             ≤ length self.old.cache.locked + frames_of_put off (length bytes.now) }
-        ensures waiting { length self.new.waiting.items ≤ length self.old.waiting.items + 1 }
+        ensures waiting { length self.new.waiting ≤ length self.old.waiting + 1 }
         // What holds in the middle of a call is kept.
         ensures kept { (spare : ℕ) → IsStaged self.old spare → IsStaged self.new spare }
     {
@@ -54,7 +54,7 @@ impl Parts {
         ensures log { self.new.log ≡ self.old.log }
         ensures cache { self.new.cache ≡ self.old.cache }
         ensures addresses { (n : ℕ) → tree_of self.new n ≡ tree_of self.old n }
-        ensures waiting { length self.new.waiting.items ≤ length self.old.waiting.items + 1 }
+        ensures waiting { length self.new.waiting ≤ length self.old.waiting + 1 }
         // What holds in the middle of a call is kept.
         ensures kept { (spare : ℕ) → IsStaged self.old spare → IsStaged self.new spare }
     {
@@ -69,7 +69,7 @@ impl Parts {
     /// below its size.
     fn put_block(&mut self, inode: &Inode, index: u32, off: u64, bytes: &[u8])
         requires may { MayStage self.old inode.now }
-        requires room { length self.old.cache.locked + 2 ≤ LOCKED_LIMIT }
+        requires room { HasFrames self.old inode.now.number index }
         requires block { index < FILE_BLOCKS }
         requires within { index < block_count inode.now.size }
         requires below { off + length bytes.now ≤ inode.now.size }
@@ -85,7 +85,7 @@ impl Parts {
         requires may { MayStage self.old inode.now }
         requires some { 0 < length bytes.now }
         requires below { off + length bytes.now ≤ inode.now.size }
-        requires room { length self.old.cache.locked + 2 * blocks_of_put off (length bytes.now)
+        requires room { length self.old.cache.locked + frames_of_put off (length bytes.now)
             ≤ LOCKED_LIMIT }
         ensures { PutsBytes inode.now off bytes.now self.old self.new }
     {

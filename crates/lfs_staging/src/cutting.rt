@@ -12,14 +12,14 @@ ghost use Rattle.lfs_staging.specs.Addressing.{IsWaiting};
 ghost use Rattle.lfs_staging.specs.Staging.{HasParents, IsStaged, MayStage};
 ghost use Rattle.lfs_staging.specs.View.{record_of};
 ghost use Rattle.lfs_staging.specs.Waiting.{without};
-ghost use Rattle.lfs_staging.specs.declared.parts.TheConstants.{WAITING_LIMIT};
+ghost use Rattle.lfs_staging.specs.declared.records.TheConstants.{WAITING_LIMIT};
 
 use crate::parts::Parts;
+use lfs_bmap::blocks::{DIRECT_BLOCKS, FileBlock};
+use lfs_bmap::pieces::cut_piece;
 use lfs_cache::Key;
 use lfs_inodes::inode::Inode;
 use lfs_types::block::BLOCK_SIZE;
-use lfs_ways::blocks::{DIRECT_BLOCKS, FileBlock};
-use lfs_ways::pieces::cut_piece;
 
 impl Parts {
     /// Cuts a file in use, or adds zeros to it, so that it has this many bytes. The blocks past them
@@ -30,16 +30,16 @@ impl Parts {
         requires in_use { (row_of self.old.log.tables ino).used ≡ true }
         requires sized { (f : Fields) → record_of self.old ino ≡ Some f → IsSizeOf f.attributes.kind len }
         requires frames { length self.old.cache.locked + 2 ≤ LOCKED_LIMIT }
-        requires records { length self.old.waiting.items < WAITING_LIMIT }
+        requires records { length self.old.waiting < WAITING_LIMIT }
         ensures staged { IsStaged self.new 0 }
         ensures content { content_of self.new ≡ with_length ino len (content_of self.old) }
         ensures size { (f : Fields) → record_of self.new ino ≡ Some f → f.attributes.size ≡ len }
         ensures log { StaysInLog self.old self.new }
         ensures rows { self.new.log.tables.rows ≡ self.old.log.tables.rows }
         ensures frames { length self.new.cache.locked ≤ length self.old.cache.locked + frames_of_length len }
-        ensures waiting { length self.new.waiting.items ≤ length self.old.waiting.items + 1 }
+        ensures waiting { length self.new.waiting ≤ length self.old.waiting + 1 }
         // No more records of other numbers wait than records waited.
-        ensures others { length (without ino self.new.waiting.items) ≤ length self.old.waiting.items }
+        ensures others { length (without ino self.new.waiting) ≤ length self.old.waiting }
     {
         let Some(inode) = self.record(ino) else {
             unreachable!()

@@ -3,6 +3,7 @@
 ghost use Rattle.std.specs.Prelude.{◌≡◌, length};
 ghost use Rattle.lfs_types.specs.Stored.{IsLeastFree, Reads, bytes_of, shown_attrs, slice_of};
 ghost use Rattle.lfs_staging.specs.Files.{content_of};
+ghost use Rattle.lfs_staging.specs.Filling.{SameButClean};
 ghost use Rattle.lfs_staging.specs.Store.{IsStore};
 
 use crate::parts::Parts;
@@ -21,11 +22,13 @@ impl Parts {
     }
 
     /// Reads a file's bytes from `off` on, as many as there are and the buffer takes, and says how
-    /// many.
-    pub fn read(&self, ino: u32, off: u64, into: &mut [u8]) -> usize
-        requires { IsStore self.now }
-        ensures { Reads (slice_of (bytes_of (content_of self.now) ino) off (length into.old))
+    /// many. They are read through the cache.
+    pub fn read(&mut self, ino: u32, off: u64, into: &mut [u8]) -> usize
+        requires { IsStore self.old }
+        ensures reads { Reads (slice_of (bytes_of (content_of self.old) ino) off (length into.old))
             result into.old into.new }
+        // Frames may be taken for clean blocks; what waits, and the log, stay.
+        ensures kept { SameButClean self.old self.new }
     {
         if ino >= self.log.inodes() {
             return 0;

@@ -1,8 +1,7 @@
 //! Laying out a volume.
 
-ghost use Rattle.std.specs.Prelude.{◌≡◌, ◌≤◌, ◌<◌, ◌↔◌, [], length, IfOk, IsErrOf};
-ghost use Rattle.std.specs.Vec.{vec_capacity};
-ghost use Rattle.lfs_types.specs.declared.limits.TheConstants.{LEAST_FRAMES};
+ghost use Rattle.std.specs.Prelude.{◌≡◌, ◌≤◌, ◌<◌, ◌↔◌, [], length, IfOk, IsErrOf, OnOk};
+ghost use Rattle.lfs_types.specs.declared.limits.TheConstants.{LEAST_FRAMES, MOST_FRAMES};
 ghost use Rattle.lfs_cache.specs.Changes.{IsContents};
 ghost use Rattle.lfs_cache.specs.Contents.{nothing_in};
 ghost use Rattle.lfs_types.specs.Tree.{attrs_of, fresh_root, opening_content};
@@ -11,9 +10,9 @@ ghost use Rattle.lfs_log.specs.Parts.{IsParts};
 ghost use Rattle.lfs_staging.specs.Files.{content_of};
 ghost use Rattle.lfs_staging.specs.Opening.{HasRootBlock, HasRootRow, IsOpening, IsTooFew, IsTooMany, fresh_used};
 ghost use Rattle.lfs_staging.specs.Store.{IsSettled, IsStore};
-ghost use Rattle.lfs_staging.specs.declared.parts.TheConstants.{WAITING_LIMIT};
 
-use crate::parts::{Parts, WAITING_LIMIT};
+use crate::parts::Parts;
+use crate::records::Records;
 use lfs_cache::Cache;
 use lfs_inodes::inode::Inode;
 use lfs_log::Log;
@@ -40,7 +39,7 @@ impl Parts {
     ) -> Result<Parts, FormatFault>
         ensures too_few { IsErrOf result FormatFault.TooFew ↔ IsTooFew segments inodes frames }
         ensures too_many { IsErrOf result FormatFault.TooMany ↔ IsTooMany segments inodes frames }
-        ensures opening { IfOk result (IsOpening segments inodes) }
+        ensures opening { IfOk result (IsOpening segments inodes frames) }
         ensures content { IfOk result (λ parts. content_of parts ≡ opening_content) }
         ensures store { IfOk result IsStore }
         ensures settled { IfOk result IsSettled }
@@ -49,20 +48,21 @@ impl Parts {
         let mut log = Log::format(alloc, segments, inodes)?;
         write_root(&mut log);
         enter_root(&mut log);
-        Ok(Parts::over(alloc, log)?)
+        Ok(Parts::over(alloc, log, frames)?)
     }
 
-    /// The parts over a log, with room for what is to wait. Nothing waits yet.
-    fn over(alloc: Global, log: Log) -> Result<Parts, AllocError>
+    /// The parts over a log, with a cache of so many frames and room for what is to wait. Nothing waits
+    /// yet.
+    fn over(alloc: Global, log: Log, frames: u32) -> Result<Parts, AllocError>
+        requires at_least { LEAST_FRAMES ≤ frames }
+        requires at_most { frames ≤ MOST_FRAMES }
         ensures log { IfOk result (λ parts. parts.log ≡ log) }
-        ensures cache { IfOk result (λ parts. parts.cache ≡ nothing_in LEAST_FRAMES) }
+        ensures cache { IfOk result (λ parts. parts.cache ≡ nothing_in frames) }
         ensures formed { IfOk result (λ parts. IsContents parts.cache) }
-        ensures no_record { IfOk result (λ parts. parts.waiting.items ≡ []) }
-        ensures room { IfOk result (λ parts. WAITING_LIMIT ≤ vec_capacity parts.waiting) }
+        ensures no_record { IfOk result (λ parts. parts.waiting ≡ []) }
     {
-        // What waits is written before a call ends, so that this many frames always do.
-        let cache = Cache::new(alloc, LEAST_FRAMES)?;
-        let waiting = Vec::with_capacity(alloc, WAITING_LIMIT)?;
+        let cache = Cache::new(alloc, frames)?;
+        let waiting = Records::new(alloc)?;
         Ok(Parts {
             log,
             cache,
@@ -76,6 +76,7 @@ fn check_numbers(segments: u32, inodes: u32, frames: u32) -> Result<(), FormatFa
     ensures too_few { IsErrOf result FormatFault.TooFew ↔ IsTooFew segments inodes frames }
     ensures too_many { IsErrOf result FormatFault.TooMany ↔ IsTooMany segments inodes frames }
     ensures no_memory { IsErrOf result FormatFault.Memory → ⊥ }
+    ensures frames { OnOk result ((LEAST_FRAMES ≤ frames) × (frames ≤ MOST_FRAMES)) }
 {
     check_range(segments, LEAST_SEGMENTS, MOST_SEGMENTS)?;
     check_range(inodes, LEAST_INODES, MOST_INODES)?;
@@ -88,6 +89,7 @@ fn check_range(number: u32, least: u32, most: u32) -> Result<(), FormatFault>
     ensures too_few { IsErrOf result FormatFault.TooFew ↔ (number < least) }
     ensures too_many { IsErrOf result FormatFault.TooMany ↔ (most < number) }
     ensures no_memory { IsErrOf result FormatFault.Memory → ⊥ }
+    ensures in_range { OnOk result ((least ≤ number) × (number ≤ most)) }
 {
     if number < least {
         return Err(FormatFault::TooFew);

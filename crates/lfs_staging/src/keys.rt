@@ -4,17 +4,17 @@ ghost use Rattle.std.specs.Prelude.{◌≡◌, ◌<◌, true, length};
 ghost use Rattle.lfs_segments.specs.declared.entry.LogicalBlock.{LogicalBlock};
 ghost use Rattle.lfs_segments.specs.Entry.{IsLogicalBlock, block_number};
 ghost use Rattle.lfs_ifile.specs.Tables.{row_of};
-ghost use Rattle.lfs_ways.specs.Blocks.{IsFileBlock, code_of, file_block_of, way_to};
-ghost use Rattle.lfs_ways.specs.Moves.{present_address};
+ghost use Rattle.lfs_bmap.specs.Blocks.{IsFileBlock, code_of, file_block_of, way_to};
+ghost use Rattle.lfs_bmap.specs.Moves.{present_address};
 ghost use Rattle.lfs_staging.specs.Keys.{log_state};
 ghost use Rattle.lfs_staging.specs.Store.{IsStore};
 ghost use Rattle.lfs_staging.specs.View.{tree_of};
-ghost use Rattle.lfs_ways.specs.Reading.{address};
+ghost use Rattle.lfs_bmap.specs.Reading.{address};
 
 use crate::parts::Parts;
+use lfs_bmap::blocks::FileBlock;
 use lfs_segments::entry::LogicalBlock;
 use lfs_types::cleaner::BlockInfo;
-use lfs_ways::blocks::FileBlock;
 
 impl Parts {
     /// The present address of the block that an info names: 0 where the number isn't in use or has

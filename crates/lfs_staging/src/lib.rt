@@ -12,5 +12,5 @@ pub mod keys;
 pub mod making;
 pub mod parts;
 pub mod reading;
+pub mod records;
 pub mod staging;
-mod waiting;

@@ -1,21 +1,21 @@
 //! Numbers that are given out and taken back, and the empty file of a new one.
 
-ghost use Rattle.std.specs.Prelude.{◌≡◌, ◌+◌, ◌<◌, ◌≤◌, [], Some, length, true, false};
+ghost use Rattle.std.specs.Prelude.{◌≡◌, ◌==◌, ◌+◌, ◌<◌, ◌≤◌, ℕ, [], Some, if◌then◌else◌, length, true, false};
 ghost use Rattle.std.specs.FinMap.{insert, remove};
 ghost use Rattle.lfs_cache.specs.declared.cache.TheConstants.{LOCKED_LIMIT};
+ghost use Rattle.lfs_ifile.specs.Inode.{raised_version};
 ghost use Rattle.lfs_ifile.specs.Tables.{row_of};
 ghost use Rattle.lfs_inodes.specs.Reading.{Fields};
 ghost use Rattle.lfs_staging.specs.Changing.{StaysInLog};
 ghost use Rattle.lfs_staging.specs.Files.{content_of};
 ghost use Rattle.lfs_staging.specs.Staging.{IsStaged};
-ghost use Rattle.lfs_staging.specs.View.{record_of};
+ghost use Rattle.lfs_staging.specs.View.{record_of, version_of};
 ghost use Rattle.lfs_staging.specs.Waiting.{without};
-ghost use Rattle.lfs_staging.specs.declared.parts.TheConstants.{WAITING_LIMIT};
+ghost use Rattle.lfs_staging.specs.declared.records.TheConstants.{WAITING_LIMIT};
 ghost use Rattle.lfs_types.specs.Tree.{file_of};
 ghost use Rattle.lfs_types.specs.declared.limits.TheConstants.{FIRST_INODE};
 
 use crate::parts::Parts;
-use crate::waiting::drop_record;
 use lfs_inodes::inode::Inode;
 use lfs_types::attrs::Attrs;
 
@@ -26,12 +26,14 @@ impl Parts {
         requires least { FIRST_INODE ≤ ino }
         requires in_range { ino < length self.old.log.tables.rows }
         requires free { (row_of self.old.log.tables ino).used ≡ false }
-        requires records { length self.old.waiting.items < WAITING_LIMIT }
+        requires records { length self.old.waiting < WAITING_LIMIT }
         ensures staged { IsStaged self.new 0 }
         ensures content { content_of self.new ≡ insert (content_of self.old) ino (file_of attrs.now []) }
         ensures log { StaysInLog self.old self.new }
+        ensures versions { (n : ℕ) → version_of self.new n ≡ (if n == ino
+            then raised_version (version_of self.old n) else version_of self.old n) }
         ensures cache { self.new.cache ≡ self.old.cache }
-        ensures waiting { length self.new.waiting.items ≤ length self.old.waiting.items + 1 }
+        ensures waiting { length self.new.waiting ≤ length self.old.waiting + 1 }
     {
         let version = self.log.give_out(ino);
         self.stage_record(Inode::new(ino, version, attrs));
@@ -43,12 +45,13 @@ impl Parts {
         requires in_range { ino < length self.old.log.tables.rows }
         requires in_use { (row_of self.old.log.tables ino).used ≡ true }
         requires frames { length self.old.cache.locked + 2 ≤ LOCKED_LIMIT }
-        requires records { length self.old.waiting.items < WAITING_LIMIT }
+        requires records { length self.old.waiting < WAITING_LIMIT }
         ensures staged { IsStaged self.new 0 }
         ensures content { content_of self.new ≡ remove (content_of self.old) ino }
         ensures log { StaysInLog self.old self.new }
+        ensures versions { (n : ℕ) → version_of self.new n ≡ version_of self.old n }
         ensures frames { length self.new.cache.locked ≤ length self.old.cache.locked }
-        ensures waiting { length self.new.waiting.items ≤ length self.old.waiting.items }
+        ensures waiting { length self.new.waiting ≤ length self.old.waiting }
     {
         self.set_length(ino, 0);
         self.give_back(ino);
@@ -64,10 +67,11 @@ impl Parts {
         ensures staged { IsStaged self.new 0 }
         ensures content { content_of self.new ≡ remove (content_of self.old) ino }
         ensures log { StaysInLog self.old self.new }
+        ensures versions { (n : ℕ) → version_of self.new n ≡ version_of self.old n }
         ensures cache { self.new.cache ≡ self.old.cache }
-        ensures waiting { self.new.waiting.items ≡ without ino self.old.waiting.items }
+        ensures waiting { self.new.waiting ≡ without ino self.old.waiting }
     {
-        drop_record(&mut self.waiting, ino);
+        self.waiting.remove(ino);
         self.log.place_record(ino, 0, 0);
         self.log.release(ino);
     }

@@ -2,15 +2,15 @@
 
 ghost use Rattle.std.specs.Prelude.{◌≡◌, ◌<◌, length, option_map};
 ghost use Rattle.lfs_inodes.specs.Reading.{fields_of};
-ghost use Rattle.lfs_staging.specs.View.{IsReadable, record_of, waiting_in};
+ghost use Rattle.lfs_bmap.specs.Blocks.{IsFileBlock, code_of};
+ghost use Rattle.lfs_staging.specs.View.{key_of, record_of, waiting_in};
 
-use lfs_cache::Cache;
+use crate::records::Records;
+use lfs_bmap::blocks::FileBlock;
+use lfs_cache::{Cache, Key};
 use lfs_inodes::inode::Inode;
 use lfs_log::Log;
 use lfs_log::packing::inode_in;
-
-/// The greatest number of inode records that wait to be written (this project's profile).
-pub const WAITING_LIMIT: usize = 64;
 
 /// The parts of a log store. What waits to be written lies over the log: inode records here, other
 /// blocks in the cache's LOCKED frames.
@@ -20,25 +20,32 @@ pub struct Parts {
     pub log: Log,
     /// The blocks that wait to be written.
     pub cache: Cache,
-    /// The inode records that wait to be written, of which it has room for `WAITING_LIMIT`.
-    pub waiting: Vec<Inode>,
+    /// The inode records that wait to be written.
+    pub waiting: Records,
+}
+
+/// The key of a block of a file in the cache.
+pub(crate) fn key_of(inode: &Inode, block: FileBlock) -> Key
+    requires { IsFileBlock block }
+    ensures { result ≡ key_of inode.now.number inode.now.version (code_of block) }
+{
+    Key {
+        ino: inode.number,
+        version: inode.version,
+        lbn: block.code(),
+    }
 }
 
 impl Parts {
     /// The record of a number that waits to be written, if one does.
     pub fn waiting(&self, ino: u32) -> Option<Inode>
-        ensures { result ≡ waiting_in self.now.waiting.items ino }
+        ensures { result ≡ waiting_in self.now.waiting ino }
     {
-        self.waiting
-            .as_slice()
-            .iter()
-            .find(|inode| inode.number == ino)
-            .copied()
+        self.waiting.find(ino)
     }
 
     /// The record of a number in use: the one that waits to be written, else the one in the log.
     pub fn record(&self, ino: u32) -> Option<Inode>
-        requires readable { IsReadable self.now }
         requires in_range { ino < length self.now.log.tables.rows }
         ensures { option_map fields_of result ≡ record_of self.now ino }
     {

@@ -1,37 +1,38 @@
 //! Staging: what a call changes waits over the log, with its parents, until it is written.
 
-ghost use Rattle.std.specs.Prelude.{◌≡◌, ◌≢◌, ◌+◌, ◌<◌, ◌≤◌, ◌⊎◌, ◌↔◌, ℕ, IsTrue, Some, length, true, vec_capacity};
+ghost use Rattle.std.specs.Prelude.{◌≡◌, ◌≢◌, ◌+◌, ◌<◌, ◌≤◌, ◌⊎◌, ◌↔◌, ℕ, IsTrue, Some, length, true};
 ghost use Rattle.lfs_types.specs.declared.limits.TheConstants.{FILE_BLOCKS};
 ghost use Rattle.lfs_ifile.specs.Tables.{row_of};
 ghost use Rattle.lfs_inodes.specs.Facts.{block_count};
 ghost use Rattle.lfs_inodes.specs.Reading.{fields_of};
 ghost use Rattle.lfs_cache.specs.declared.cache.TheConstants.{LOCKED_LIMIT};
 ghost use Rattle.lfs_cache.specs.Contents.{IsLocked};
-ghost use Rattle.lfs_ways.specs.declared.blocks.FileBlock.TheVariants.{Single};
-ghost use Rattle.lfs_ways.specs.Blocks.{IsFileBlock, code_of, way_to};
-ghost use Rattle.lfs_ways.specs.Reading.{read};
-ghost use Rattle.lfs_staging.specs.declared.parts.TheConstants.{WAITING_LIMIT};
-ghost use Rattle.lfs_staging.specs.Staging.{IsStaged, IsZeroPast, MayStage, StagesBlock, StagesData, StagesOwnRecord, StagesParents, StagesRecord};
+ghost use Rattle.lfs_log.specs.Parts.{IsParts};
+ghost use Rattle.lfs_bmap.specs.declared.blocks.FileBlock.TheVariants.{Single};
+ghost use Rattle.lfs_bmap.specs.declared.blocks.TheConstants.{DIRECT_BLOCKS};
+ghost use Rattle.lfs_bmap.specs.Blocks.{IsFileBlock, code_of, way_to};
+ghost use Rattle.lfs_bmap.specs.Reading.{read};
+ghost use Rattle.lfs_staging.specs.declared.records.TheConstants.{WAITING_LIMIT};
+ghost use Rattle.lfs_staging.specs.Staging.{HasFrames, IsStaged, IsZeroPast, MayStage, StagesBlock, StagesData, StagesOwnRecord, StagesParents, StagesRecord};
 ghost use Rattle.lfs_staging.specs.Store.{AreFiles};
-ghost use Rattle.lfs_staging.specs.View.{IsReadable, LiesIn, blocks_of, key_of, record_of, tree_of, version_of};
+ghost use Rattle.lfs_staging.specs.View.{LiesIn, blocks_of, key_of, record_of, tree_of, version_of};
 ghost use Rattle.lfs_staging.specs.Waiting.{without};
 
 use crate::parts::Parts;
-use crate::waiting::put_record;
+use lfs_bmap::blocks::{DIRECT_BLOCKS, FileBlock};
 use lfs_cache::Key;
 use lfs_inodes::inode::Inode;
 use lfs_types::block::Block;
-use lfs_ways::blocks::{DIRECT_BLOCKS, FileBlock};
 
 impl Parts {
     /// Has a record wait, in place of the one that its number had.
     pub fn stage_record(&mut self, inode: Inode)
         requires in_use { (row_of self.old.log.tables inode.number).used ≡ true }
-        requires room { length (without inode.number self.old.waiting.items) < WAITING_LIMIT }
-        requires capacity { WAITING_LIMIT ≤ vec_capacity self.old.waiting }
+        requires room { length (without inode.number self.old.waiting) < WAITING_LIMIT }
+        requires parts { IsParts self.old.log }
         ensures { StagesRecord inode self.old self.new }
     {
-        put_record(&mut self.waiting, inode);
+        self.waiting.put(inode);
     }
 
     /// Has bytes wait for a block of a file, which isn't its record.
@@ -39,7 +40,6 @@ impl Parts {
         requires block { IsFileBlock block }
         requires other { code_of block ≢ 0 }
         requires version { inode.now.version ≡ version_of self.old inode.now.number }
-        requires readable { IsReadable self.old }
         requires room { IsLocked (key_of inode.now.number inode.now.version (code_of block)) self.old.cache
             ⊎ (length self.old.cache.locked < LOCKED_LIMIT) }
         ensures { StagesBlock inode.now.number block bytes.now self.old self.new }
@@ -55,7 +55,7 @@ impl Parts {
     /// Has bytes wait for a data block of a file, and its parents too.
     pub fn stage_data(&mut self, inode: &Inode, index: u32, bytes: &Block)
         requires may { MayStage self.old inode.now }
-        requires room { length self.old.cache.locked + 2 ≤ LOCKED_LIMIT }
+        requires room { HasFrames self.old inode.now.number index }
         requires block { index < FILE_BLOCKS }
         requires within { index < block_count inode.now.size }
         requires zeros { IsZeroPast inode.now.size index bytes.now }
@@ -72,7 +72,9 @@ impl Parts {
     /// data block past the direct ones the single indirect block.
     pub fn stage_parents(&mut self, inode: &Inode, index: u32)
         requires may { MayStage self.old inode.now }
-        requires room { length self.old.cache.locked + 2 ≤ LOCKED_LIMIT }
+        requires room { DIRECT_BLOCKS ≤ index
+            → IsLocked (key_of inode.now.number (version_of self.old inode.now.number) 1) self.old.cache
+            ⊎ (length self.old.cache.locked < LOCKED_LIMIT) }
         ensures { StagesParents inode.now.number index self.old self.new }
     {
         self.stage_own_record(inode);
@@ -94,7 +96,6 @@ impl Parts {
 
     /// Whether the single indirect block of a file waits.
     fn waits_single(&self, inode: &Inode) -> bool
-        requires readable { IsReadable self.now }
         ensures { IsTrue result ↔ IsLocked (key_of inode.now.number inode.now.version 1) self.now.cache }
     {
         let key = Key {
@@ -102,7 +103,7 @@ impl Parts {
             version: inode.version,
             lbn: FileBlock::Single.code(),
         };
-        self.cache.peek(key).is_some()
+        self.cache.dirty(key).is_some()
     }
 
     /// Has the single indirect block of a file wait, with what it has. Where it waits already, nothing
@@ -111,7 +112,8 @@ impl Parts {
         requires files { AreFiles self.old }
         requires inside { LiesIn (blocks_of self.old) (tree_of self.old inode.now.number) }
         requires here { record_of self.old inode.now.number ≡ Some (fields_of inode.now) }
-        requires room { length self.old.cache.locked < LOCKED_LIMIT }
+        requires room { IsLocked (key_of inode.now.number (version_of self.old inode.now.number) 1) self.old.cache
+            ⊎ (length self.old.cache.locked < LOCKED_LIMIT) }
         ensures { StagesBlock inode.now.number Single
             (read (tree_of self.old inode.now.number) (way_to Single)) self.old self.new }
     {

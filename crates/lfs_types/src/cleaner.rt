@@ -91,13 +91,6 @@ impl<const LIMIT: usize> BlockInfos<LIMIT> {
         self.items.push(info);
     }
 
-    /// Takes all infos away.
-    pub fn clear(&mut self)
-        ensures { self.new ≡ [] }
-    {
-        self.items.clear();
-    }
-
     /// The infos as a vector of fixed capacity.
     pub fn into_items(self) -> ArrayVec<BlockInfo, LIMIT>
         ensures items { result.items ≡ self.entry }

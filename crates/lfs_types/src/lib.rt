@@ -19,4 +19,5 @@ pub mod payload;
 pub mod request;
 pub mod rule;
 pub mod script;
+pub mod sizes;
 pub mod store;

@@ -1,7 +1,7 @@
 //! The rules that a call must pass, and the denial by the first that fails.
 
-ghost use Rattle.std.specs.Prelude.{◌≡◌};
-ghost use Rattle.lfs_types.specs.RuleCodes.{rule_code, rule_error, error_name};
+ghost use Rattle.std.specs.Prelude.{◌≡◌, Some, slice_get};
+ghost use Rattle.lfs_types.specs.RuleCodes.{rule_code, rule_error, rules, error_name};
 
 use std::fmt;
 
@@ -106,7 +106,59 @@ pub enum Rule {
     FitsFile,
 }
 
+/// The rules, in the order in which they are reported.
+pub const RULES: [Rule; 20] = [
+    Rule::IsDirectory,
+    Rule::GrantsSearch,
+    Rule::NameThere,
+    Rule::NameFree,
+    Rule::IsNoDirectory,
+    Rule::IsEmpty,
+    Rule::IsNotRoot,
+    Rule::IsNotBeneathItself,
+    Rule::IsMutable,
+    Rule::IsNotAppendOnly,
+    Rule::GrantsRead,
+    Rule::GrantsWrite,
+    Rule::PassesSticky,
+    Rule::IsOwner,
+    Rule::MaySetOwner,
+    Rule::IsSuperuser,
+    Rule::MaySetFlags,
+    Rule::KeepsSystemLocks,
+    Rule::MaySetLevel,
+    Rule::FitsFile,
+];
+
 impl Rule {
+    /// The place of the rule in `RULES`.
+    pub fn place(self) -> usize
+        ensures { slice_get rules result ≡ Some self }
+    {
+        match self {
+            Rule::IsDirectory => 0,
+            Rule::GrantsSearch => 1,
+            Rule::NameThere => 2,
+            Rule::NameFree => 3,
+            Rule::IsNoDirectory => 4,
+            Rule::IsEmpty => 5,
+            Rule::IsNotRoot => 6,
+            Rule::IsNotBeneathItself => 7,
+            Rule::IsMutable => 8,
+            Rule::IsNotAppendOnly => 9,
+            Rule::GrantsRead => 10,
+            Rule::GrantsWrite => 11,
+            Rule::PassesSticky => 12,
+            Rule::IsOwner => 13,
+            Rule::MaySetOwner => 14,
+            Rule::IsSuperuser => 15,
+            Rule::MaySetFlags => 16,
+            Rule::KeepsSystemLocks => 17,
+            Rule::MaySetLevel => 18,
+            Rule::FitsFile => 19,
+        }
+    }
+
     /// The code, as `M2`.
     pub fn code(self) -> &'static str
         ensures { result.now ≡ rule_code self }

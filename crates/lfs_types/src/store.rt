@@ -1,6 +1,6 @@
 //! The trait of a file store: files by number, with no names and no permissions.
 
-ghost use Rattle.std.specs.Prelude.{◌≡◌, [], length, IsSome};
+ghost use Rattle.std.specs.Prelude.{◌≡◌, [], length, IsSome, OnOk};
 ghost use Rattle.std.specs.FinMap.{get};
 ghost use Rattle.lfs_types.specs.Changes.{CanApply};
 ghost use Rattle.lfs_types.specs.StoreStates.{Applies, StoreState};
@@ -65,6 +65,8 @@ pub enum StoreRefusal {
 pub trait FileStore {
     /// The state that contracts see.
     ghost state: { Self → StoreState };
+    /// Nothing waits to be written.
+    ghost is_settled: { Self → Type 0 };
 
     /// The attributes of a number, if it is in use.
     fn attrs(&self, ino: u32) -> Option<Attrs>
@@ -93,7 +95,8 @@ pub trait FileStore {
 
     /// Writes what waits to be written. The content stays.
     fn sync(&mut self) -> Result<(), StoreRefusal>
-        ensures { Applies (state self.old) [] result (state self.new) };
+        ensures applies { Applies (state self.old) [] result (state self.new) }
+        ensures settled { OnOk result (is_settled self.new) };
 }
 
 /// The numbers with which a volume is laid out.

@@ -1,7 +1,7 @@
 -- Journals: the opening one, and one with an entry more.
 use Rattle.std.proofs.Common.{◌≡◌, ℕ, ◌+◌, ◌<◌, ◌≤◌, List, [], ◌∷◌, ◌++◌, length, ◌↔◌, None, inr, true, false, refl, sym, ap, subst, ◌∙◌, ⊎_elim, arith, length-append, append_assoc, append-nil}
 use Rattle.std.proofs.lemmas.Bool.{cases_eq}
-use Rattle.std.specs.Prelude.{option_map, Result, Ok, Err, OnErr}
+use Rattle.std.specs.Prelude.{option_map, Result, Ok, Err, OnErr, OnOk}
 use Rattle.std.specs.FinMap as map
 use Rattle.lfs_types.specs.Caller.{Caller}
 use Rattle.lfs_types.specs.Changes.{IsLength}
@@ -12,6 +12,7 @@ use Rattle.lfs_types.specs.declared.answer.Answer.{Answer}
 use Rattle.lfs_types.specs.declared.answer.Answer.TheVariants.{Served, Denied, Refused}
 use Rattle.lfs_types.specs.declared.answer.Resource.TheVariants.{NoMemory, NoSpace, NoInodes, DirectoryFull, JournalFull}
 use Rattle.lfs_types.specs.declared.answer.Served.{Served as Shown}
+use Rattle.lfs_types.specs.declared.answer.Served.TheVariants.{Done}
 use Rattle.lfs_types.specs.declared.level.Level.{Level}
 use Rattle.lfs_types.specs.declared.level.Level.TheVariants.{Insecure}
 use Rattle.lfs_types.specs.declared.request.Request.{Request}
@@ -31,8 +32,8 @@ use Rattle.lfs_calls.specs.Content.{visible, Shows, IsListing, entries_below}
 use Rattle.lfs_calls.specs.Outcomes.{IsOutcome}
 use Rattle.lfs_calls.specs.Volumes.{HasWorld, IsVolume}
 use Rattle.lfs_calls.specs.Calls.{IsCallAt, answered}
-use Rattle.lfs_calls.specs.declared.halt.Halt.{Halt}
-use Rattle.lfs_calls.specs.declared.halt.Halt.TheVariants as halts
+use Rattle.lfs_calls.specs.declared.not_served.NotServed.{NotServed}
+use Rattle.lfs_calls.specs.declared.not_served.NotServed.TheVariants as reasons
 use Rattle.lfs_volume.specs.Copies.{is_lack_of_memory}
 use Rattle.lfs_volume.specs.Journals.{AreAnswers, IsAnswered, IsCaused, IsJournal, IsStep, Stays, level_left, level_set}
 
@@ -273,13 +274,13 @@ answer_level numbers w caller level request (Served shown) e = served_level numb
 answer_level numbers w caller level request (Denied denial) e = e
 answer_level numbers w caller level request (Refused resource) e = e
 
-unserved_content : {P : Type 0} (result : Result Shown Halt) → OnErr result P → IsUnserved (answered result) → P
+unserved_content : {P : Type 0} (result : Result Shown NotServed) → OnErr result P → IsUnserved (answered result) → P
 unserved_content (Ok shown) p h = absurd h
-unserved_content (Err (halts.Denied denial)) p h = p
-unserved_content (Err (halts.Refused resource)) p h = p
+unserved_content (Err (reasons.Denied denial)) p h = p
+unserved_content (Err (reasons.Refused resource)) p h = p
 
 -- what a call comes to is its answer
-pub of_call : (old new : StoreState) (level left : Level) (caller : Caller) (request : Request) (result : Result Shown Halt) (answer : Answer)
+pub of_call : (old new : StoreState) (level left : Level) (caller : Caller) (request : Request) (result : Result Shown NotServed) (answer : Answer)
     → HasWorld old → IsCallAt level old new caller request result → answer ≡ answered result → left ≡ level_left level request answer
     → IsAnswered old new level left caller request answer
 of_call old new level left caller request result answer has call is sets =
@@ -293,3 +294,9 @@ of_call old new level left caller request result answer has call is sets =
       listed = λ h. record { content = call.listed h; at_level = sets ∙ ap (level_left level request) is ∙ listed_level old here caller level request (answered result) (call.outcome here shown refl) h };
       follows = call.follows;
     })
+
+-- where a call came to an answer that it is done, what holds of each call that did holds
+pub on_done : (result : Result Shown NotServed) (answer : Answer) (P : Type 0) → answer ≡ answered result → answer ≡ Served Done → OnOk result P → P
+on_done (Ok shown) answer P is done p = p
+on_done (Err (reasons.Denied denial)) answer P is done p = let no = sym is ∙ done in absurd (cc)
+on_done (Err (reasons.Refused resource)) answer P is done p = let no = sym is ∙ done in absurd (cc)

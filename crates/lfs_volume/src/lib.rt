@@ -5,4 +5,4 @@ mod cleaning;
 pub mod volume;
 
 pub use lfs_flatfiles::flat_files;
-pub use lfs_model::{journal, steps};
+pub use lfs_model::{counts, journal, steps};

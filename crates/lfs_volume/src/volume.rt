@@ -1,10 +1,11 @@
 //! A volume: a file store under the rules, and the journal of what was answered.
 
-ghost use Rattle.std.specs.Prelude.{◌≡◌, ◌↔◌, ◌<◌, ◌≤◌, [], ◌∷◌, ◌++◌, length, vec_len, false, IfOk, IfErr, MatchOption};
+ghost use Rattle.std.specs.Prelude.{◌≡◌, ◌↔◌, ◌-◌, ◌^◌, ◌<◌, ◌≤◌, [], ◌∷◌, ◌++◌, length, vec_len, false, ⊤, IfOk, IfErr, MatchOption};
 ghost use Rattle.std.specs.Vec.{vec_capacity};
 ghost use Rattle.lfs_types.specs.StoreStates.{Follows};
 ghost use Rattle.lfs_types.specs.Tree.{opening_content};
 ghost use Rattle.lfs_types.specs.declared.level.Level.TheVariants.{Insecure};
+ghost use Rattle.lfs_model.specs.Counts.{counts_of};
 ghost use Rattle.lfs_model.specs.Runs.{IsUnserved, kept, kept_cleaning, kept_entry, kept_step, kept_steps};
 ghost use Rattle.lfs_model.specs.Steps.{world_of};
 ghost use Rattle.lfs_calls.specs.Outcomes.{IsOutcome};
@@ -15,11 +16,12 @@ ghost use Rattle.lfs_volume.specs.Journals.{AreAnswers, IsAnswered, IsJournal, S
 ghost use Rattle.lfs_volume.specs.StepRuns.{AreLegalAlone, AreSteps, IsActMade};
 
 use crate::cleaning::{cleaned, outcome};
-use lfs_calls::halt::answered;
+use lfs_calls::not_served::answered;
 use lfs_calls::serving::serve;
+use lfs_model::counts::Counts;
 use lfs_model::journal::{Call, CleanerAnswer, CleanerKind, Entry, Event};
 use lfs_model::steps::{Act, Step, StepAnswer};
-use lfs_types::answer::{Answer, Resource};
+use lfs_types::answer::{Answer, Resource, Served};
 use lfs_types::cleaned::CleanedStore;
 use lfs_types::cleaner::CleanerCall;
 use lfs_types::cred::Cred;
@@ -31,12 +33,13 @@ use std::marker::Model;
 use thiserror::Error;
 
 /// A volume over a file store. Its type keeps that its journal is a legal run from the tree of a fresh volume to
-/// the tree that its store and its level show.
+/// the tree that its store and its level show, and that its counts are those over its journal.
 #[derive(Drop)]
 pub struct Volume<F: FileStore + Drop> {
     store: F,
     level: Level,
     journal: Vec<Entry>,
+    counts: Counts,
     limit: u32,
 }
 
@@ -47,13 +50,15 @@ impl<F: FileStore + Drop> Model for Volume<F> {
 
     ghost Value = { Seen F };
 
+    ghost use Rattle.std.specs.Prelude.{◌≡◌};
+    ghost use Rattle.lfs_model.specs.Counts.{counts_of};
     ghost use Rattle.lfs_volume.specs.Journals.{IsJournal};
 
     ghost view = { λ v. record
         { store = v.store; level = v.level; journal = v.journal.items; limit = v.limit } };
 
     ghost invariant = { λ v. IsJournal (F.state v.store) v.level v.journal.items v.limit
-        × (v.limit ≤ vec_capacity v.journal) };
+        × (v.limit ≤ vec_capacity v.journal) × (v.counts ≡ counts_of v.journal.items) };
 }
 
 impl<F: FileStore + Drop> Volume<F> {
@@ -68,11 +73,13 @@ impl<F: FileStore + Drop> Volume<F> {
             store,
             level: Level::Insecure,
             journal,
+            counts: Counts::none(),
             limit: journal_limit,
         })
     }
 
-    /// Makes a user's call: judges it by the rules on the tree that the journal leads to, does it, and enters it.
+    /// Makes a user's call: judges it by the rules on the tree that the journal leads to, does it, and enters it. Where a
+    /// Sync is served, nothing waits in the store.
     pub fn call(&mut self, session: u8, cred: &Cred, request: Request) -> Answer
         ensures full { (result ≡ Answer.Refused Resource.JournalFull)
             ↔ (length self.old.journal ≡ self.old.limit) }
@@ -89,6 +96,8 @@ impl<F: FileStore + Drop> Volume<F> {
         ensures unserved { IsUnserved result
             → Stays (F.state self.old.store) (F.state self.new.store)
             self.old.level self.new.level }
+        ensures synced { request ≡ Request.Sync → result ≡ Answer.Served Served.Done
+            → F.is_settled self.new.store }
         ensures limit { self.new.limit ≡ self.old.limit }
         ensures follows { Follows (F.state self.old.store) (F.state self.new.store) }
     {
@@ -102,7 +111,8 @@ impl<F: FileStore + Drop> Volume<F> {
 
     /// Makes a user's call for whose entry the journal has room.
     fn answer_and_enter(&mut self, session: u8, cred: &Cred, request: Request) -> Answer
-        requires { length self.old.journal < self.old.limit }
+        requires room { length self.old.journal < self.old.limit }
+        requires few { length self.old.journal < 2 ^ 32 - 1 }
         ensures outcome { let old = F.state self.old.store in
             IsOutcome old (world_of old.shape.numbers self.old.journal) cred.now request result }
         ensures entered { self.new.journal ≡ self.old.journal
@@ -112,6 +122,8 @@ impl<F: FileStore + Drop> Volume<F> {
         ensures unserved { IsUnserved result
             → Stays (F.state self.old.store) (F.state self.new.store)
             self.old.level self.new.level }
+        ensures synced { request ≡ Request.Sync → result ≡ Answer.Served Served.Done
+            → F.is_settled self.new.store }
         ensures limit { self.new.limit ≡ self.old.limit }
         ensures follows { Follows (F.state self.old.store) (F.state self.new.store) }
     {
@@ -122,7 +134,7 @@ impl<F: FileStore + Drop> Volume<F> {
             return Answer::Refused(Resource::NoMemory);
         };
         let event = Event::User(request, copy);
-        enter(&mut self.journal, session, cred, event);
+        enter(&mut self.journal, &mut self.counts, session, cred, event);
         answer
     }
 
@@ -159,6 +171,15 @@ impl<F: FileStore + Drop> Volume<F> {
             self.now.level result.now self.now.limit }
     {
         self.journal.as_slice()
+    }
+
+    /// How the calls of the journal were answered.
+    pub fn counts(&self) -> &Counts
+        ensures counted { result.now ≡ counts_of self.now.journal }
+        ensures legal { IsJournal (F.state self.now.store)
+            self.now.level self.now.journal self.now.limit }
+    {
+        &self.counts
     }
 
     /// How many entries the journal may have.
@@ -214,7 +235,7 @@ impl<F: CleanedStore + Drop> Volume<F> {
             return answer;
         };
         let cleaning = Event::Cleaner(kind, outcome);
-        enter(&mut self.journal, session, cred, cleaning);
+        enter(&mut self.journal, &mut self.counts, session, cred, cleaning);
         answer
     }
 
@@ -274,14 +295,18 @@ impl<F: CleanedStore + Drop> Volume<F> {
 #[error("no memory for the answers")]
 pub struct RunMemory;
 
-/// Enters an event of a session into a journal that has room for it.
-fn enter(journal: &mut Vec<Entry>, session: u8, cred: &Cred, event: Event)
-    requires { vec_len journal.old < vec_capacity journal.old }
+/// Enters an event of a session into a journal that has room for it, and counts it.
+fn enter(journal: &mut Vec<Entry>, counts: &mut Counts, session: u8, cred: &Cred, event: Event)
+    requires room { vec_len journal.old < vec_capacity journal.old }
+    requires few { length journal.old.items < 2 ^ 32 - 1 }
+    requires counted { counts.old ≡ counts_of journal.old.items }
     ensures entered { journal.new.items
         ≡ journal.old.items ++ record { session = session; cred = cred.now; event = event } ∷ [] }
     ensures legal { StaysJournal journal.old.items journal.new.items cred.now event }
     ensures room { vec_capacity journal.old ≤ vec_capacity journal.new }
+    ensures counted { counts.new ≡ counts_of journal.new.items }
 {
+    counts.add(&event);
     let entry = Entry {
         session,
         cred: *cred,
@@ -338,12 +363,15 @@ fn answer_twice<F: FileStore>(
     request: &Request,
 ) -> Option<(Answer, Answer)>
     requires { HasWorld (F.state store.old) }
-    ensures { MatchOption result
+    ensures answered { MatchOption result
         (IsAnswered (F.state store.old) (F.state store.new)
         level.old level.new cred.now request.now (Answer.Refused Resource.NoMemory))
         (λ both. (both.1 ≡ both.0) × (is_lack_of_memory both.0 ≡ false)
         × IsAnswered (F.state store.old) (F.state store.new)
         level.old level.new cred.now request.now both.0) }
+    ensures synced { MatchOption result ⊤
+        (λ both. request.now ≡ Request.Sync → both.0 ≡ Answer.Served Served.Done
+        → F.is_settled store.new) }
 {
     let answer = answer(alloc, store, level, cred, request);
     if lacks_memory(&answer) {
@@ -364,8 +392,10 @@ fn answer<F: FileStore>(
     request: &Request,
 ) -> Answer
     requires { HasWorld (F.state store.old) }
-    ensures { IsAnswered (F.state store.old) (F.state store.new)
+    ensures answered { IsAnswered (F.state store.old) (F.state store.new)
         level.old level.new cred.now request.now result }
+    ensures synced { request.now ≡ Request.Sync → result ≡ Answer.Served Served.Done
+        → F.is_settled store.new }
 {
     let answer = answered(serve(alloc, store, *level, cred, request));
     *level = level_left(*level, request, &answer);

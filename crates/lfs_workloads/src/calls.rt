@@ -64,6 +64,7 @@ fn request_of(alloc: Global, scale: &Scale, step: Step) -> Result<Request> {
             uid: OWNER,
             gid: OWNER,
         },
+        Verb::Sync => Request::Sync,
     })
 }
 

@@ -49,6 +49,8 @@ pub enum Verb {
     Rename(Spot),
     /// A Chown that makes it the owner's.
     Give,
+    /// A Sync, which names nothing.
+    Sync,
 }
 
 /// A call: who makes it, of what, and what it asks.

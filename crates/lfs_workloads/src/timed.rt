@@ -28,6 +28,8 @@ pub fn timed_step(scale: &Scale, load: UserLoad, index: u32) -> Step {
         UserLoad::ReadHot => (FIRST, read(scale, index)),
         UserLoad::Write4k => (FIRST, write(scale, index, LARGE)),
         UserLoad::WriteSmall => (FIRST, write(scale, index, SMALL)),
+        UserLoad::WriteSync if is_even => (FIRST, write(scale, index / 2, SMALL)),
+        UserLoad::WriteSync => (Spot::Root, Verb::Sync),
         UserLoad::CreateUnlink if is_even => (Spot::Made, Verb::Create),
         UserLoad::CreateUnlink => (Spot::Made, Verb::Unlink),
         UserLoad::Rename if is_even => (FIRST, Verb::Rename(Spot::Moved)),

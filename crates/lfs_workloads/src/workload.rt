@@ -9,10 +9,13 @@ pub enum UserLoad {
     StatDeep,
     /// A Read of 4,096 bytes of one file, a block of it after another.
     ReadHot,
-    /// A Write of 4,096 bytes over those of one file.
+    /// A Write of 4,096 bytes over those of one file. Over a log most of them overwrite blocks that wait.
     Write4k,
-    /// A Write of 16 bytes over those of one file.
+    /// A Write of 16 bytes over those of one file. Over a log they overwrite blocks that wait: a file of 10,000 bytes, with
+    /// its indirect block, is 21 blocks, fewer than are written together, so nothing is ever written.
     WriteSmall,
+    /// A Write of 16 bytes over those of one file and a Sync by turns, so that each Write reaches a log.
+    WriteSync,
     /// A file is made and removed by turns, in a directory with others.
     CreateUnlink,
     /// A file gets another name in its directory, and its own back.
@@ -43,11 +46,12 @@ pub enum Workload {
 
 impl Workload {
     /// The names by which workloads are asked for, in the order of the table.
-    pub const NAMES: [&'static str; 12] = [
+    pub const NAMES: [&'static str; 13] = [
         "stat-deep",
         "read-hot",
         "write-4k",
         "write-small",
+        "write-sync",
         "create-unlink",
         "rename",
         "list-large",
@@ -59,11 +63,12 @@ impl Workload {
     ];
 
     /// The workload of each of the names.
-    const ALL: [Workload; 12] = [
+    const ALL: [Workload; 13] = [
         Workload::Users(UserLoad::StatDeep),
         Workload::Users(UserLoad::ReadHot),
         Workload::Users(UserLoad::Write4k),
         Workload::Users(UserLoad::WriteSmall),
+        Workload::Users(UserLoad::WriteSync),
         Workload::Users(UserLoad::CreateUnlink),
         Workload::Users(UserLoad::Rename),
         Workload::Users(UserLoad::ListLarge),

@@ -5,8 +5,9 @@ use clap::error::ErrorKind;
 use lfs_audit::fault::{RunFault, ThreadsFault};
 use lfs_audit::scripts::run_script;
 use lfs_audit::tell;
-use lfs_audit::threaded::run_threads;
-use lfs_options::{Options, options_of};
+use lfs_audit::threads::run_threads;
+use lfs_options::{Options, not_utf8, options_of};
+use std::alloc::AllocError;
 use std::env::Env;
 use std::process::ExitCode;
 use std::{env, io};
@@ -14,13 +15,10 @@ use std::{env, io};
 fn main(rt: HostRuntime) -> ExitCode {
     let alloc = rt.alloc();
     let mut stderr = rt.stderr();
-    let no_memory = ThreadsFault::Run(RunFault::Memory);
-    let Ok(words) = program_words(&rt) else {
-        return ExitCode::from(tell::tell(&mut stderr, &no_memory));
-    };
-    let options = match options_of(alloc, words.as_slice()) {
+    let Options { params, threads } = match options(&rt) {
         Ok(options) => options,
         Err(error) if error.kind() == ErrorKind::OutOfMemory => {
+            let no_memory = ThreadsFault::Run(RunFault::Memory);
             return ExitCode::from(tell::tell(&mut stderr, &no_memory));
         }
         Err(error) => {
@@ -28,7 +26,6 @@ fn main(rt: HostRuntime) -> ExitCode {
             return ExitCode::from(error.exit_code() as u8);
         }
     };
-    let Options { params, threads } = options;
     let outcome = if threads {
         run_threads(&rt, alloc, &mut rt.stdin(), &mut rt.stdout(), params)
     } else {
@@ -37,7 +34,12 @@ fn main(rt: HostRuntime) -> ExitCode {
     ExitCode::from(tell::end(&mut stderr, outcome))
 }
 
-/// The words of the command line, the program's name first.
-fn program_words<R: Env + Alloc>(rt: &R) -> io::Result<Vec<String<R::A>, R::A>> {
-    Ok(env::args(rt)?.collect(rt.alloc())?)
+/// What the command line asks for; its first word is the program's name.
+fn options<R: Env + AllocGlobal>(rt: &R) -> Result<Options, clap::Error> {
+    let alloc = rt.alloc();
+    match env::args(rt) {
+        Ok(words) => options_of(alloc, words.collect::<Vec<_>>(alloc)?.as_slice()),
+        Err(error) if error.kind() == io::ErrorKind::OutOfMemory => Err(AllocError.into()),
+        Err(_) => Err(not_utf8(alloc)),
+    }
 }

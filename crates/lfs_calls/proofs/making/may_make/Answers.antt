@@ -7,8 +7,8 @@ use Rattle.lfs_types.specs.declared.rule.Rule.TheVariants.{NameFree}
 use Rattle.lfs_model.specs.Rules.{asks, judged, making_tests}
 use Rattle.lfs_model.specs.World.{child}
 use Rattle.lfs_model.proofs.Deciding.{judged_all, judged_behind, judged_front, met_first}
-use Rattle.lfs_judgments.specs.Parts.{entering_tests, searching_tests}
-use Rattle.lfs_judgments.proofs.TestLemmas.{ask_stops, ask_passes}
+use Rattle.lfs_model.specs.Rules.{entering_tests, searching_tests}
+use Rattle.lfs_checks.proofs.TestLemmas.{ask_stops, ask_passes}
 use Rattle.lfs_calls.specs.Volumes.{IsVolume}
 use Rattle.lfs_calls.proofs.Directories.{dir_stored}
 use Rattle.lfs_calls.proofs.StepLemmas.{child_listed}

@@ -60,7 +60,7 @@ returns-in_err-may_remove-clause-judge g c w v =
     let p = err_from_is_err_and c.from_residual-in_err-may_remove.result c.from_residual-in_err-may_remove.ensures.1 in
     let here = still c.reach.ensures.state v in
     let shown = c.in-Some-attrs.ensures ∙ ap (λ x. shown_attrs x c.in_ok-number.number) ((same_content c.step.ensures.state) ∙ (same_content c.reach.ensures.state)) in
-    let tests = removing_tests c.args.cred.now c.in_ok-dir.dir.attrs c.in-Some-attrs.attrs c.component-at.result in
+    let tests = removing_tests c.args.cred.now 0 c.in_ok-dir.dir.attrs c.in-Some-attrs.attrs c.component-at.result in
     denies (removing w.rows c.args.cred.now c.args.names.now) (IsRemoval (g.F.FileStore.state c.args.store.now).content w.rows c.args.names.now) (p.1 ∙ ap Err p.2)
     (remove_decided (way g k w v) c.component-at.result c.component-at.ensures c.in_ok-number.number c.in-Some-attrs.attrs (c.in_ok-number.ensures.step w here) shown
     ∙ judged_none tests c.in_err-may_remove.field-0.0 (sym c.in_err-may_remove.ensures))
@@ -70,7 +70,7 @@ returns-clause-judge g c w v =
     let k = (goal.at.returns-clause-judge g c).In_ok-dir in
     let here = still c.reach.ensures.state v in
     let shown = c.in-Some-attrs.ensures ∙ ap (λ x. shown_attrs x c.in_ok-number.number) ((same_content c.step.ensures.state) ∙ (same_content c.reach.ensures.state)) in
-    let tests = removing_tests c.args.cred.now c.in_ok-dir.dir.attrs c.in-Some-attrs.attrs c.component-at.result in (
+    let tests = removing_tests c.args.cred.now 0 c.in_ok-dir.dir.attrs c.in-Some-attrs.attrs c.component-at.result in (
       remove_decided (way g k w v) c.component-at.result c.component-at.ensures c.in_ok-number.number c.in-Some-attrs.attrs (c.in_ok-number.ensures.step w here) shown
           ∙ judged_all tests (sym c.in_ok-may_remove.ensures),
       removal_is (way g k w v) c.component-at.result c.component-at.ensures c.in_ok-number.number c.in-Some-attrs.attrs (c.in_ok-number.ensures.step w here) shown,

@@ -7,7 +7,7 @@ use Rattle.lfs_model.specs.Rules.{asks, judged}
 use Rattle.lfs_model.proofs.Deciding.{ask_met}
 use Rattle.lfs_calls.proofs.Directories.{dir_stored}
 use Rattle.lfs_calls.proofs.RowLemmas.{directory_empty}
-use Rattle.lfs_judgments.proofs.TestLemmas.{ask_stops}
+use Rattle.lfs_checks.proofs.TestLemmas.{ask_stops}
 use Rattle.lfs_calls.proofs.removing.may_rmdir.Goals as goal
 
 pub returns-in_err-ask-clause-judge : goal.returns-in_err-ask-clause-judge

@@ -2,7 +2,7 @@ use Rattle.std.proofs.Common.{Err, Ok, refl, sym, subst}
 use Rattle.std.proofs.lemmas.Result.{err_from_is_err_and}
 use Rattle.lfs_types.specs.declared.answer.Served.TheVariants.{Done}
 use Rattle.lfs_types.specs.declared.request.Request.TheVariants.{Unlink}
-use Rattle.lfs_calls.specs.declared.halt.Halt.TheVariants.{Denied, Refused}
+use Rattle.lfs_calls.specs.declared.not_served.NotServed.TheVariants.{Denied, Refused}
 use Rattle.lfs_calls.specs.Calls.{IsCallAt, resource_of}
 use Rattle.lfs_calls.specs.Removes.{HangsAs, TakesRow}
 use Rattle.lfs_calls.proofs.CallLemmas.{denied, done, refused, still}

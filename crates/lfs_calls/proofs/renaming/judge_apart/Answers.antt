@@ -3,7 +3,7 @@ use Rattle.std.proofs.lemmas.Bool.{ne_eqb}
 use Rattle.lfs_types.specs.Tree.{root}
 use Rattle.lfs_model.specs.Rules.{front, last, reached}
 use Rattle.lfs_model.specs.Walks.{walked}
-use Rattle.lfs_model.proofs.Allowed.{may_make, split_last}
+use Rattle.lfs_model.proofs.Allowed.{may_arrive, split_last}
 use Rattle.lfs_calls.proofs.MoveJudging.{apart_met, file_apart, way_judged}
 use Rattle.lfs_calls.proofs.renaming.judge_apart.Goals as goal
 
@@ -24,7 +24,7 @@ judge_way-requires-clause-short g c =
 
 pub judge_way-requires-clause-leads : goal.judge_way-requires-clause-leads
 judge_way-requires-clause-leads g c w v =
-    let may = may_make w.rows v.tree c.args.cred.now 1 c.args.to.now (c.requires.made w v) in
+    let may = may_arrive w.rows v.tree c.args.cred.now c.args.to.now (c.requires.made w v) in
     (reached w.rows root (front c.args.to.now), ap (walked w.rows c.args.cred.now 1 0 root) c.parents_of.ensures.names ∙ may.way)
 
 pub returns-clause-apart : goal.returns-clause-apart

@@ -1,43 +1,40 @@
-use Rattle.std.proofs.Common.{◌≡◌, ◌≤◌, List, ℕ, length, None, Some, Ok, refl, sym, ap, subst, ◌∙◌}
-use Rattle.lfs_calls.specs.Volumes.{IsVolume}
-use Rattle.lfs_calls.proofs.CallLemmas.{still}
-use Rattle.lfs_calls.proofs.StateLemmas.{same_content}
-use Rattle.lfs_types.specs.Stored.{bytes_of, MayRefuse}
-use Rattle.lfs_types.specs.Tree.{World, Content}
-use Rattle.lfs_types.specs.declared.answer.Resource.TheVariants.{DirectoryFull}
+use Rattle.std.proofs.Common.{◌≡◌, ◌≤◌, List, ℕ, length, None, Some, Ok, Err, refl, sym, ap, subst, ◌∙◌}
 use Rattle.std.proofs.lemmas.Result.{err_from_is_err_and}
-use Rattle.lfs_calls.proofs.CallLemmas.{denied, lacking, refused_so, done_so}
+use Rattle.std.specs.Prelude.{Result}
+use Rattle.lfs_types.specs.StoreStates.{StoreState}
+use Rattle.lfs_types.specs.Tree.{World}
 use Rattle.lfs_types.specs.declared.request.Request.TheVariants.{Rename}
-use Rattle.lfs_calls.specs.declared.renaming.Places.{Places}
 use Rattle.lfs_model.specs.Rules.{Judges, decide, last, rule_table}
-use Rattle.lfs_calls.specs.Content.{FitsNowhere}
-use Rattle.lfs_calls.specs.Makes.{IsBlockOf}
-use Rattle.lfs_calls.specs.Renames.{IsMove, GoesTo, ArePlaces, name_left}
-use Rattle.lfs_calls.proofs.RenameEffects.{moves_first, goes, fills, crowds, not_full, old_block, new_block, shows_after, tree_after}
-use Rattle.lfs_calls.proofs.WriteLemmas.{refused_outcome}
+use Rattle.lfs_calls.specs.Calls.{IsCallAt}
+use Rattle.lfs_calls.specs.Renames.{GoesWith, IsMove, PlacesRow}
+use Rattle.lfs_calls.specs.Volumes.{IsVolume}
+use Rattle.lfs_calls.specs.declared.not_served.NotServed.{NotServed}
+use Rattle.lfs_calls.proofs.CallLemmas.{denied, done_so, still}
+use Rattle.lfs_calls.proofs.RenameOutcomes.{follows_placed, goes_with, halted_volume, halts_so, leaves_volume, no_error, not_listed, placed_none, renamed, stays_so}
+use Rattle.lfs_calls.proofs.StateLemmas.{same_content}
 use Rattle.lfs_calls.proofs.renaming.rename.Goals as goal
 use Rattle.lfs_calls.proofs.renaming.rename.Goals.{After-last_name-new}
 
 -- the content before, as the store has it at the call
-abbrev before : (g : _) (c : After-last_name-new g) → Content
-before g c = (g.F.FileStore.state c.args.store.now).content
+abbrev before : (g : _) (c : After-last_name-new g) → StoreState
+before g c = g.F.FileStore.state c.args.store.now
 
 -- the judge found the call allowed, and the row that may get another name
 judged_so : (g : _) (c : After-last_name-new g) (w : World) → IsVolume (g.F.FileStore.state c.args.store.now) w
-    → (decide w c.args.cred.now (Rename c.args.from.now c.args.to.now) ≡ None) × IsMove (before g c) w.rows c.args.from.now c.args.to.now c.in_ok-planned.planned
+    → (decide w c.args.cred.now (Rename c.args.from.now c.args.to.now) ≡ None) × IsMove (before g c).content w.rows c.args.from.now c.args.to.now c.in_ok-planned.planned
 judged_so g c w v =
-    subst (λ names. Judges (rule_table w c.args.cred.now (Rename names c.args.to.now)) (IsMove (before g c) w.rows names c.args.to.now) (Ok c.in_ok-planned.planned)) c.names-from.ensures.value
-    (subst (λ names. Judges (rule_table w c.args.cred.now (Rename c.names-from.result.now names)) (IsMove (before g c) w.rows c.names-from.result.now names) (Ok c.in_ok-planned.planned)) c.names-to.ensures.value
+    subst (λ names. Judges (rule_table w c.args.cred.now (Rename names c.args.to.now)) (IsMove (before g c).content w.rows names c.args.to.now) (Ok c.in_ok-planned.planned)) c.names-from.ensures.value
+    (subst (λ names. Judges (rule_table w c.args.cred.now (Rename c.names-from.result.now names)) (IsMove (before g c).content w.rows c.names-from.result.now names) (Ok c.in_ok-planned.planned)) c.names-to.ensures.value
     (c.in_ok-planned.ensures.judge w v))
 
-move : (g : _) (c : After-last_name-new g) (w : World) → IsVolume (g.F.FileStore.state c.args.store.now) w → IsMove (before g c) w.rows c.args.from.now c.args.to.now c.in_ok-planned.planned
+move : (g : _) (c : After-last_name-new g) (w : World) → IsVolume (g.F.FileStore.state c.args.store.now) w → IsMove (before g c).content w.rows c.args.from.now c.args.to.now c.in_ok-planned.planned
 move g c w v = (judged_so g c w v).1
 
 pub last_name-old-requires : goal.last_name-old-requires
 last_name-old-requires g c = let t = c.requires in (c.in_ok-planned.ensures.judge t.0 t.1).1.removal.some
 
 pub last_name-new-requires : goal.last_name-new-requires
-last_name-new-requires g c = let t = c.requires in (c.in_ok-planned.ensures.judge t.0 t.1).1.parent.some
+last_name-new-requires g c = let t = c.requires in (c.in_ok-planned.ensures.judge t.0 t.1).1.arrival.some
 
 old_is : (g : _) (c : After-last_name-new g) → c.last_name-old.result.now ≡ last c.args.from.now
 old_is g c = c.last_name-old.ensures.name ∙ ap last c.names-from.ensures.value
@@ -45,55 +42,36 @@ old_is g c = c.last_name-old.ensures.name ∙ ap last c.names-from.ensures.value
 new_is : (g : _) (c : After-last_name-new g) → c.last_name-new.result.now ≡ last c.args.to.now
 new_is g c = c.last_name-new.ensures.name ∙ ap last c.names-to.ensures.value
 
--- what was found, in the content before
-places_are : (g : _) (c : After-last_name-new g) (places : Places) → ArePlaces (g.F.FileStore.state c.judge_rename.new.store).content c.in_ok-planned.planned c.last_name-old.result.now c.last_name-new.result.now places
-    → ArePlaces (before g c) c.in_ok-planned.planned (last c.args.from.now) (last c.args.to.now) places
-places_are g c places h =
-    subst (λ x. ArePlaces x c.in_ok-planned.planned (last c.args.from.now) (last c.args.to.now) places) (same_content c.judge_rename.ensures.state)
-    (subst (λ name. ArePlaces (g.F.FileStore.state c.judge_rename.new.store).content c.in_ok-planned.planned name (last c.args.to.now) places) (old_is g c)
-    (subst (λ name. ArePlaces (g.F.FileStore.state c.judge_rename.new.store).content c.in_ok-planned.planned c.last_name-old.result.now name places) (new_is g c) h))
-
-full_is : (g : _) (c : After-last_name-new g) → FitsNowhere (bytes_of (g.F.FileStore.state c.judge_rename.new.store).content c.in_ok-planned.planned.dir.number) (name_left c.in_ok-planned.planned c.last_name-old.result.now) c.last_name-new.result.now
-    → FitsNowhere (bytes_of (before g c) c.in_ok-planned.planned.dir.number) (name_left c.in_ok-planned.planned (last c.args.from.now)) (last c.args.to.now)
-full_is g c h =
-    subst (λ x. FitsNowhere (bytes_of x c.in_ok-planned.planned.dir.number) (name_left c.in_ok-planned.planned (last c.args.from.now)) (last c.args.to.now)) (same_content c.judge_rename.ensures.state)
-    (subst (λ name. FitsNowhere (bytes_of (g.F.FileStore.state c.judge_rename.new.store).content c.in_ok-planned.planned.dir.number) (name_left c.in_ok-planned.planned name) (last c.args.to.now)) (old_is g c)
-    (subst (λ name. FitsNowhere (bytes_of (g.F.FileStore.state c.judge_rename.new.store).content c.in_ok-planned.planned.dir.number) (name_left c.in_ok-planned.planned c.last_name-old.result.now) name) (new_is g c) h))
-
 short : (g : _) (c : After-last_name-new g) → length c.last_name-new.result.now ≤ 255 → length (last c.args.to.now) ≤ 255
 short g c h = subst (λ (n : List ℕ). length n ≤ 255) (new_is g c) h
 
-pub find_places-requires : goal.find_places-requires
-find_places-requires g c =
-    let k = (goal.at.find_places-requires g c).After-last_name-new in
+-- what came of the row, by the state before
+placed_so : (g : _) (c : After-last_name-new g) (result : Result (Unit {0}) NotServed) (after : StoreState)
+    → PlacesRow (g.F.FileStore.state c.judge_rename.new.store) c.in_ok-planned.planned c.last_name-old.result.now c.last_name-new.result.now c.in_ok-planned.planned.target result after
+    → PlacesRow (before g c) c.in_ok-planned.planned (last c.args.from.now) (last c.args.to.now) c.in_ok-planned.planned.target result after
+placed_so g c result after h =
+    let m = c.in_ok-planned.planned in
+    subst (λ s. PlacesRow s m (last c.args.from.now) (last c.args.to.now) m.target result after) c.judge_rename.ensures.state
+    (subst (λ name. PlacesRow (g.F.FileStore.state c.judge_rename.new.store) m name (last c.args.to.now) m.target result after) (old_is g c)
+    (subst (λ name. PlacesRow (g.F.FileStore.state c.judge_rename.new.store) m c.last_name-old.result.now name m.target result after) (new_is g c) h))
+
+pub place_row-requires : goal.place_row-requires
+place_row-requires g c =
+    let k = (goal.at.place_row-requires g c).After-last_name-new in
     let t = c.requires in
-    let is = goes t.1.shows t.1.tree c.args.cred.now (move g k t.0 t.1) in
-    let content = sym (same_content c.judge_rename.ensures.state) in
+    let m = c.in_ok-planned.planned in
+    let is = goes_with (before g k) t.1 c.args.cred.now (move g k t.0 t.1) m.target refl in
     record {
       goes = (
         t.0,
         (
           still c.judge_rename.ensures.state t.1,
-          subst (λ x. GoesTo x t.0.rows c.in_ok-planned.planned c.last_name-old.result.now c.last_name-new.result.now) content
-              (subst (λ name. GoesTo (before g k) t.0.rows c.in_ok-planned.planned name c.last_name-new.result.now) (sym (old_is g k))
-              (subst (λ name. GoesTo (before g k) t.0.rows c.in_ok-planned.planned (last c.args.from.now) name) (sym (new_is g k)) is)),
+          subst (λ x. GoesWith x t.0.rows m c.last_name-old.result.now c.last_name-new.result.now m.target) (sym (same_content c.judge_rename.ensures.state))
+              (subst (λ name. GoesWith (before g k).content t.0.rows m name c.last_name-new.result.now m.target) (sym (old_is g k))
+              (subst (λ name. GoesWith (before g k).content t.0.rows m (last c.args.from.now) name m.target) (sym (new_is g k)) is)),
         ),
       );
     }
-
-pub put_blocks-requires-clause-old : goal.put_blocks-requires-clause-old
-put_blocks-requires-clause-old g c =
-    let k = (goal.at.put_blocks-requires-clause-old g c).After-last_name-new in
-    let t = c.requires in
-    subst (λ x. IsBlockOf x c.in_ok-planned.planned.removal.dir.number c.in-Some.places.taken) (sym ((same_content c.find_places.ensures.state) ∙ (same_content c.judge_rename.ensures.state)))
-    (old_block t.1.shows t.1.tree c.args.cred.now (move g k t.0 t.1) (places_are g k _ c.in-Some.ensures.places))
-
-pub put_blocks-requires-clause-new : goal.put_blocks-requires-clause-new
-put_blocks-requires-clause-new g c =
-    let k = (goal.at.put_blocks-requires-clause-new g c).After-last_name-new in
-    let t = c.requires in
-    subst (λ x. IsBlockOf x c.in_ok-planned.planned.dir.number c.in-Some.places.room) (sym ((same_content c.find_places.ensures.state) ∙ (same_content c.judge_rename.ensures.state)))
-    (new_block t.1.shows t.1.tree c.args.cred.now (move g k t.0 t.1) (places_are g k _ c.in-Some.ensures.places))
 
 pub returns-in_err-planned-clause-call : goal.returns-in_err-planned-clause-call
 returns-in_err-planned-clause-call g c level =
@@ -102,43 +80,62 @@ returns-in_err-planned-clause-call g c level =
     subst (λ names. decide w c.args.cred.now (Rename names c.args.to.now) ≡ Some c.in_err-planned.field-0.0) c.names-from.ensures.value
     (subst (λ names. decide w c.args.cred.now (Rename c.names-from.result.now names) ≡ Some c.in_err-planned.field-0.0) c.names-to.ensures.value (c.in_err-planned.ensures.judge w v))))
 
-pub returns-in_default-clause-call : goal.returns-in_default-clause-call
-returns-in_default-clause-call g c level = lacking level (c.find_places.ensures.state ∙ c.judge_rename.ensures.state) DirectoryFull (λ w v at_level.
-    let k = (goal.at.returns-in_default-clause-call g c).After-last_name-new in
-    let is = move g k w v in
-    let full = full_is g k c.in_default.ensures.places in
-    (((judged_so g k w v).0, (λ none. none, crowds v.shows v.tree c.args.cred.now is full (short g k c.as_bytes.ensures.bounded))), fills v.shows v.tree c.args.cred.now is full))
+-- a denied call isn't one that the rules allow
+pub returns-in_err-planned-clause-stays : goal.returns-in_err-planned-clause-stays
+returns-in_err-planned-clause-stays g c w v there allowed =
+    let no = subst (λ names. decide w c.args.cred.now (Rename names c.args.to.now) ≡ Some c.in_err-planned.field-0.0) c.names-from.ensures.value
+    (subst (λ names. decide w c.args.cred.now (Rename c.names-from.result.now names) ≡ Some c.in_err-planned.field-0.0) c.names-to.ensures.value (c.in_err-planned.ensures.judge w v)) in
+    absurd (cc (sym allowed ∙ no))
 
-pub returns-in_err-put_blocks-clause-call : goal.returns-in_err-put_blocks-clause-call
-returns-in_err-put_blocks-clause-call g c level =
-    let p = err_from_is_err_and c.from_residual-in_err-put_blocks.result c.from_residual-in_err-put_blocks.ensures.1 in
-    rw (p.1, p.2) (refused_so level (c.find_places.ensures.state ∙ c.judge_rename.ensures.state) c.in_err-put_blocks.field-0.0 tt (λ w v at_level.
-    let k = (goal.at.returns-in_err-put_blocks-clause-call g c).After-last_name-new in
-    let is = move g k w v in
-    refused_outcome (g.F.FileStore.state c.args.store.now) w c.args.cred.now (Rename c.args.from.now c.args.to.now) c.in_err-put_blocks.field-0.0
-    (subst (λ s. MayRefuse s.clean s.shape.can_lack_memory c.in_err-put_blocks.field-0.0) (c.find_places.ensures.state ∙ c.judge_rename.ensures.state) c.in_err-put_blocks.ensures.refused)
-    (judged_so g k w v).0 (λ none. none) tt (not_full v.shows v.tree c.args.cred.now is (places_are g k _ c.in-Some.ensures.places))) c.in_err-put_blocks.ensures)
+pub returns-in_err-place_row-clause-call : goal.returns-in_err-place_row-clause-call
+returns-in_err-place_row-clause-call g c level =
+    let k = (goal.at.returns-in_err-place_row-clause-call g c).After-last_name-new in
+    let p = err_from_is_err_and c.from_residual-in_err-place_row.result c.from_residual-in_err-place_row.ensures.1 in
+    let m = c.in_ok-planned.planned in
+    let after = g.F.FileStore.state c.place_row.new.store in
+    let put = placed_so g k (Err c.in_err-place_row.field-0.0) after c.in_err-place_row.ensures in
+    let none = placed_none (before g k) m (last c.args.from.now) (last c.args.to.now) m.target c.in_err-place_row.field-0.0 after put in
+    let call : IsCallAt level (before g k) after c.args.cred.now (Rename c.args.from.now c.args.to.now) (Err c.in_err-place_row.field-0.0) = record {
+      outcome = λ w v at_level. halts_so (before g k) v c.args.cred.now (move g k w v) (judged_so g k w v).0 (short g k c.as_bytes.ensures.bounded) m.target refl c.in_err-place_row.field-0.0 after put;
+      leaves = λ w v. halted_volume (before g k) v c.args.cred.now (Rename c.args.from.now c.args.to.now) c.in_err-place_row.field-0.0 after none.0;
+      halted = none.0;
+      looks = tt;
+      listed = λ h. absurd (not_listed c.in_err-place_row.field-0.0 h);
+      follows = none.1;
+    } in
+    subst (λ r. IsCallAt level (before g k) after c.args.cred.now (Rename c.args.from.now c.args.to.now) r) (sym (p.1 ∙ ap Err p.2)) call
+
+pub returns-in_err-place_row-clause-stays : goal.returns-in_err-place_row-clause-stays
+returns-in_err-place_row-clause-stays g c w v there allowed =
+    let k = (goal.at.returns-in_err-place_row-clause-stays g c).After-last_name-new in
+    let m = c.in_ok-planned.planned in
+    let after = g.F.FileStore.state c.place_row.new.store in
+    let put = placed_so g k (Err c.in_err-place_row.field-0.0) after c.in_err-place_row.ensures in
+    absurd (no_error (stays_so (before g k) v c.args.cred.now (move g k w v) there m.target refl (Err c.in_err-place_row.field-0.0) after put).0)
 
 pub returns-clause-call : goal.returns-clause-call
-returns-clause-call g c level = done_so level (c.find_places.ensures.state ∙ c.judge_rename.ensures.state) tt
-    (λ w v at_level.
+returns-clause-call g c level =
     let k = (goal.at.returns-clause-call g c).After-last_name-new in
-    let is = move g k w v in
-    (((judged_so g k w v).0, λ none. none, refl), not_full v.shows v.tree c.args.cred.now is (places_are g k _ c.in-Some.ensures.places)))
-    (λ w v. record {
-      shows =
-          let k = (goal.at.returns-clause-call g c).After-last_name-new in
-          shows_after v.shows v.tree c.args.cred.now (move g k w v) (places_are g k _ c.in-Some.ensures.places) (g.F.FileStore.state c.args.store.now).shape.numbers
-          (g.F.FileStore.state c.find_places.new.store).content (g.F.FileStore.state c.put_blocks.new.store).content ((same_content c.find_places.ensures.state) ∙ (same_content c.judge_rename.ensures.state)) c.in_ok-put_blocks.ensures.ok;
-      tree =
-          let k = (goal.at.returns-clause-call g c).After-last_name-new in
-          tree_after v.shows v.tree c.args.cred.now (move g k w v) (judged_so g k w v).0 (g.F.FileStore.state c.args.store.now).shape.numbers;
-    })
-    c.in_ok-put_blocks.ensures.follows
+    let m = c.in_ok-planned.planned in
+    let after = g.F.FileStore.state c.place_row.new.store in
+    let put = placed_so g k (Ok tt) after c.in_ok-place_row.ensures in
+    done_so level refl tt
+    (λ w v at_level. (((judged_so g k w v).0, (λ none. none), refl), (renamed (before g k) v c.args.cred.now (move g k w v) (judged_so g k w v).0 m.target refl after put).roomy))
+    (λ w v. leaves_volume (before g k) v c.args.cred.now (move g k w v) (judged_so g k w v).0 after (renamed (before g k) v c.args.cred.now (move g k w v) (judged_so g k w v).0 m.target refl after put))
+    (follows_placed (before g k) m (last c.args.from.now) (last c.args.to.now) m.target after put)
 
--- the old name was taken away, and the new one put where there was room first
+-- the entries are left as they should be
 pub returns-clause-place : goal.returns-clause-place
 returns-clause-place g c w v =
     let k = (goal.at.returns-clause-place g c).After-last_name-new in
-    moves_first v.shows v.tree c.args.cred.now (move g k w v) (places_are g k _ c.in-Some.ensures.places)
-    (g.F.FileStore.state c.find_places.new.store).content (g.F.FileStore.state c.put_blocks.new.store).content ((same_content c.find_places.ensures.state) ∙ (same_content c.judge_rename.ensures.state)) c.in_ok-put_blocks.ensures.ok
+    let after = g.F.FileStore.state c.place_row.new.store in
+    let put = placed_so g k (Ok tt) after c.in_ok-place_row.ensures in
+    (renamed (before g k) v c.args.cred.now (move g k w v) (judged_so g k w v).0 c.in_ok-planned.planned.target refl after put).place
+
+-- and where the row has its place already, nothing changes
+pub returns-clause-stays : goal.returns-clause-stays
+returns-clause-stays g c w v there allowed =
+    let k = (goal.at.returns-clause-stays g c).After-last_name-new in
+    let after = g.F.FileStore.state c.place_row.new.store in
+    let put = placed_so g k (Ok tt) after c.in_ok-place_row.ensures in
+    (refl, (stays_so (before g k) v c.args.cred.now (move g k w v) there c.in_ok-planned.planned.target refl (Ok tt) after put).1)

@@ -2,7 +2,7 @@ use Rattle.std.proofs.Common.{Err, sym, ap, ◌∙◌}
 use Rattle.std.specs.Prelude.{ok_or}
 use Rattle.std.proofs.lemmas.Result.{err_from_is_err_and}
 use Rattle.lfs_model.proofs.Deciding.{judged_all, met_first}
-use Rattle.lfs_judgments.specs.Parts.{searching_tests}
+use Rattle.lfs_model.specs.Rules.{searching_tests}
 use Rattle.lfs_calls.proofs.Directories.{dir_stored}
 use Rattle.lfs_calls.proofs.StepLemmas.{steps_barred, steps_on}
 use Rattle.lfs_calls.proofs.walking.step.Goals as goal

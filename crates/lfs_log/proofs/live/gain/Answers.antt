@@ -1,5 +1,5 @@
 use Rattle.std.proofs.Common.{arith}
-use Rattle.lfs_ways.specs.Blocks.{code_of}
+use Rattle.lfs_bmap.specs.Blocks.{code_of}
 use Rattle.lfs_log.proofs.LiveLemmas.{live-gained, live-nowhere}
 use Rattle.lfs_log.proofs.live.gain.Goals as goal
 

@@ -1,5 +1,5 @@
 use Rattle.std.proofs.Common.{◌≤◌, ◌/◌, arith, subst, sym}
-use Rattle.lfs_ways.specs.Blocks.{code_of}
+use Rattle.lfs_bmap.specs.Blocks.{code_of}
 use Rattle.lfs_log.specs.Parts.{live_of}
 use Rattle.lfs_log.proofs.LiveLemmas.{live-lost, live-nowhere}
 use Rattle.lfs_log.proofs.live.lose.Goals as goal

@@ -3,4 +3,4 @@ use Rattle.lfs_model.proofs.LawReads.{answers_alike}
 use Rattle.lfs_model.proofs.laws.nobody_reads.Goals as goal
 
 pub returns : goal.returns
-returns c = λ numbers caller w v request answer differ. answers_alike caller w v differ numbers request answer
+returns c = λ numbers caller w v request answer tree differ. answers_alike caller w v tree differ numbers request answer

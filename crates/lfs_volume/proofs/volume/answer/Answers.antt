@@ -1,7 +1,10 @@
-use Rattle.lfs_volume.proofs.JournalLemmas.{of_call}
+use Rattle.lfs_volume.proofs.JournalLemmas.{of_call, on_done}
 use Rattle.lfs_volume.proofs.volume.answer.Goals as goal
 
-pub returns : goal.returns
-returns g c =
+pub returns-clause-answered : goal.returns-clause-answered
+returns-clause-answered g c =
     of_call (g.F.FileStore.state c.args.store.now) (g.F.FileStore.state c.serve.new.store) c.args.level.now c.level_left.result c.args.cred.now c.args.request.now
-    c.serve.result c.answered-answer.result c.requires c.serve.ensures c.answered-answer.ensures c.level_left.ensures
+    c.serve.result c.answered-answer.result c.requires c.serve.ensures.call c.answered-answer.ensures c.level_left.ensures
+
+pub returns-clause-synced : goal.returns-clause-synced
+returns-clause-synced g c = λ sync done. on_done c.serve.result c.answered-answer.result (g.F.FileStore.is_settled c.serve.new.store) c.answered-answer.ensures done (c.serve.ensures.synced sync)

@@ -2,12 +2,12 @@ use Rattle.std.proofs.Common.{refl, sym}
 use Rattle.lfs_volume.proofs.JournalLemmas.{IsAnswered-copy, IsAnswered-lack}
 use Rattle.lfs_volume.proofs.volume.answer_twice.Goals as goal
 
-pub returns-then-lacks_memory : goal.returns-then-lacks_memory
-returns-then-lacks_memory g c =
+pub returns-then-lacks_memory-clause-answered : goal.returns-then-lacks_memory-clause-answered
+returns-then-lacks_memory-clause-answered g c =
     IsAnswered-lack (g.F.FileStore.state c.args.store.now) (g.F.FileStore.state c.answer-answer.new.store) c.args.level.now c.answer-answer.new.level
-    c.args.cred.now c.args.request.now c.answer-answer.result c.answer-answer.ensures (sym c.if-lacks_memory.ensures)
+    c.args.cred.now c.args.request.now c.answer-answer.result c.answer-answer.ensures.answered (sym c.if-lacks_memory.ensures)
 
-pub returns-in-Err : goal.returns-in-Err
-returns-in-Err g c =
+pub returns-in-Err-clause-answered : goal.returns-in-Err-clause-answered
+returns-in-Err-clause-answered g c =
     IsAnswered-copy (g.F.FileStore.state c.args.store.now) (g.F.FileStore.state c.answer-answer.new.store) c.args.level.now c.answer-answer.new.level
-    c.args.cred.now c.args.request.now c.answer-answer.result c.answer-answer.ensures (c.in-Err.ensures.memory refl)
+    c.args.cred.now c.args.request.now c.answer-answer.result c.answer-answer.ensures.answered (c.in-Err.ensures.memory refl)

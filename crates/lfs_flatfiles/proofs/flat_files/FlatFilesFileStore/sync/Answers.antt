@@ -1,5 +1,5 @@
 use Rattle.std.proofs.Common.{rules}
 use Rattle.lfs_flatfiles.proofs.flat_files.FlatFilesFileStore.sync.Goals as goal
 
-pub returns : goal.returns
-returns c = search rules
+pub returns-clause-applies : goal.returns-clause-applies
+returns-clause-applies c = search rules

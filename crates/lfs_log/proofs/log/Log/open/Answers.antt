@@ -2,7 +2,7 @@ use Rattle.std.proofs.Common.{rules, ◌≡◌, ◌<◌, ℕ, Option, Some, None
 use Rattle.lfs_ifile.specs.declared.segment.SegState.TheVariants.{Clean}
 use Rattle.lfs_segments.specs.Memory.{block_at}
 use Rattle.lfs_segments.proofs.WritingLemmas.{block_at-opened_apart}
-use Rattle.lfs_ways.specs.Log.{Opens}
+use Rattle.lfs_bmap.specs.Log.{Opens}
 use Rattle.lfs_log.specs.Parts.{LogParts, log_state, state_of}
 use Rattle.lfs_log.proofs.PartsLemmas.{clean_count-none}
 use Rattle.lfs_log.proofs.NameLemmas.{Opens-opened}

@@ -3,7 +3,7 @@ use Rattle.std.proofs.lemmas.List.Elements.{All-get_or}
 use Rattle.lfs_ifile.specs.Inode.{IsRow, fresh_row}
 use Rattle.lfs_ifile.specs.declared.inode.InodeRow.{InodeRow}
 use Rattle.lfs_ifile.specs.Tables.{Tables, blocks_of, row_of}
-use Rattle.lfs_ways.specs.Counting.{place_of, weight_of}
+use Rattle.lfs_bmap.specs.Counting.{place_of, weight_of}
 use Rattle.lfs_log.specs.Parts.{LogParts, live_of, record_place}
 use Rattle.lfs_log.proofs.LiveLemmas.{Assigns-parts, IsParts-moved, SameButLive-trans, versions-placed, weight-record}
 use Rattle.lfs_log.proofs.log.Log.place_record.Goals as goal

@@ -2,7 +2,7 @@ use Rattle.std.proofs.Common.{◌≡◌, ◌<◌, ◌∙◌, ap, arith, get_or, 
 use Rattle.std.proofs.Math.ListN.{set}
 use Rattle.lfs_types.specs.declared.cleaner.BlockInfo.{BlockInfo}
 use Rattle.lfs_staging.specs.Keys.{log_state}
-use Rattle.lfs_landing.proofs.NamedLemmas.{named_address}
+use Rattle.lfs_segwrite.proofs.NamedLemmas.{named_address}
 use Rattle.lfs_logstore.specs.Cleaning.{with_address}
 use Rattle.lfs_logstore.proofs.AddressLemmas.{mapped_all, mapped_more, mapped_none}
 use Rattle.lfs_logstore.proofs.cleaning.LogStoreCleanedStore.bmapv.Goals as goal

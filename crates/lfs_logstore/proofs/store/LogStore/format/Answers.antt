@@ -15,4 +15,4 @@ pub returns-clause-too_many : goal.returns-clause-too_many
 returns-clause-too_many c = value_told c.in_ok-parts.parts c.in_ok-parts.parts TooMany _ c.in_ok-parts.ensures.too_many
 
 pub returns-clause-opening : goal.returns-clause-opening
-returns-clause-opening c = opened_state c.in_ok-parts.parts c.args.params.segments c.args.params.inodes c.in_ok-parts.ensures.opening c.in_ok-parts.ensures.content
+returns-clause-opening c = opened_state c.in_ok-parts.parts c.args.params.segments c.args.params.inodes c.args.params.frames c.in_ok-parts.ensures.opening c.in_ok-parts.ensures.content

@@ -8,7 +8,7 @@ invariant_of-self c =
     let has = subst (λ p. HasLive p c.args.segment 0) (sym c.self.view_is) c.requires in
     let e = c.reclaim.ensures in
     let done = cleaned c.self.inside.parts c.reclaim.new.self c.args.segment c.self.invariant.0 c.self.invariant.1 has e.tables e.memory e.clean e.step e.kept in
-    (done.store, done.settled)
+    (done.store, done.room)
 
 pub returns : goal.returns
 returns c =

@@ -1,6 +1,6 @@
 use Rattle.std.proofs.Common.{ap, sym, ◌∙◌, arith}
-use Rattle.lfs_ways.specs.Blocks.{code_of}
-use Rattle.lfs_ways.specs.Moves.{present_address}
+use Rattle.lfs_bmap.specs.Blocks.{code_of}
+use Rattle.lfs_bmap.specs.Moves.{present_address}
 use Rattle.lfs_staging.specs.Keys.{log_state}
 use Rattle.lfs_staging.proofs.KeyLemmas.{present-past, present-record, present-block, present-stale, present-unused, code-other}
 use Rattle.lfs_staging.proofs.parts.Parts.address_at.Goals as goal

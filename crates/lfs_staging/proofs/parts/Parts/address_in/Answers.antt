@@ -1,7 +1,7 @@
 use Rattle.std.proofs.Common.{sym, ap, ◌∙◌, subst}
 use Rattle.lfs_inodes.specs.Reading.{fields_of}
-use Rattle.lfs_ways.specs.Blocks.{way_to}
-use Rattle.lfs_ways.specs.Reading.{address}
+use Rattle.lfs_bmap.specs.Blocks.{way_to}
+use Rattle.lfs_bmap.specs.Reading.{address}
 use Rattle.lfs_staging.specs.View.{LiesIn, blocks_of}
 use Rattle.lfs_staging.proofs.FileLemmas.{given_record, tree_from-of}
 use Rattle.lfs_staging.proofs.KeyLemmas.{lies_in}

@@ -1,10 +1,10 @@
 use Rattle.std.proofs.Common.{◌≡◌, ◌<◌, ◌-◌, sym, ap, ◌∙◌, subst, arith}
 use Rattle.std.specs.Prelude.{slice_index}
 use Rattle.lfs_inodes.specs.Addresses.{cells}
-use Rattle.lfs_ways.specs.Blocks.{IsFileBlock, way_to}
-use Rattle.lfs_ways.specs.Reading.{address}
-use Rattle.lfs_ways.specs.declared.blocks.FileBlock.TheVariants.{Single}
-use Rattle.lfs_ways.proofs.ReadingLemmas.{address-root}
+use Rattle.lfs_bmap.specs.Blocks.{IsFileBlock, way_to}
+use Rattle.lfs_bmap.specs.Reading.{address}
+use Rattle.lfs_bmap.specs.declared.blocks.FileBlock.TheVariants.{Single}
+use Rattle.lfs_bmap.proofs.ReadingLemmas.{address-root}
 use Rattle.lfs_staging.specs.View.{blocks_of, tree_from}
 use Rattle.lfs_staging.proofs.ViewLemmas.{single-address, direct-address, indirect-address}
 use Rattle.lfs_staging.proofs.parts.Parts.address_of.Goals as goal

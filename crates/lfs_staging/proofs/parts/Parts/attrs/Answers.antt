@@ -19,5 +19,5 @@ returns c =
     let has = given_record p c.args.ino c.record.result v c.record.ensures c.in_ok-record.was in
     ap Some c.attrs.ensures ∙ sym (shown-record p c.args.ino (fields_of v) has (c.requires.whole.files c.args.ino (fields_of v) has))
 
-pub record-requires-clause-in_range : goal.record-requires-clause-in_range
-record-requires-clause-in_range c = omega arith
+pub record-requires : goal.record-requires
+record-requires c = omega arith

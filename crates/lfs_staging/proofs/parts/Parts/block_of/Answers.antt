@@ -1,7 +1,7 @@
 use Rattle.std.proofs.Common.{sym, ap, ◌∙◌}
-use Rattle.lfs_ways.specs.Blocks.{way_to}
-use Rattle.lfs_ways.specs.Reading.{bytes_via}
-use Rattle.lfs_ways.proofs.ReadingLemmas.{read-via}
+use Rattle.lfs_bmap.specs.Blocks.{way_to}
+use Rattle.lfs_bmap.specs.Reading.{bytes_via}
+use Rattle.lfs_bmap.proofs.ReadingLemmas.{read-via}
 use Rattle.lfs_staging.specs.View.{tree_from}
 use Rattle.lfs_staging.proofs.parts.Parts.block_of.Goals as goal
 

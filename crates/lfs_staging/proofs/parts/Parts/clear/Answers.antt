@@ -2,23 +2,25 @@ use Rattle.std.proofs.Common.{rules, ◌≡◌, ◌≤◌, ◌*◌, ◌/◌, ◌
 use Rattle.lfs_inodes.specs.Reading.{fields_of}
 use Rattle.lfs_cache.specs.Contents.{Contents, block_in}
 use Rattle.lfs_cache.specs.Keys.{same_key}
+use Rattle.lfs_cache.proofs.CallerLemmas.{none_both}
 use Rattle.lfs_log.specs.Parts.{LogParts, live_of}
 use Rattle.lfs_log.specs.Parts as log
-use Rattle.lfs_ways.specs.Blocks.{code_of, way_to}
-use Rattle.lfs_ways.specs.Counting.{placed, units}
-use Rattle.lfs_ways.specs.Log.{Assigns}
-use Rattle.lfs_ways.specs.Reading.{address}
-use Rattle.lfs_ways.specs.Ways.{way_of}
-use Rattle.lfs_ways.proofs.BlockLemmas.{code_of-below}
-use Rattle.lfs_ways.proofs.WayLemmas.{way_of-code_of}
+use Rattle.lfs_bmap.specs.Blocks.{code_of, way_to}
+use Rattle.lfs_bmap.specs.Counting.{placed, units}
+use Rattle.lfs_bmap.specs.Log.{Assigns}
+use Rattle.lfs_bmap.specs.Reading.{address}
+use Rattle.lfs_bmap.specs.Ways.{way_of}
+use Rattle.lfs_bmap.proofs.BlockLemmas.{code_of-below}
+use Rattle.lfs_bmap.proofs.WayLemmas.{way_of-code_of}
 use Rattle.lfs_staging.specs.declared.parts.Parts.{Parts}
 use Rattle.lfs_staging.specs.Keys.{log_state}
 use Rattle.lfs_staging.specs.View.{LiesIn, blocks_of, key_of, tree_of}
 use Rattle.lfs_staging.proofs.ClearedLemmas.{Steps, log_after}
 use Rattle.lfs_staging.proofs.FileLemmas.{tree_from-of}
 use Rattle.lfs_staging.proofs.GivingLemmas.{beneath_of, cleared, parent_of}
+use Rattle.lfs_staging.proofs.HeldLemmas.{forgets_none}
 use Rattle.lfs_staging.proofs.KeyLemmas.{lies_in, place-block}
-use Rattle.lfs_staging.proofs.ForgettingLemmas.{forgotten_clean, live_had, stays_landed, used_low, waited_parent, way_some}
+use Rattle.lfs_staging.proofs.ForgettingLemmas.{live_had, stays_landed, used_low, waited_parent, way_some}
 use Rattle.lfs_staging.proofs.SettingLemmas.{waiting_record}
 use Rattle.lfs_staging.proofs.parts.Parts.clear.Goals as goal
 
@@ -95,6 +97,9 @@ steps c i up way =
       waiting = refl;
       gone = subst (λ k. block_in (key_of v.number v.version k) c.forget.new.self.locked ≡ None) c.code.ensures c.forget.ensures.unlocked;
       kept = λ key apart. c.forget.ensures.others.dirty key (subst (λ k. same_key (key_of v.number v.version k) key ≡ false) (sym c.code.ensures) apart);
+      clean = forgets_none c.set_address.new.self.cache c.forget.new.self (key_of v.number v.version c.code.result) c.forget.ensures.formed c.forget.ensures.others c.forget.ensures.gone;
+      unclean = subst (λ k. block_in (key_of v.number v.version k) c.forget.new.self.lru ≡ None) c.code.ensures
+          (none_both _ _ c.forget.ensures.gone).1;
     }
 
 pub returns : goal.returns
@@ -105,8 +110,7 @@ returns c =
     let w = way_some b may.can may.other in
     let st = steps c w.0 w.1 w.2 in
     let log_is = st.set.log in
-    let stays = stays_landed p p s q v c.set_address.ensures.waiting refl refl refl refl c.move_live.ensures.others.rows c.forget.ensures.formed
-    (ap (λ (x : Contents). x.lru) c.forget.ensures.contents ∙ forgotten_clean _ s.cache c.set_address.ensures.waiting.none_clean) in
+    let stays = stays_landed p p s q v c.set_address.ensures.waiting refl refl c.move_live.ensures.others.rows c.forget.ensures.formed in
     let has = waiting_record p v c.requires.is in
     let same = tree_from-of p v.number v has (may.staged.whole.files v.number (fields_of v) has) in
     let is : address (tree_of p v.number) (way_of (code_of b)) ≡ c.address_of-from.result

@@ -13,11 +13,11 @@ clear-requires-clause-is c =
 pub clear-requires-clause-may : goal.clear-requires-clause-may
 clear-requires-clause-may c =
     let p = c.args.self.now in
-    let same = waiting_number p.waiting.items c.args.ino c.in-Some.inode (sym c.waiting.ensures ∙ c.in-Some.is) in
+    let same = waiting_number p.waiting c.args.ino c.in-Some.inode (sym c.waiting.ensures ∙ c.in-Some.is) in
     subst (λ n. MayClear p n c.args.block) (sym same) c.requires
 
 pub returns : goal.returns
 returns c =
     let p = c.args.self.now in
-    let same = waiting_number p.waiting.items c.args.ino c.in-Some.inode (sym c.waiting.ensures ∙ c.in-Some.is) in
+    let same = waiting_number p.waiting c.args.ino c.in-Some.inode (sym c.waiting.ensures ∙ c.in-Some.is) in
     subst (λ n. ClearsBlock n c.args.block p c.clear.new.self) same c.clear.ensures

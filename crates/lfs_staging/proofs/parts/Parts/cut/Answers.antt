@@ -1,4 +1,4 @@
-use Rattle.std.proofs.Common.{◌≡◌, ◌-◌, ap, ◌∙◌, arith}
+use Rattle.std.proofs.Common.{◌≡◌, ◌-◌, ap, ◌∙◌, inr, arith}
 use Rattle.lfs_inodes.specs.Attributes.{Attributes}
 use Rattle.lfs_inodes.specs.Facts.{block_count}
 use Rattle.lfs_staging.proofs.CutFileLemmas.{cut_file, may_shorten}
@@ -14,6 +14,9 @@ cut_last-requires-clause-staged c =
     let less = c.requires.less in
     let count = c.blocks-blocks.ensures.count in
     parents_staged c.args.self.now c.stage_parents.new.self c.args.inode.now (c.blocks-blocks.result - 1) c.requires.may c.stage_parents.ensures c.requires.staged (omega arith)
+
+pub stage_parents-requires-clause-room : goal.stage_parents-requires-clause-room
+stage_parents-requires-clause-room c = λ high. inr (omega (arith, c.requires.frames))
 
 pub shorten-requires : goal.shorten-requires
 shorten-requires c =

@@ -1,7 +1,7 @@
 use Rattle.std.proofs.Common.{sym, ap, ◌∙◌, subst, arith, ◌<◌}
 use Rattle.lfs_inodes.specs.Reading.{fields_of}
-use Rattle.lfs_ways.specs.Reading.{read}
-use Rattle.lfs_ways.specs.Ways.{data_way}
+use Rattle.lfs_bmap.specs.Reading.{read}
+use Rattle.lfs_bmap.specs.Ways.{data_way}
 use Rattle.lfs_staging.specs.View.{LiesIn, blocks_of, tree_of}
 use Rattle.lfs_staging.proofs.CutLemmas.{cut_one}
 use Rattle.lfs_staging.proofs.FileLemmas.{tree_from-of}

@@ -32,7 +32,6 @@ returns-clause-opening c = record {
       (subst (λ n. HasRootRow (length c.write_root.new.log.tables.live) n c.enter_root.new.log.tables) rows c.enter_root.ensures.entered)));
   cache = c.in_ok-over.ensures.cache;
   no_record = c.in_ok-over.ensures.no_record;
-  room = c.in_ok-over.ensures.room;
   clean = (let clean = ap (λ (l : LogParts). l.clean) c.in_ok-over.ensures.log ∙ c.enter_root.ensures.clean ∙ c.write_root.ensures.clean ∙ ap (λ (l : LogParts). l.clean) c.in_ok-log.ensures.fresh in
       let same = c.write_root.ensures.tables ∙ ap (λ (l : LogParts). l.tables) c.in_ok-log.ensures.fresh in
       let live = ap (λ (t : Tables). length t.live) same ∙ length-replicate c.args.segments 0 in
@@ -41,7 +40,7 @@ returns-clause-opening c = record {
 }
 
 pub returns-clause-content : goal.returns-clause-content
-returns-clause-content c = opening_shown c.args.segments c.args.inodes _ (returns-clause-opening c)
+returns-clause-content c = opening_shown c.args.segments c.args.inodes c.args.frames _ (returns-clause-opening c)
 
 pub returns-clause-store : goal.returns-clause-store
-returns-clause-store c = opening_store c.args.segments c.args.inodes _ (returns-clause-opening c) c.in_ok-over.ensures.formed
+returns-clause-store c = opening_store c.args.segments c.args.inodes c.args.frames _ (returns-clause-opening c) c.in_ok-over.ensures.formed

@@ -1,8 +1,10 @@
-use Rattle.std.proofs.Common.{◌≡◌, ◌∙◌, ap, length, refl, arith}
+use Rattle.std.proofs.Common.{◌≡◌, ◌∙◌, ap, inl, inr, length, refl, sym, arith}
 use Rattle.lfs_ifile.specs.declared.inode.InodeRow.{InodeRow}
 use Rattle.lfs_ifile.specs.Tables.{Tables, row_of}
+use Rattle.std.proofs.lemmas.Bool.{cases_eq}
 use Rattle.std.proofs.lemmas.List.{length-set}
-use Rattle.lfs_ways.specs.Counting.{placed}
+use Rattle.lfs_staging.specs.View.{version_of}
+use Rattle.lfs_bmap.specs.Counting.{placed}
 use Rattle.lfs_log.specs.Parts.{record_place}
 use Rattle.lfs_staging.specs.Keys.{log_state}
 use Rattle.lfs_staging.specs.Making.{Forgets, HasNoBlock}
@@ -18,7 +20,7 @@ no_block : (c : goal.After-release) → HasNoBlock c.args.self.now c.args.ino
 no_block c = empty_no_block c.args.self.now c.args.ino c.requires.staged c.requires.in_range c.requires.in_use c.requires.empty
 
 abbrev after : goal.After-release → Parts
-after c = record { log = c.release.new.self; cache = c.args.self.now.cache; waiting = c.drop_record.new.records }
+after c = record { log = c.release.new.self; cache = c.args.self.now.cache; waiting = c.remove.new.self }
 
 forgets : (c : goal.After-release) → Forgets c.args.ino c.args.self.now (after c)
 forgets c =
@@ -36,8 +38,7 @@ forgets c =
       unused = ap (λ (r : InodeRow). r.used) row;
       unplaced = ap (λ (r : InodeRow). r.address) row;
       cache = refl;
-      waiting = c.drop_record.ensures.items;
-      room = c.drop_record.ensures.capacity;
+      waiting = c.remove.ensures;
     }
 
 pub returns-clause-staged : goal.returns-clause-staged
@@ -52,6 +53,20 @@ returns-clause-staged c =
     nothing (last_others number p between c.release.new.self (no_block c) c.requires.staged c.requires.in_range none)
     (last_log number p between c.release.new.self (no_block c) c.requires.staged c.requires.in_range none
     (c.place_record.ensures.step (log_state p).at (place-record p number)) (c.release.ensures.step last (λ code below. nothing code)))
+
+pub returns-clause-versions : goal.returns-clause-versions
+returns-clause-versions c n =
+    let p = c.args.self.now in
+    let between = c.place_record.new.self in
+    let low = c.requires.in_range in
+    let many = c.place_record.ensures.inodes in
+    elim (cases_eq n c.args.ino) [
+      | inl e ↦
+          let row = released_at c.args.ino between c.release.new.self (omega arith) c.release.ensures.released in
+          ap (version_of (after c)) e ∙ ap (λ (r : InodeRow). r.version) row ∙ ap (λ (r : InodeRow). r.version) c.place_record.ensures.row
+          ∙ ap (version_of p) (sym e)
+      | inr ne ↦ ap (λ (r : InodeRow). r.version) ((forgets c).rows n ne)
+    ]
 
 pub returns-clause-content : goal.returns-clause-content
 returns-clause-content c =

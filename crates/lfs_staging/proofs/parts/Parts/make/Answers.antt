@@ -1,16 +1,16 @@
 use Rattle.std.proofs.Common.{◌∙◌, ap, subst, sym, arith}
 use Rattle.lfs_log.specs.Parts.{IsParts, LogParts}
 use Rattle.lfs_log.specs.Parts as log
-use Rattle.lfs_ways.specs.Log.{Renews}
+use Rattle.lfs_bmap.specs.Log.{Renews}
 use Rattle.lfs_staging.specs.Keys.{log_state}
 use Rattle.lfs_staging.specs.Making.{Makes}
-use Rattle.lfs_staging.proofs.NewFileLemmas.{made_content, made_log, made_staged, nothing_before, waiting_more}
+use Rattle.lfs_staging.proofs.NewFileLemmas.{made_content, made_log, made_staged, made_versions, nothing_before, waiting_more}
 use Rattle.lfs_staging.proofs.WaitingLemmas.{length-without}
 use Rattle.lfs_staging.proofs.parts.Parts.make.Goals as goal
 
 pub stage_record-requires-clause-room : goal.stage_record-requires-clause-room
 stage_record-requires-clause-room c =
-    let fewer = length-without c.args.self.now.waiting.items c.new.result.number in
+    let fewer = length-without c.args.self.now.waiting c.new.result.number in
     omega arith
 
 makes : (c : goal.After-stage_record) → Makes c.args.ino c.give_out-version.result c.args.attrs.now c.new.result c.args.self.now c.stage_record.new.self
@@ -21,7 +21,6 @@ makes c = record {
   parts = subst IsParts (sym c.stage_record.ensures.log) c.give_out-version.ensures.kept;
   cache = c.stage_record.ensures.cache;
   waiting = c.stage_record.ensures.waiting;
-  room = c.stage_record.ensures.room;
   here = c.stage_record.ensures.here;
   attributes = c.new.ensures.attributes;
   addresses = c.new.ensures.addresses;
@@ -38,6 +37,11 @@ returns-clause-staged c =
     c.requires.least c.requires.in_range c.requires.free c.requires.staged.whole c.requires.staged
     (subst (λ l. Renews (log.log_state old.log (log_state old).at) (log.log_state l (log_state old).at) c.args.ino) (sym c.stage_record.ensures.log) step)
     c.requires.records
+
+pub returns-clause-versions : goal.returns-clause-versions
+returns-clause-versions c =
+    made_versions c.args.ino c.give_out-version.result c.args.attrs.now c.new.result c.args.self.now c.stage_record.new.self (makes c)
+    c.requires.least c.requires.in_range c.requires.free c.requires.staged.whole c.give_out-version.ensures.version
 
 pub returns-clause-content : goal.returns-clause-content
 returns-clause-content c =

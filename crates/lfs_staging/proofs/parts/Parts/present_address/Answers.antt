@@ -1,7 +1,7 @@
 use Rattle.std.proofs.Common.{sym, ap, ◌∙◌}
 use Rattle.std.proofs.lemmas.Option.{none-some, same_Some}
-use Rattle.lfs_ways.specs.Blocks.{code_of, file_block_of}
-use Rattle.lfs_ways.specs.Moves.{present_address}
+use Rattle.lfs_bmap.specs.Blocks.{code_of, file_block_of}
+use Rattle.lfs_bmap.specs.Moves.{present_address}
 use Rattle.lfs_staging.specs.Keys.{log_state}
 use Rattle.lfs_staging.proofs.parts.Parts.present_address.Goals as goal
 

@@ -1,6 +1,6 @@
-use Rattle.std.proofs.Common.{◌≡◌, ◌⊎◌, ◌+◌, ◌<◌, ◌≤◌, length, ap, ◌∙◌, subst}
+use Rattle.std.proofs.Common.{◌≡◌, ◌⊎◌, ◌+◌, ◌<◌, ◌≤◌, length, ap, ◌∙◌, subst, arith}
 use Rattle.lfs_cache.specs.Contents.{Contents}
-use Rattle.lfs_ways.specs.Reading.{address}
+use Rattle.lfs_bmap.specs.Reading.{address}
 use Rattle.lfs_inodes.specs.Reading.{fields_of}
 use Rattle.lfs_staging.proofs.FileLemmas.{given_record}
 use Rattle.lfs_staging.specs.Putting.{blocks_of_put}
@@ -43,5 +43,10 @@ pub returns-clause-waiting : goal.returns-clause-waiting
 returns-clause-waiting c =
     let v = c.in-Some.inode in
     one_record c.args.self.now c.put_blocks.new.self v.number
-    (subst (λ n. without n c.put_blocks.new.self.waiting.items ≡ without n c.grow-inode.new.self.waiting.items) c.grow-inode.ensures.number c.put_blocks.ensures.waiting
+    (subst (λ n. without n c.put_blocks.new.self.waiting ≡ without n c.grow-inode.new.self.waiting) c.grow-inode.ensures.number c.put_blocks.ensures.waiting
     ∙ c.grow-inode.ensures.room)
+
+pub put_blocks-requires-clause-room : goal.put_blocks-requires-clause-room
+put_blocks-requires-clause-room c =
+    let same : length c.grow-inode.new.self.cache.locked ≡ length c.args.self.now.cache.locked = ap (λ (s : Contents). length s.locked) c.grow-inode.ensures.cache in
+    omega (arith, c.requires.room)

@@ -1,6 +1,6 @@
-use Rattle.std.proofs.Common.{◌/◌, subst, arith}
+use Rattle.std.proofs.Common.{◌/◌, length, subst, arith}
 use Rattle.lfs_staging.specs.Putting.{TakesBelow}
-use Rattle.lfs_staging.proofs.PuttingLemmas.{put_all, put_more, put_none, takes_more, takes_none}
+use Rattle.lfs_staging.proofs.PuttingLemmas.{put_all, put_more, put_none, takes_more, takes_none, takes_room}
 use Rattle.lfs_staging.proofs.parts.Parts.put_blocks.Goals as goal
 
 pub loop-index-init : goal.loop-index-init
@@ -11,7 +11,6 @@ loop-index-init c =
           (λ n touched. (c.blocks_touched-touched.ensures.touched n touched).0);
       takes = subst (λ first. TakesBelow c.args.inode.now.number first c.blocks_touched-touched.result.start c.args.self.now c.args.self.now) ends.0
           (takes_none c.args.self.now c.args.inode.now.number c.blocks_touched-touched.result.start);
-      frames = omega (arith, ends.0);
     }
 
 pub put_block-requires-clause-may : goal.put_block-requires-clause-may
@@ -20,10 +19,10 @@ put_block-requires-clause-may c = c.loop-index.invariant.puts.again
 pub put_block-requires-clause-room : goal.put_block-requires-clause-room
 put_block-requires-clause-room c =
     let ends = c.blocks_touched-touched.ensures.some (omega (arith, c.requires.some)) in
-    let frames = c.loop-index.invariant.frames in
     let low = c.loop-index-test.true in
     let from = c.loop-index.auto.index in
-    omega (arith, ends.0, ends.1, c.requires.room)
+    takes_room c.args.self.now c.loop-index.self c.args.inode.now.number c.args.off (length c.args.bytes.now) c.loop-index.index
+    (omega (arith, ends.0)) (omega (arith, ends.1)) c.requires.some c.requires.room c.loop-index.invariant.takes
 
 pub put_block-requires-clause-within : goal.put_block-requires-clause-within
 put_block-requires-clause-within c =
@@ -33,14 +32,11 @@ put_block-requires-clause-within c =
 
 pub loop-index-preserved : goal.loop-index-preserved
 loop-index-preserved c =
-    let frames = c.loop-index.invariant.frames in
-    let more = c.put_block.ensures.takes.most in
     record {
       puts = put_more c.args.self.now c.loop-index.self c.put_block.new.self c.args.inode.now c.args.off c.args.bytes.now c.loop-index.index
           c.loop-index.invariant.puts c.put_block.ensures;
       takes = takes_more c.args.self.now c.loop-index.self c.put_block.new.self c.args.inode.now.number (c.args.off / 512) c.loop-index.index
           c.loop-index.invariant.takes c.put_block.ensures.log c.put_block.ensures.takes;
-      frames = omega arith;
     }
 
 pub returns : goal.returns

@@ -1,4 +1,4 @@
-use Rattle.std.proofs.Common.{◌≤◌, ◌+◌, ◌*◌, ◌/◌, length}
+use Rattle.std.proofs.Common.{◌/◌}
 use Rattle.lfs_staging.specs.Putting.{PutsBelow, TakesBelow}
 use Rattle.lfs_staging.proofs.parts.Parts.put_blocks.Given as goal
 
@@ -6,5 +6,4 @@ abbrev pub invariant-loop-index : goal.invariant-loop-index
 invariant-loop-index l = record {
   puts : PutsBelow l.inode l.off l.bytes l.index l.fn.self l.self;
   takes : TakesBelow l.inode.number (l.off / 512) l.index l.fn.self l.self;
-  frames : length l.self.cache.locked + 2 * (l.off / 512) ≤ length l.fn.self.cache.locked + 2 * l.index;
 }

@@ -1,8 +1,8 @@
 use Rattle.std.proofs.Common.{◌≡◌, ◌<◌, ◌-◌, ◌∷◌, [], IsSome, refl, sym, ap, ◌∙◌, subst, arith}
 use Rattle.lfs_cache.specs.Contents.{block_in}
-use Rattle.lfs_ways.specs.Blocks.{IsFileBlock, way_to}
-use Rattle.lfs_ways.specs.declared.blocks.FileBlock.TheVariants.{Single}
-use Rattle.lfs_ways.proofs.WayLemmas.{data_way-direct, data_way-single}
+use Rattle.lfs_bmap.specs.Blocks.{IsFileBlock, way_to}
+use Rattle.lfs_bmap.specs.declared.blocks.FileBlock.TheVariants.{Single}
+use Rattle.lfs_bmap.proofs.WayLemmas.{data_way-direct, data_way-single}
 use Rattle.lfs_staging.specs.declared.parts.Parts.{Parts}
 use Rattle.lfs_staging.specs.Addressing.{Sets, SetsEntry}
 use Rattle.lfs_staging.specs.View.{key_of}
@@ -21,20 +21,20 @@ set_entry-requires-clause-waits c =
 
 pub returns-in-Single-clause-set : goal.returns-in-Single-clause-set
 returns-in-Single-clause-set c =
-    let q : Parts = record { log = c.args.self.now.log; cache = c.args.self.now.cache; waiting = c.replace.new.records } in
+    let q : Parts = record { log = c.args.self.now.log; cache = c.args.self.now.cache; waiting = c.replace.new.self } in
     at_way (λ i up. Sets c.args.self.now q c.args.inode.now i up c.args.address) (way_to c.args.block) 12 [] (ap way_to c.in-Single.is)
     (sets_record c.args.self.now q c.args.inode.now c.with_single.result c.requires.record refl c.with_single.ensures.attributes c.replace.ensures.record
     12 c.args.address refl c.with_single.ensures.addresses)
 
 pub returns-in-Single-clause-waiting : goal.returns-in-Single-clause-waiting
 returns-in-Single-clause-waiting c =
-    let q : Parts = record { log = c.args.self.now.log; cache = c.args.self.now.cache; waiting = c.replace.new.records } in
+    let q : Parts = record { log = c.args.self.now.log; cache = c.args.self.now.cache; waiting = c.replace.new.self } in
     stays_record c.args.self.now q c.args.inode.now c.with_single.result c.requires.record refl c.with_single.ensures.attributes c.replace.ensures.record
-    refl c.requires.cache c.requires.readable.none_clean c.requires.present c.replace.ensures.items c.replace.ensures.capacity
+    refl c.requires.cache c.requires.present c.replace.ensures.items
 
 pub returns-in-Data-clause-set : goal.returns-in-Data-clause-set
 returns-in-Data-clause-set c =
-    let q : Parts = record { log = c.args.self.now.log; cache = c.args.self.now.cache; waiting = c.replace-in-Data.new.records } in
+    let q : Parts = record { log = c.args.self.now.log; cache = c.args.self.now.cache; waiting = c.replace-in-Data.new.self } in
     at_way (λ i up. Sets c.args.self.now q c.args.inode.now i up c.args.address) (way_to c.args.block) c.in-Data.index []
     (ap way_to c.in-Data.is ∙ data_way-direct c.in-Data.index c.if-index-lt-DIRECT_BLOCKS.true)
     (sets_record c.args.self.now q c.args.inode.now c.with_direct.result c.requires.record refl c.with_direct.ensures.attributes c.replace-in-Data.ensures.record
@@ -42,9 +42,9 @@ returns-in-Data-clause-set c =
 
 pub returns-in-Data-clause-waiting : goal.returns-in-Data-clause-waiting
 returns-in-Data-clause-waiting c =
-    let q : Parts = record { log = c.args.self.now.log; cache = c.args.self.now.cache; waiting = c.replace-in-Data.new.records } in
+    let q : Parts = record { log = c.args.self.now.log; cache = c.args.self.now.cache; waiting = c.replace-in-Data.new.self } in
     stays_record c.args.self.now q c.args.inode.now c.with_direct.result c.requires.record refl c.with_direct.ensures.attributes c.replace-in-Data.ensures.record
-    refl c.requires.cache c.requires.readable.none_clean c.requires.present c.replace-in-Data.ensures.items c.replace-in-Data.ensures.capacity
+    refl c.requires.cache c.requires.present c.replace-in-Data.ensures.items
 
 pub returns-in-Data-2-clause-set : goal.returns-in-Data-2-clause-set
 returns-in-Data-2-clause-set c =
@@ -76,4 +76,4 @@ returns-in-Data-2-clause-waiting c =
     let set = subst (λ k. SetsEntry p.cache q.cache k (c.in-Data-2.index - 12) c.args.address here.0) key
     (c.set_entry.ensures here.0 (ap (λ k. block_in k p.cache.locked) key ∙ here.1)) in
     stays_entry p q v (c.in-Data-2.index - 12) c.args.address here.0 c.requires.record refl refl here.1 set
-    c.requires.readable.none_clean c.requires.present refl
+    c.requires.present

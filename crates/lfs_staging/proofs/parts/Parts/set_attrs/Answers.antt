@@ -29,7 +29,7 @@ stage_record-requires-clause-room c =
     let has = given_record p c.args.ino c.record.result v c.record.ensures c.in-Some.is in
     let own : c.with_attrs-changed.result.number ≡ c.args.ino
     = ap (λ (a : Attributes). a.number) c.with_attrs-changed.ensures.attributes ∙ (c.requires.may.files.files c.args.ino (fields_of v) has).own_number in
-    subst (λ n. length (without n p.waiting.items) < 64) (sym own) c.requires.may.records
+    subst (λ n. length (without n p.waiting) < 64) (sym own) c.requires.may.records
 
 pub returns-clause-content : goal.returns-clause-content
 returns-clause-content c =

@@ -32,7 +32,7 @@ stage_record-requires-clause-room c =
     let p = c.args.self.now in let v = c.in-Some.inode in
     let may = may_from p v c.args.ino (staged_change p c.args.ino 0 c.requires.staged c.requires.in_range c.requires.in_use c.requires.records)
     (given_record p c.args.ino c.record.result v c.record.ensures c.in-Some.is) in
-    subst (λ (a : Attributes). length (without a.number p.waiting.items) < 64) (sym c.grown.ensures.attributes) may.records
+    subst (λ (a : Attributes). length (without a.number p.waiting) < 64) (sym c.grown.ensures.attributes) may.records
 
 pub returns-then-len-inode-clause-content : goal.returns-then-len-inode-clause-content
 returns-then-len-inode-clause-content c =
@@ -96,7 +96,7 @@ returns-then-len-inode-clause-others c =
     let p = c.args.self.now in let v = c.in-Some.inode in
     let has = given_record p c.args.ino c.record.result v c.record.ensures c.in-Some.is in
     let own = (c.requires.staged.whole.files c.args.ino (fields_of v) has).own_number in
-    let less = length-less c.cut.new.self.waiting.items c.args.ino (subst (λ n. IsSome (waiting_in c.cut.new.self.waiting.items n)) own c.cut.ensures.waits) in
+    let less = length-less c.cut.new.self.waiting c.args.ino (subst (λ n. IsSome (waiting_in c.cut.new.self.waiting n)) own c.cut.ensures.waits) in
     let more = c.cut.ensures.waiting in
     omega arith
 
@@ -107,6 +107,6 @@ returns-else-len-inode-clause-others c =
     let own = (c.requires.staged.whole.files c.args.ino (fields_of v) has).own_number in
     let may = may_from p v c.args.ino (staged_change p c.args.ino 0 c.requires.staged c.requires.in_range c.requires.in_use c.requires.records) has in
     let h = grown_length p c.stage_record.new.self v c.grown.result c.args.len may c.stage_record.ensures c.grown.ensures.attributes c.grown.ensures.addresses (omega arith) in
-    let same = ap (λ (vs : List Inode). length vs) (subst (λ n. without n c.stage_record.new.self.waiting.items ≡ without n p.waiting.items) own h.room) in
-    let fewer = length-without p.waiting.items c.args.ino in
+    let same = ap (λ (vs : List Inode). length vs) (subst (λ n. without n c.stage_record.new.self.waiting ≡ without n p.waiting) own h.room) in
+    let fewer = length-without p.waiting c.args.ino in
     omega arith

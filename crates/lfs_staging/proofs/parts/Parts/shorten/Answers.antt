@@ -27,24 +27,24 @@ cut-requires-clause-sized c =
 pub stage_record-requires-clause-in_use : goal.stage_record-requires-clause-in_use
 stage_record-requires-clause-in_use c =
     let p = c.args.self.now in
-    let same = waiting_number p.waiting.items c.args.ino c.in-Some.inode (sym c.waiting.ensures ∙ c.in-Some.is) in
+    let same = waiting_number p.waiting c.args.ino c.in-Some.inode (sym c.waiting.ensures ∙ c.in-Some.is) in
     ap (λ n. (row_of p.log.tables n).used) (ap (λ (a : Attributes). a.number) c.cut.ensures.attributes ∙ same) ∙ c.requires.in_use
 
 pub stage_record-requires-clause-room : goal.stage_record-requires-clause-room
 stage_record-requires-clause-room c =
     let p = c.args.self.now in
-    let same = waiting_number p.waiting.items c.args.ino c.in-Some.inode (sym c.waiting.ensures ∙ c.in-Some.is) in
-    let less = length-less p.waiting.items c.args.ino c.requires.waits in
+    let same = waiting_number p.waiting c.args.ino c.in-Some.inode (sym c.waiting.ensures ∙ c.in-Some.is) in
+    let less = length-less p.waiting c.args.ino c.requires.waits in
     let few = c.requires.staged.few in
     let own : c.cut.result.number ≡ c.args.ino = ap (λ (a : Attributes). a.number) c.cut.ensures.attributes ∙ same in
-    subst (λ n. length (without n p.waiting.items) < 64) (sym own) (omega arith)
+    subst (λ n. length (without n p.waiting) < 64) (sym own) (omega arith)
 
 pub returns : goal.returns
 returns c =
     let p = c.args.self.now in
     let v = c.in-Some.inode in
     let waits = sym c.waiting.ensures ∙ c.in-Some.is in
-    let same = waiting_number p.waiting.items c.args.ino v waits in
+    let same = waiting_number p.waiting c.args.ino v waits in
     let may = subst (λ n. MayShorten p n c.args.len) (sym same) c.requires in
     let has : record_of p v.number ≡ Some (fields_of v) = ap (record_of p) same ∙ record_of-waiting p c.args.ino _ v (cond-true _ _ _ c.requires.in_use) waits in
     let roots : addresses c.cut.result ≡ addresses v = c.cut.ensures.addresses ∙ cut_addresses p v (block_count c.args.len) has may.gone may.single in

@@ -1,7 +1,7 @@
-use Rattle.std.proofs.Common.{◌∷◌, [], sym, ap, ◌∙◌, subst}
+use Rattle.std.proofs.Common.{◌∷◌, [], sym, ap, ◌∙◌, subst, inl, inr}
 use Rattle.lfs_inodes.specs.Reading.{fields_of}
-use Rattle.lfs_ways.specs.declared.blocks.FileBlock.TheVariants.{Single}
-use Rattle.lfs_ways.specs.Reading.{read}
+use Rattle.lfs_bmap.specs.declared.blocks.FileBlock.TheVariants.{Single}
+use Rattle.lfs_bmap.specs.Reading.{read}
 use Rattle.lfs_staging.specs.Staging.{StagesBlock}
 use Rattle.lfs_cache.specs.Contents.{IsLocked}
 use Rattle.lfs_staging.specs.View.{LiesIn, blocks_of, key_of}
@@ -21,7 +21,7 @@ returns-then-waits_single c =
     let p = c.args.self.now in
     let v = c.args.inode.now in
     let own = (c.requires.files.files v.number (fields_of v) c.requires.here).own_version in
-    single_staged p v.number c.requires.files.cache c.requires.files.readable.none_clean
+    single_staged p v.number c.requires.files.cache
     (subst (λ version. IsLocked (key_of v.number version 1) p.cache) own (c.waits_single.ensures.0 c.if-waits_single.true))
 
 pub stage_block-requires-clause-version : goal.stage_block-requires-clause-version
@@ -34,3 +34,13 @@ returns c =
     let v = c.args.inode.now in
     let same = tree_from-of p v.number v c.requires.here (c.requires.files.files v.number (fields_of v) c.requires.here) in
     subst (λ bytes. StagesBlock v.number Single bytes p c.stage_block.new.self) (c.block_of.ensures ∙ ap (λ t. read t (12 ∷ [])) same) c.stage_block.ensures
+
+pub stage_block-requires-clause-room : goal.stage_block-requires-clause-room
+stage_block-requires-clause-room c =
+    let p = c.args.self.now in
+    let v = c.args.inode.now in
+    let own = (c.requires.files.files v.number (fields_of v) c.requires.here).own_version in
+    elim c.requires.room [
+      | inl locked ↦ inl (subst (λ version. IsLocked (key_of v.number version 1) p.cache) (sym own) locked)
+      | inr few ↦ inr few
+    ]

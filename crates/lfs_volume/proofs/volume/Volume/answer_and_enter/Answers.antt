@@ -1,4 +1,4 @@
-use Rattle.std.proofs.Common.{rules, ◌<◌, length, sym, subst, arith}
+use Rattle.std.proofs.Common.{rules, ◌-◌, ◌^◌, ◌<◌, length, sym, subst, arith}
 use Rattle.lfs_types.specs.StoreStates.{StoreState}
 use Rattle.lfs_types.specs.Tree.{World}
 use Rattle.lfs_types.specs.declared.answer.Answer.TheVariants.{Refused}
@@ -30,17 +30,17 @@ answer_twice-answers-requires g c =
 pub returns-in_default-clause-legal : goal.returns-in_default-clause-legal
 returns-in_default-clause-legal g c =
     let k = (goal.at.returns-in_default-clause-legal g c).After-answer_twice-answers in
-    let a = c.in_default.ensures in
+    let a = c.in_default.ensures.answered in
     IsJournal-same (before g k) (after g k) c.self.inside.level c.answer_twice-answers.new.level c.self.inside.journal.items c.self.inside.limit c.self.invariant.0 (a.unserved tt) a.follows
 
 pub invariant_of-self : goal.invariant_of-self
-invariant_of-self g c = (returns-in_default-clause-legal g c, c.self.invariant.1)
+invariant_of-self g c = (returns-in_default-clause-legal g c, c.self.invariant.1, c.self.invariant.2)
 
 pub returns-in_default-clause-outcome : goal.returns-in_default-clause-outcome
 returns-in_default-clause-outcome g c =
     let k = (goal.at.returns-in_default-clause-outcome g c).After-answer_twice-answers in
     let j = c.self.invariant.0 in
-    let a = c.in_default.ensures in
+    let a = c.in_default.ensures.answered in
     subst (λ v. IsOutcome (g.F.FileStore.state v.store) (world_of (g.F.FileStore.state v.store).shape.numbers v.journal) c.args.cred.now c.args.request (Refused NoMemory)) c.self.view_is
     (a.outcome (world g k) j.shown j.at_level)
 
@@ -49,23 +49,27 @@ returns-clause-outcome g c =
     let k = (goal.at.returns-clause-outcome g c).After-answer_twice-answers in
     let j = c.self.invariant.0 in
     subst (λ v. IsOutcome (g.F.FileStore.state v.store) (world_of (g.F.FileStore.state v.store).shape.numbers v.journal) c.args.cred.now c.args.request c.in-Some.answer) c.self.view_is
-    (c.in-Some.ensures.2.outcome (world g k) j.shown j.at_level)
+    (c.in-Some.ensures.answered.2.outcome (world g k) j.shown j.at_level)
 
 pub returns-clause-legal : goal.returns-clause-legal
 returns-clause-legal g c =
     let k = (goal.at.returns-clause-legal g c).After-answer_twice-answers in
-    let twice = c.in-Some.ensures in
+    let twice = c.in-Some.ensures.answered in
     let step = IsStep-answered (before g k) (after g k) c.self.inside.level c.answer_twice-answers.new.level c.self.inside.journal.items c.self.inside.limit c.args.cred.now c.args.request c.in-Some.answer
     c.self.invariant.0 twice.2 twice.1 in
     c.enter.ensures.legal (before g k) (after g k) c.self.inside.level c.answer_twice-answers.new.level c.self.inside.limit c.self.invariant.0
-    (subst (λ v. length v.journal < v.limit) (sym c.self.view_is) c.requires)
+    (subst (λ v. length v.journal < v.limit) (sym c.self.view_is) c.requires.room)
     (subst (λ a. IsStep (before g k) (after g k) c.answer_twice-answers.new.level (world g k) c.args.cred.now (User c.args.request a)) (sym twice.0) step)
 
 pub invariant_of-self-2 : goal.invariant_of-self-2
-invariant_of-self-2 g c = (returns-clause-legal g c, omega (arith, c.self.invariant.1, c.enter.ensures.room))
+invariant_of-self-2 g c = (returns-clause-legal g c, omega (arith, c.self.invariant.1, c.enter.ensures.room), c.enter.ensures.counted)
 
 pub enter-requires : goal.enter-requires
-enter-requires g c = search rules
+enter-requires g c = record {
+  room = omega (arith, subst (λ v. length v.journal < v.limit) (sym c.self.view_is) c.requires.room, c.self.invariant.1, c.self.inside.journal.ok.0);
+  few = subst (λ v. length v.journal < 2 ^ 32 - 1) (sym c.self.view_is) c.requires.few;
+  counted = c.self.invariant.2;
+}
 
 pub returns-clause-entered : goal.returns-clause-entered
 returns-clause-entered g c = search rules

@@ -1,9 +1,15 @@
-use Rattle.std.proofs.Common.{rules, ◌<◌, length, subst, arith}
+use Rattle.std.proofs.Common.{rules, ◌-◌, ◌^◌, ◌<◌, length, subst, arith}
 use Rattle.lfs_volume.proofs.volume.Volume.call.Goals as goal
 
+-- the limit fits 32 bits
+few : (g : _) (c : goal.After-answer_and_enter-arg-1 g) → length c.self.inside.journal.items < 2 ^ 32 - 1
+few g c = search rules
+
 pub answer_and_enter-requires : goal.answer_and_enter-requires
-answer_and_enter-requires g c =
-    subst (λ v. length v.journal < v.limit) c.self.view_is (omega (arith, c.if-len-self.false, c.len.ensures, c.self.inside.journal.ok.0))
+answer_and_enter-requires g c = record {
+  room = subst (λ v. length v.journal < v.limit) c.self.view_is (omega (arith, c.if-len-self.false, c.len.ensures, c.self.inside.journal.ok.0));
+  few = subst (λ v. length v.journal < 2 ^ 32 - 1) c.self.view_is (few g c);
+}
 
 pub returns-then-len-self-clause-full : goal.returns-then-len-self-clause-full
 returns-then-len-self-clause-full g c = search rules
@@ -25,6 +31,9 @@ returns-then-len-self-clause-legal g c = search rules
 
 pub returns-then-len-self-clause-unserved : goal.returns-then-len-self-clause-unserved
 returns-then-len-self-clause-unserved g c = search rules
+
+pub returns-then-len-self-clause-synced : goal.returns-then-len-self-clause-synced
+returns-then-len-self-clause-synced g c = search rules
 
 pub returns-then-len-self-clause-limit : goal.returns-then-len-self-clause-limit
 returns-then-len-self-clause-limit g c = search rules
@@ -52,6 +61,9 @@ returns-clause-legal g c = search rules
 
 pub returns-clause-unserved : goal.returns-clause-unserved
 returns-clause-unserved g c = search rules
+
+pub returns-clause-synced : goal.returns-clause-synced
+returns-clause-synced g c = search rules
 
 pub returns-clause-limit : goal.returns-clause-limit
 returns-clause-limit g c = search rules

@@ -23,13 +23,13 @@ longer g c =
     (sym c.of-kind.ensures) step)
 
 pub invariant_of-self-2 : goal.invariant_of-self-2
-invariant_of-self-2 g c = (longer g c, omega (arith, c.self.invariant.1, c.enter.ensures.room))
+invariant_of-self-2 g c = (longer g c, omega (arith, c.self.invariant.1, c.enter.ensures.room), c.enter.ensures.counted)
 
 pub returns-clause-legal : goal.returns-clause-legal
 returns-clause-legal g c = longer g c
 
 pub invariant_of-self : goal.invariant_of-self
-invariant_of-self g c = search rules
+invariant_of-self g c = (search rules, c.self.invariant.1, c.self.invariant.2)
 
 pub returns-then-len-self-clause-at_limit : goal.returns-then-len-self-clause-at_limit
 returns-then-len-self-clause-at_limit g c = search rules

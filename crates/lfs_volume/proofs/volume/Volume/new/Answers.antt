@@ -1,4 +1,5 @@
-use Rattle.std.proofs.Common.{rules, sym, subst, arith}
+use Rattle.std.proofs.Common.{rules, ap, sym, subst, ◌∙◌, arith}
+use Rattle.lfs_model.specs.Counts.{counts_of}
 use Rattle.lfs_types.specs.declared.level.Level.TheVariants.{Insecure}
 use Rattle.lfs_volume.specs.Journals.{IsJournal}
 use Rattle.lfs_volume.proofs.JournalLemmas.{opening_journal}
@@ -9,6 +10,7 @@ invariant_of-result g c = (
   subst (λ es. IsJournal (g.F.FileStore.state c.args.store) Insecure es c.args.journal_limit) (sym c.in_ok-journal.ensures.items)
       (opening_journal (g.F.FileStore.state c.args.store) c.args.journal_limit c.requires),
   omega (arith, c.in_ok-journal.ensures.exact),
+  c.none.ensures ∙ ap counts_of (sym c.in_ok-journal.ensures.items),
 )
 
 pub returns : goal.returns

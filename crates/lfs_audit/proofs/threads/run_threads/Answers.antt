@@ -1,0 +1,26 @@
+use Rattle.std.proofs.Common.{arith}
+use Rattle.std.proofs.lemmas.List.{length-map}
+use Rattle.std.specs.Global.{Vec}
+use Rattle.lfs_types.specs.declared.answer.Answer.{Answer}
+use Rattle.lfs_logstore.specs.States.{state_of}
+use Rattle.lfs_settle.specs.Interleaving.{run_of}
+use Rattle.lfs_audit.proofs.ThreadLemmas.{late_threads, ok_further, threads_run, transcripts_few}
+use Rattle.lfs_audit.proofs.threads.run_threads.Goals as goal
+
+pub print_closed-requires : goal.print_closed-requires
+print_closed-requires g c =
+    let closed = c.in_ok-closed.closed in
+    let scripts = c.in_ok-setup.sessions in
+    let few = transcripts_few (run_of closed.volume.journal closed.volume.limit c.in_ok-setup.setup closed.setup.items scripts.items closed.transcripts.items) c.in_ok-closed.ensures.settled in
+    let lists = length-map closed.transcripts.items (λ (t : Vec Answer). t.items) in
+    omega (arith, few, lists, c.in_ok-closed.ensures.sessions.1, scripts.ok.0)
+
+pub returns-clause-written : goal.returns-clause-written
+returns-clause-written g c =
+    let closed = c.in_ok-closed.closed in
+    ok_further _ _ c.print_closed.result c.print_closed.ensures.written (λ written.
+    threads_run (g.R.Read.remaining c.args.reader.now) (state_of closed.volume.store).shape closed.volume.journal c.args.params.journal closed.volume.limit c.in_ok-setup.setup c.in_ok-setup.sessions.items
+    closed.setup.items closed.transcripts.items _ _ c.in_ok-setup.ensures c.in_ok-closed.ensures.settled c.in_ok-closed.ensures.limit written)
+
+pub returns-clause-unwritten : goal.returns-clause-unwritten
+returns-clause-unwritten g c = late_threads _ c.print_closed.result c.print_closed.ensures.fault

@@ -1,0 +1,108 @@
+//! The blocks of a file, their codes, and where the address of each one stands.
+
+ghost use Rattle.std.specs.Prelude.{◌≡◌, ◌∷◌, ◌<◌, IfSome, MatchOption, []};
+ghost use Rattle.lfs_bmap.specs.Blocks.{IsFileBlock, code_of, logical_of, file_block_of, way_to};
+
+use lfs_inodes::inode::DIRECT_COUNT;
+use lfs_segments::entry::LogicalBlock;
+use lfs_types::limits::FILE_BLOCKS;
+
+/// The number of data blocks whose addresses stand in the inode record, as the code of a block counts them.
+pub const DIRECT_BLOCKS: u32 = DIRECT_COUNT as u32;
+
+/// The place among the addresses of a record where that of the single indirect block stands.
+pub const SINGLE_PLACE: u32 = 12;
+
+/// The code of a file's first data block (this project's profile). Codes 2 to 130 are kept for the
+/// double indirect block and its 128 children.
+pub const FIRST_DATA_CODE: u32 = 131;
+
+/// The number of codes of a file's blocks.
+pub const BLOCK_CODES: u32 = FIRST_DATA_CODE + FILE_BLOCKS;
+
+/// A block of a file.
+#[derive(Clone, Copy, PartialEq, Eq, Debug)]
+pub enum FileBlock {
+    /// The inode record, which is a quarter of a block.
+    Record,
+    /// The single indirect block.
+    Single,
+    /// A data block, by its index from 0 to 139.
+    Data(u32),
+}
+
+/// Where the address of a block stands.
+#[derive(Clone, Copy, PartialEq, Eq, Debug)]
+pub struct Cell {
+    /// The block that holds the address.
+    pub table: FileBlock,
+    /// The place of the address among those that this block holds, from 0.
+    pub index: u32,
+}
+
+impl FileBlock {
+    /// The block's code: 0 the record, 1 the single indirect block, 131 + n data block n.
+    pub fn code(self) -> u32
+        requires { IsFileBlock self }
+        ensures { result ≡ code_of self }
+    {
+        match self {
+            FileBlock::Record => 0,
+            FileBlock::Single => 1,
+            FileBlock::Data(index) => FIRST_DATA_CODE + index,
+        }
+    }
+
+    /// The block of a code, or None where no block has that code.
+    pub fn from_code(code: u32) -> Option<FileBlock>
+        ensures found { IfSome result (λ block. IsFileBlock block × (code_of block ≡ code)) }
+        ensures only { (block : FileBlock) → IsFileBlock block → code_of block ≡ code
+            → result ≡ Some block }
+    {
+        match code {
+            0 => Some(FileBlock::Record),
+            1 => Some(FileBlock::Single),
+            code if code >= FIRST_DATA_CODE && code < BLOCK_CODES => {
+                Some(FileBlock::Data(code - FIRST_DATA_CODE))
+            }
+            _ => None,
+        }
+    }
+
+    /// What names the block in a summary: an inode block for the record.
+    pub fn logical(self) -> LogicalBlock
+        ensures { result ≡ logical_of self }
+    {
+        match self {
+            FileBlock::Record => LogicalBlock::Inodes,
+            FileBlock::Single => LogicalBlock::Single,
+            FileBlock::Data(index) => LogicalBlock::Data(index),
+        }
+    }
+
+    /// The block of a file that an entry names, the record for an inode block.
+    pub fn from_logical(block: LogicalBlock) -> FileBlock
+        ensures { result ≡ file_block_of block }
+    {
+        match block {
+            LogicalBlock::Inodes => FileBlock::Record,
+            LogicalBlock::Single => FileBlock::Single,
+            LogicalBlock::Data(index) => FileBlock::Data(index),
+        }
+    }
+
+    /// Where the block's address stands; None for the record, whose place is in the inode map.
+    pub fn cell(self) -> Option<Cell>
+        requires { IsFileBlock self }
+        ensures { MatchOption result (way_to self ≡ [])
+            (λ cell. way_to self ≡ cell.index ∷ way_to cell.table) }
+    {
+        let (table, index) = match self {
+            FileBlock::Record => return None,
+            FileBlock::Single => (FileBlock::Record, SINGLE_PLACE),
+            FileBlock::Data(index) if index < DIRECT_BLOCKS => (FileBlock::Record, index),
+            FileBlock::Data(index) => (FileBlock::Single, index - DIRECT_BLOCKS),
+        };
+        Some(Cell { table, index })
+    }
+}

@@ -1,0 +1,39 @@
+use Rattle.std.proofs.Common.{Err, sym, ap, subst, ◌∙◌}
+use Rattle.std.proofs.lemmas.Result.{err_from_is_err_and}
+use Rattle.lfs_types.specs.StoreStates.{StoreState}
+use Rattle.lfs_types.specs.Stored.{MayRefuse}
+use Rattle.lfs_calls.specs.Makes.{IsBlockOf}
+use Rattle.lfs_calls.specs.Renames.{HasNoRoom, MovesTo, PutsRow}
+use Rattle.lfs_calls.proofs.PlacedBlocks.{new_block, old_block}
+use Rattle.lfs_calls.proofs.MovedPlaces.{somewhere}
+use Rattle.lfs_calls.proofs.RenameOutcomes.{refused_for}
+use Rattle.lfs_calls.proofs.StateLemmas.{follows_same, same_content}
+use Rattle.lfs_calls.proofs.renaming.move_free.Goals as goal
+
+pub put_blocks-requires-clause-old : goal.put_blocks-requires-clause-old
+put_blocks-requires-clause-old g c =
+    let t = c.requires.goes in
+    subst (λ x. IsBlockOf x c.args.planned.now.removal.dir.number c.in-Some.places.taken) (sym (same_content c.find_places.ensures.state))
+    (old_block t.1.0.shows t.1.0.tree t.1.1.leaves c.in-Some.ensures.places.taking.1)
+
+pub put_blocks-requires-clause-new : goal.put_blocks-requires-clause-new
+put_blocks-requires-clause-new g c =
+    let t = c.requires.goes in
+    subst (λ x. IsBlockOf x c.args.planned.now.dir.number c.in-Some.places.room) (sym (same_content c.find_places.ensures.state))
+    (new_block t.1.0.shows t.1.0.tree t.1.1.leaves c.in-Some.ensures.places.taking.1 c.in-Some.ensures.places.room.1)
+
+pub returns-in_err-put_blocks : goal.returns-in_err-put_blocks
+returns-in_err-put_blocks g c =
+    let t = c.requires.goes in
+    let p = err_from_is_err_and c.from_residual.result c.from_residual.ensures.1 in
+    let s = g.F.FileStore.state c.args.store.now in
+    let full = HasNoRoom s.content c.args.planned.now c.args.old.now c.args.new.now in
+    subst (λ r. PutsRow s full (λ after. MovesTo s.content after c.args.planned.now c.args.old.now c.args.new.now) r (g.F.FileStore.state c.put_blocks.new.store)) (sym (p.1 ∙ ap Err p.2))
+    (record {
+      ok = tt;
+      err = c.in_err-put_blocks.ensures.err ∙ same_content c.find_places.ensures.state;
+      refused = refused_for s full c.in_err-put_blocks.field-0.0
+          (subst (λ (x : StoreState). MayRefuse x.clean x.shape.can_lack_memory c.in_err-put_blocks.field-0.0) c.find_places.ensures.state c.in_err-put_blocks.ensures.refused)
+          (somewhere t.1.0.shows t.1.0.tree t.1.1.leaves c.in-Some.ensures.places.taking.1 c.in-Some.ensures.places.room.1);
+      follows = follows_same c.find_places.ensures.state c.in_err-put_blocks.ensures.follows;
+    })

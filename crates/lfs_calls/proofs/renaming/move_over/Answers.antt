@@ -1,0 +1,26 @@
+use Rattle.std.proofs.Common.{sym, subst}
+use Rattle.std.specs.Prelude.{IsSome}
+use Rattle.std.specs.FinMap.{get}
+use Rattle.lfs_calls.specs.Makes.{IsBlockOf}
+use Rattle.lfs_calls.proofs.PlacedBlocks.{old_block, swap_block}
+use Rattle.lfs_calls.proofs.StateLemmas.{same_content}
+use Rattle.lfs_calls.proofs.StepLemmas.{child-stored}
+use Rattle.lfs_calls.proofs.renaming.move_over.Goals as goal
+
+pub put_swapped-requires-clause-old : goal.put_swapped-requires-clause-old
+put_swapped-requires-clause-old g c =
+    let t = c.requires.goes in
+    subst (λ x. IsBlockOf x c.args.planned.now.removal.dir.number c.find_swap.result.taken) (sym (same_content c.find_swap.ensures.state))
+    (old_block t.1.0.shows t.1.0.tree t.1.1.leaves c.find_swap.ensures.places.taking.1)
+
+pub put_swapped-requires-clause-new : goal.put_swapped-requires-clause-new
+put_swapped-requires-clause-new g c =
+    let t = c.requires.goes in
+    subst (λ x. IsBlockOf x c.args.planned.now.dir.number c.find_swap.result.room) (sym (same_content c.find_swap.ensures.state))
+    (swap_block t.1.0.shows t.1.0.tree t.1.1.leaves c.find_swap.ensures.places.taking.1 c.find_swap.ensures.places.swap.1)
+
+pub put_swapped-requires-clause-used : goal.put_swapped-requires-clause-used
+put_swapped-requires-clause-used g c =
+    let t = c.requires.goes in
+    subst (λ x. IsSome (get x c.args.there)) (sym (same_content c.find_swap.ensures.state))
+    (child-stored (g.F.FileStore.state c.args.store.now).content t.0 t.1.0.shows c.args.planned.now.dir.number c.args.new.now c.args.there t.1.1.taken)

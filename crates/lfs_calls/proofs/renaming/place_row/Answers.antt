@@ -1,0 +1,13 @@
+use Rattle.std.proofs.Common.{subst}
+use Rattle.lfs_calls.specs.Renames.{GoesWith}
+use Rattle.lfs_calls.proofs.renaming.place_row.Goals as goal
+
+pub move_free-requires : goal.move_free-requires
+move_free-requires g c =
+    let t = c.requires.goes in
+    record { goes = (t.0, (t.1.0, subst (GoesWith (g.F.FileStore.state c.args.store.now).content t.0.rows c.args.planned.now c.args.old.now c.args.new.now) c.in-Free.is t.1.1)) }
+
+pub move_over-requires : goal.move_over-requires
+move_over-requires g c =
+    let t = c.requires.goes in
+    record { goes = (t.0, (t.1.0, subst (GoesWith (g.F.FileStore.state c.args.store.now).content t.0.rows c.args.planned.now c.args.old.now c.args.new.now) c.in-Taken.is t.1.1)) }

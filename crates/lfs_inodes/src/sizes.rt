@@ -1,0 +1,12 @@
+//! The sizes of the profile as numbers.
+
+ghost use Rattle.std.specs.Prelude.{◌≡◌};
+ghost use Rattle.lfs_inodes.specs.declared.inode.TheConstants.{ADDRESS_LIMIT, DIRECT_COUNT};
+ghost use Rattle.lfs_inodes.specs.declared.record.TheConstants.{RECORD_SIZE};
+
+/// The constants that contracts cite by name are these numbers: a law, which does nothing.
+pub fn sizes()
+    ensures direct { DIRECT_COUNT ≡ 12 }
+    ensures addresses { ADDRESS_LIMIT ≡ 65536 }
+    ensures record { RECORD_SIZE ≡ 128 }
+{}

@@ -1,8 +1,0 @@
-use Rattle.std.proofs.Common.{◌≡◌, ◌++◌, map, take}
-use Rattle.std.specs.List.{filter}
-use Rattle.lfs_landing.specs.Collecting.{entry_of, is_of}
-use Rattle.lfs_landing.proofs.collecting.EntryList.push_keys.Given as goal
-
--- the entries of the keys so far
-abbrev pub invariant-loop-key : goal.invariant-loop-key
-invariant-loop-key l = l.self ≡ l.initial.self ++ map entry_of (filter (is_of l.of_data) (take l.key-index l.keys))

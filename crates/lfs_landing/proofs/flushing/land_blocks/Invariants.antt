@@ -1,5 +1,0 @@
-use Rattle.lfs_landing.proofs.FlushLemmas.{LandsKeys}
-use Rattle.lfs_landing.proofs.flushing.land_blocks.Given as goal
-
-abbrev pub invariant-loop-entry : goal.invariant-loop-entry
-invariant-loop-entry l = LandsKeys l.fn.parts l.parts l.entry-index

@@ -1,7 +1,0 @@
-use Rattle.std.proofs.Common.{◌≤◌, length, take}
-use Rattle.lfs_staging.specs.Keys.{log_state}
-use Rattle.lfs_landing.specs.Marking.{AreNamed}
-use Rattle.lfs_landing.proofs.marking.named.Given as goal
-
-abbrev pub invariant-loop-info : goal.invariant-loop-info
-invariant-loop-info l = AreNamed (log_state l.parts) (take l.info-index l.marks) l.named × (length l.named ≤ l.info-index)

@@ -1,5 +1,0 @@
-use Rattle.std.proofs.Common.{rules}
-use Rattle.lfs_logstore.proofs.files.LogStoreFileStore.sync.Goals as goal
-
-pub returns-clause-applies : goal.returns-clause-applies
-returns-clause-applies c = search rules

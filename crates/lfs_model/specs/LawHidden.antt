@@ -1,0 +1,124 @@
+-- A closed door hides: what stands beneath a directory that doesn't grant a caller search makes no difference to his calls.
+use Rattle.std.specs.Prelude.{◌≡◌, ◌≢◌, ◌⊎◌, ◌↔◌, ℕ, suc, is_some, true, false, List, [], ◌∷◌, None, Some}
+use Rattle.std.specs.FinMap as map
+use Rattle.lfs_types.specs.Caller.{Caller}
+use Rattle.lfs_types.specs.Tree.{Row, World, root, attrs_of}
+use Rattle.lfs_types.specs.declared.answer.Answer.{Answer}
+use Rattle.lfs_types.specs.declared.answer.Answer.TheVariants.{Served, Denied, Refused}
+use Rattle.lfs_types.specs.declared.attrs.Bit.TheVariants as bits
+use Rattle.lfs_types.specs.declared.request.Request.{Request}
+use Rattle.lfs_types.specs.declared.request.Request.TheVariants.{Create, Mkdir, Rmdir, Rename}
+use Rattle.lfs_rules.specs.Grants.{grants_of}
+use Rattle.lfs_model.specs.declared.journal.Entry.{Entry}
+use Rattle.lfs_model.specs.declared.journal.Event.{Event}
+use Rattle.lfs_model.specs.declared.journal.Event.TheVariants.{User, Cleaner}
+use Rattle.lfs_model.specs.World.{Rows, ancestor, IsChild, IsTree}
+use Rattle.lfs_model.specs.Rules.{decide, reached}
+use Rattle.lfs_model.specs.Effects.{answer_of}
+use Rattle.lfs_model.specs.LawDoor.{AreOutside}
+use Rattle.lfs_model.specs.LawView.{TellsEmpty}
+use Rattle.lfs_model.specs.Steps.{IsLegal}
+
+-- a row stands somewhere beneath a directory
+abbrev pub IsBeneath : Rows → ℕ → ℕ → Type 0
+IsBeneath rows d n = (k : ℕ) × (ancestor rows (suc k) n ≡ d)
+
+-- what has a number is hidden by a directory: no row, or one that stands beneath it
+abbrev pub IsHidden : Rows → ℕ → ℕ → Type 0
+IsHidden rows d n = (map.get rows n ≡ None) ⊎ IsBeneath rows d n
+
+-- Two worlds differ only beneath a directory: in how many rows stand there, under which numbers and names, with what kinds,
+-- attributes and bytes. The level, the directory itself and all other rows are the same.
+pub record DifferBeneath (d : ℕ) (dir : Row) (w v : World) : Type 0 where
+  pub level : w.level ≡ v.level
+  pub one : map.get w.rows d ≡ Some dir
+  pub other : map.get v.rows d ≡ Some dir
+  pub rows : (n : ℕ) → (map.get w.rows n ≡ map.get v.rows n) ⊎ (IsHidden w.rows d n × IsHidden v.rows d n)
+
+-- the same names hang in a directory
+abbrev pub HasSameNames : ℕ → World → World → Type 0
+HasSameNames d w v = (name : List ℕ) → ((n : ℕ) × IsChild w.rows d name n) ↔ ((n : ℕ) × IsChild v.rows d name n)
+
+-- the call would take the directory of this number away: a Rmdir of it, or a Rename onto it
+abbrev pub IsOnto : World → ℕ → Request → Type 0
+IsOnto w d (Rmdir path) = reached w.rows root path ≡ d
+IsOnto w d (Rename from to) = reached w.rows root to ≡ d
+IsOnto w d request = ⊥
+
+-- Such worlds decide alike the call of one whom the directory doesn't grant search, but that a Rmdir of the directory and a
+-- Rename onto it tell whether it is empty; and where they allow it, they answer it alike. If it grants him read, the same
+-- names hang in it.
+abbrev pub HidesFromCall : Type 0
+HidesFromCall =
+    (w v : World) (d : ℕ) (dir : Row) (caller : Caller) (request : Request)
+    → IsTree w.rows
+    → IsTree v.rows
+    → d ≢ root
+    → DifferBeneath d dir w v
+    → grants_of caller (attrs_of dir.file) bits.Search ≡ false
+    → (grants_of caller (attrs_of dir.file) bits.Read ≡ true → HasSameNames d w v)
+    → ((decide w caller request ≡ decide v caller request)
+    ⊎ (IsOnto w d request × TellsEmpty w v request (decide w caller request) (decide v caller request)))
+    × (decide w caller request ≡ None → answer_of w request ≡ answer_of v request)
+
+-- the same numbers are in use
+abbrev pub UseSameNumbers : World → World → Type 0
+UseSameNumbers w v = (n : ℕ) → is_some (map.get w.rows n) ≡ is_some (map.get v.rows n)
+
+-- something hangs in a directory
+abbrev pub IsFilled : Rows → ℕ → Type 0
+IsFilled rows d = (name : List ℕ) × ((n : ℕ) × IsChild rows d name n)
+
+-- a call is to make a row
+abbrev pub IsMaking : Request → Type 0
+IsMaking (Create path mode) = Unit {0}
+IsMaking (Mkdir path mode) = Unit {0}
+IsMaking request = ⊥
+
+-- a call is to make a row, and isn't denied
+abbrev pub MayMakeRow : Request → Answer → Type 0
+MayMakeRow request (Served shown) = IsMaking request
+MayMakeRow request (Denied denial) = ⊥
+MayMakeRow request (Refused resource) = IsMaking request
+
+-- a call is a Rmdir or a Rename, which may take a directory away
+abbrev pub IsRmdirOrRename : Request → Type 0
+IsRmdirOrRename (Rmdir path) = Unit {0}
+IsRmdirOrRename (Rename from to) = Unit {0}
+IsRmdirOrRename request = ⊥
+
+-- Whoever makes a user's call sees no more than is the same: he is granted to read the directory only if the names in it are,
+-- and allowed to make a row only if the numbers in use are; and he calls Rmdir or Rename only if the directory is empty alike.
+abbrev pub SeesTheSame : Row → Type 0 → Type 0 → Type 0 → Caller → Event → Type 0
+SeesTheSame dir SameNames SameNumbers EmptyAlike caller (User request answer) =
+    (grants_of caller (attrs_of dir.file) bits.Read ≡ true → SameNames)
+    × (MayMakeRow request answer → SameNumbers)
+    × (IsRmdirOrRename request → EmptyAlike)
+SeesTheSame dir SameNames SameNumbers EmptyAlike caller (Cleaner kind outcome) = Unit {0}
+
+-- so each
+abbrev pub AllSeeTheSame : Row → Type 0 → Type 0 → Type 0 → List Entry → Type 0
+AllSeeTheSame dir SameNames SameNumbers EmptyAlike [] = Unit {0}
+AllSeeTheSame dir SameNames SameNumbers EmptyAlike (entry ∷ entries) =
+    SeesTheSame dir SameNames SameNumbers EmptyAlike entry.cred entry.event
+    × AllSeeTheSame dir SameNames SameNumbers EmptyAlike entries
+
+-- the directory is empty in both worlds or in neither
+abbrev pub IsEmptyAlike : ℕ → World → World → Type 0
+IsEmptyAlike d w v = IsFilled w.rows d ↔ IsFilled v.rows d
+
+-- A list of entries of users whom the directory doesn't grant search, and none of whom owns it, that is legal in one of the
+-- worlds is legal in the other: each call may have the same answer all along, a refusal for a resource too. If one of them may
+-- read the directory, the same names hang in it; if one is allowed to make a row, the same numbers are in use, since its number
+-- and NoInodes tell of them; if one calls Rmdir or Rename, the directory is empty in both or in neither.
+abbrev pub HidesFromRun : Type 0
+HidesFromRun =
+    (numbers segments : ℕ) (entries : List Entry) (w v : World) (d : ℕ) (dir : Row)
+    → IsTree w.rows
+    → IsTree v.rows
+    → d ≢ root
+    → DifferBeneath d dir w v
+    → AreOutside dir entries
+    → AllSeeTheSame dir (HasSameNames d w v) (UseSameNumbers w v) (IsEmptyAlike d w v) entries
+    → IsLegal numbers segments entries w
+    → IsLegal numbers segments entries v

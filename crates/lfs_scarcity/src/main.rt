@@ -1,0 +1,87 @@
+//! Does one thing after so many allocations as its first line says, and prints what came of it: for runs in which one
+//! allocation fails. The first line is `SPEND WORD`; the script that the word `run` or `script` wants stands behind it.
+//! Nothing here knows which allocation fails. Where a call is refused for want of memory it is made again.
+#![tactic(auto)]
+
+mod formats;
+mod parses;
+mod told;
+mod word;
+
+use lfs_audit::fault::ThreadsFault;
+use lfs_audit::scripts::run_script;
+use lfs_audit::tell::tell;
+use lfs_types::store::Params;
+use std::alloc::{AllocError, Global};
+use std::io::{Read, Write};
+use std::process::ExitCode;
+use word::{Word, first_line};
+
+/// The numbers of the volume.
+const PARAMS: Params = Params {
+    segments: 6,
+    inodes: 64,
+    frames: 32,
+    journal: 64,
+};
+
+/// The most allocations that are spent: that many fit the vector that keeps them.
+const SPEND_MAX: u32 = 4_096;
+
+fn main(rt: HostRuntime) -> ExitCode {
+    let alloc = rt.alloc();
+    let mut stdin = rt.stdin();
+    let mut stdout = rt.stdout();
+    let Some((count, word)) = first_line(&mut stdin) else {
+        let _ = stdout.write(b"no word\n");
+        return ExitCode::from(2);
+    };
+    let Ok(kept) = spend(alloc, count) else {
+        let _ = stdout.write(b"spent\n");
+        return ExitCode::from(3);
+    };
+    do_word(alloc, word, &mut stdin, &mut stdout);
+    drop(kept);
+    ExitCode::SUCCESS
+}
+
+/// So many allocations, 4,096 at most, in a vector whose room is taken before.
+fn spend(alloc: Global, count: u32) -> Result<Vec<Vec<u8>>, AllocError> {
+    let mut kept = Vec::with_capacity(alloc, SPEND_MAX as usize)?;
+    for _ in 0..count.min(SPEND_MAX) {
+        let one = Vec::with_capacity(alloc, 16)?;
+        kept.push(one)?;
+    }
+    Ok(kept)
+}
+
+/// Does what a word says.
+fn do_word<R: Read, W: Write>(alloc: Global, word: Word, reader: &mut R, writer: &mut W) {
+    match word {
+        Word::Run => run(alloc, reader, writer),
+        Word::Frames => formats::frames(alloc, writer),
+        Word::Cache => formats::cache(alloc, writer),
+        Word::Formats => formats::formats(alloc, writer),
+        Word::Names => parses::names(alloc, writer),
+        Word::Paths => parses::paths(alloc, writer),
+        Word::Script => parses::script(alloc, reader, writer),
+    }
+}
+
+/// Runs a script over a writer whose room is taken before, and prints what was written and how the run ended.
+fn run<R: Read, W: Write>(alloc: Global, reader: &mut R, writer: &mut W) {
+    let Ok(mut written) = Vec::with_capacity(alloc, 4_096) else {
+        let _ = writer.write(b"no writer\n");
+        return;
+    };
+    let outcome = run_script(alloc, reader, &mut written, PARAMS);
+    let _ = writer.write_all(written.as_slice());
+    match outcome {
+        Ok(()) => {
+            let _ = writer.write(b"done\n");
+        }
+        Err(fault) => {
+            let _ = tell(writer, &ThreadsFault::Run(fault));
+        }
+    }
+}

@@ -1,0 +1,46 @@
+-- The first words of lines.
+use Rattle.std.specs.Prelude.{ℕ, List, [], ◌∷◌, codes, find, Option}
+use Rattle.std.specs.Str.{bytes_eq}
+use Rattle.lfs_print.specs.CleanerWords.{cleaner_word}
+use Rattle.lfs_model.specs.declared.journal.CleanerKind.TheVariants.{Ifile, Infos, Bmapv, Markv, Segclean}
+use Rattle.lfs_script.specs.declared.verb.RequestKind.{RequestKind}
+use Rattle.lfs_script.specs.declared.verb.RequestKind.TheVariants.{Stat, Read, Write, List as Names, SetLength, Create, Mkdir, Unlink, Rmdir, Rename, Chmod, Chown, Chflags, SetLevel, Sync}
+use Rattle.lfs_script.specs.declared.verb.Verb.{Verb}
+use Rattle.lfs_script.specs.declared.verb.Verb.TheVariants.{Session, As, User, Cleaner, Pass}
+
+-- the word of a user's call
+abbrev pub request_word : RequestKind → List ℕ
+request_word Stat = codes "stat"
+request_word Read = codes "read"
+request_word Write = codes "write"
+request_word Names = codes "list"
+request_word SetLength = codes "length"
+request_word Create = codes "create"
+request_word Mkdir = codes "mkdir"
+request_word Unlink = codes "unlink"
+request_word Rmdir = codes "rmdir"
+request_word Rename = codes "rename"
+request_word Chmod = codes "chmod"
+request_word Chown = codes "chown"
+request_word Chflags = codes "chflags"
+request_word SetLevel = codes "level"
+request_word Sync = codes "sync"
+
+-- the word of a verb
+abbrev pub verb_word : Verb → List ℕ
+verb_word Session = codes "session"
+verb_word As = codes "as"
+verb_word (User kind) = request_word kind
+verb_word (Cleaner kind) = cleaner_word kind
+verb_word Pass = codes "pass"
+
+-- every verb
+abbrev pub verbs : List Verb
+verbs =
+    Session ∷ As ∷ User Stat ∷ User Read ∷ User Write ∷ User Names ∷ User SetLength ∷ User Create ∷ User Mkdir
+    ∷ User Unlink ∷ User Rmdir ∷ User Rename ∷ User Chmod ∷ User Chown ∷ User Chflags ∷ User SetLevel ∷ User Sync
+    ∷ Cleaner Ifile ∷ Cleaner Infos ∷ Cleaner Bmapv ∷ Cleaner Markv ∷ Cleaner Segclean ∷ Pass ∷ []
+
+-- the verb that a word names
+abbrev pub verb_of : List ℕ → Option Verb
+verb_of word = find (λ verb. bytes_eq (verb_word verb) word) verbs

@@ -1,0 +1,12 @@
+//! Scripts as text: from the bytes of a script to its plan, or its first fault.
+#![tactic(auto)]
+
+mod cleaner_calls;
+pub mod fault;
+pub mod plan;
+mod requests;
+pub mod script;
+pub mod split;
+mod verb;
+
+pub use lfs_print::{print, report};

@@ -1,0 +1,343 @@
+-- Room made, changes staged and all of it written, as one.
+use Rattle.std.proofs.Common.{◌≡◌, ◌≢◌, ◌⊎◌, ℕ, zero, suc, ◌+◌, ◌*◌, ◌/◌, ◌<◌, ◌≤◌, List, [], length, Option, None, Some, IsSome, refl, sym, ap, ◌∙◌, subst, inl, inr, arith}
+use Rattle.std.specs.Prelude.{slice_index_or, if◌then◌else◌, ◌==◌}
+use Rattle.std.proofs.lemmas.Bool.{cases_eq, cases_lt, false≢true}
+use Rattle.lfs_types.specs.Changes.{applied}
+use Rattle.lfs_types.specs.declared.store.Change.{Change}
+use Rattle.lfs_types.specs.declared.limits.TheConstants.{SEGMENT_BLOCKS}
+use Rattle.lfs_ifile.specs.declared.segment.SegState.{SegState}
+use Rattle.lfs_ifile.specs.declared.segment.SegState.TheVariants.{Clean}
+use Rattle.lfs_ifile.specs.declared.inode.InodeRow.{InodeRow}
+use Rattle.lfs_cache.specs.Contents.{Contents, IsLocked, block_in}
+use Rattle.lfs_segments.specs.Memory.{SegmentMemory, block_at, next_address, room_of}
+use Rattle.lfs_log.specs.Parts.{state_of}
+use Rattle.lfs_bmap.specs.Counting.{seg_of}
+use Rattle.lfs_bmap.specs.Log.{HasPlace}
+use Rattle.lfs_bmap.specs.Moves.{DirtyIn, Moves, StaysDirty}
+use Rattle.lfs_bmap.proofs.LogLemmas.{dirty_not_active}
+use Rattle.lfs_bmap.proofs.MoveLemmas.{StaysDirty-trans, moves-same, moves-trans}
+use Rattle.lfs_staging.specs.declared.parts.Parts.{Parts}
+use Rattle.lfs_segwrite.specs.Applying.{HasRoom, HasRoomFor, versions_after, MakesChanges, MakesWay, StagesAll, WritesAhead, WritesWaiting, blocks_for, frames_of_all, needs_of, records_of_all, reserve_of, waiting_blocks}
+use Rattle.lfs_segwrite.specs.Collecting.{blocks_of_entries, entries_of}
+use Rattle.lfs_staging.specs.Files.{content_of}
+use Rattle.lfs_segwrite.specs.Flushing.{Flushes, Waits}
+use Rattle.lfs_staging.specs.Keys.{log_state}
+use Rattle.lfs_segwrite.specs.Room.{KeepsFiles}
+use Rattle.lfs_staging.specs.Store.{IsSettled, IsStore}
+use Rattle.lfs_staging.specs.Changing.{StaysInLog}
+use Rattle.lfs_staging.proofs.KeptLemmas.{staged_store, store_staged}
+use Rattle.lfs_ifile.specs.Tables.{row_at}
+use Rattle.lfs_inodes.specs.declared.inode.Inode.{Inode}
+use Rattle.lfs_segments.specs.Log.{Expects}
+use Rattle.lfs_staging.specs.View.{key_of, version_of, waiting_in}
+use Rattle.lfs_segwrite.proofs.BoundLemmas.{blocks_more, blocks_sum, reserve_least}
+use Rattle.lfs_segwrite.proofs.ChangedLemmas.{stages_refl}
+use Rattle.lfs_segwrite.proofs.OrderLemmas.{entries_of-same}
+use Rattle.lfs_segwrite.proofs.CollectingLemmas.{entries_of-length}
+
+-- A segment was opened, where it left more than these clean, or nothing was done.
+pub record Opened (reserve : ℕ) (old new : Parts) : Type 0 where
+  pub reserved : reserve < old.log.clean
+  pub clean : new.log.clean + 1 ≡ old.log.clean
+  pub was_clean : state_of old.log.tables new.log.memory.active ≡ Clean
+
+-- something is there or it isn't
+some_or : {A : Type 0} (o : Option A) → IsSome o ⊎ (IsSome o → ⊥)
+some_or None = inr (λ e. false≢true e)
+some_or (Some x) = inl refl
+
+-- a key waits or it doesn't
+waits_or : (p : Parts) (n c : ℕ) → Waits p n c ⊎ (Waits p n c → ⊥)
+waits_or p n zero = some_or (waiting_in p.waiting n)
+waits_or p n (suc c) = some_or (block_in (key_of n (version_of p n) (suc c)) p.cache.locked)
+
+-- an address outside a segment lies before it or behind it
+apart : (a segment fill : ℕ) → a / 64 ≢ segment → (a < segment * 64 + fill) ⊎ (64 * segment + 64 ≤ a)
+apart a segment fill other = elim (cases_lt a (segment * 64 + fill)) [
+  | inl before ↦ inl before
+  | inr not_before ↦ inr (omega arith)
+]
+
+-- room was made or there was room
+pub opened_or : (old new : Parts) (blocks reserve : ℕ) → (blocks ≤ room_of old.log.memory → new ≡ old)
+    → (room_of old.log.memory < blocks → (reserve < old.log.clean) × (new.log.clean + 1 ≡ old.log.clean) × (state_of old.log.tables new.log.memory.active ≡ Clean))
+    → (new ≡ old) ⊎ Opened reserve old new
+opened_or old new blocks reserve enough opened = elim (cases_lt (room_of old.log.memory) blocks) [
+  | inl short ↦ let o = opened short in inr (record { reserved = o.0; clean = o.1; was_clean = o.2 })
+  | inr room ↦ inl (enough room)
+]
+
+-- what waits fits into the room for it
+pub staged_fits : (p : Parts) (changes : List Change) → length p.cache.locked ≤ frames_of_all changes → length p.waiting ≤ records_of_all changes
+    → blocks_of_entries (entries_of p) ≤ needs_of changes
+staged_fits p changes frames records =
+    let more = blocks_more (length p.cache.locked) (frames_of_all changes) (length p.waiting) (records_of_all changes) frames records in
+    subst (λ n. (if n == 0 then 0 else n + 1) ≤ needs_of changes) (sym (entries_of-length p)) more
+
+module _ (changes : List Change) (reserve : ℕ) (old a b new : Parts) (kept : KeepsFiles old a) (either : (a ≡ old) ⊎ Opened reserve old a) (stages : StagesAll changes a b) (flushes : Flushes b new) where
+  abbrev active : ℕ
+  active = b.log.memory.active
+
+  segments_same : b.log.memory.segments ≡ old.log.memory.segments
+  segments_same = ap (λ (m : SegmentMemory). m.segments) stages.log.memory ∙ kept.dirty.segments
+
+  -- ---- the states
+  staged_dirty : StaysDirty (log_state a) (log_state b)
+  staged_dirty = record {
+    segments = ap (λ (m : SegmentMemory). m.segments) stages.log.memory;
+    dirty = λ s low dirty. ap (λ (xs : List SegState). slice_index_or xs s Clean) stages.log.states ∙ dirty;
+  }
+
+  flushed_dirty : StaysDirty (log_state b) (log_state new)
+  flushed_dirty = record { segments = flushes.segments; dirty = λ s low dirty. ap (λ (xs : List SegState). slice_index_or xs s Clean) flushes.states ∙ dirty }
+
+  until_dirty : StaysDirty (log_state old) (log_state b)
+  until_dirty = StaysDirty-trans (log_state old) (log_state a) (log_state b) kept.dirty staged_dirty
+
+  -- the active segment was not dirty
+  active_other : DirtyIn (log_state old) active → ⊥
+  active_other dirty =
+      let low : active < old.log.memory.segments = subst (λ n. active < n) segments_same stages.staged.log.segments.inside in
+      dirty_not_active (sym (until_dirty.dirty active low dirty) ∙ stages.staged.log.segments.is_active)
+
+  -- ---- the keys
+  moved_active : (n c : ℕ) → HasPlace (log_state new) n c → Waits b n c → seg_of ((log_state new).at n c) ≡ active
+  moved_active n c there waits =
+      let m = flushes.moved n c (subst (λ k. n < k) flushes.numbers there.number_below) there.code_below waits in
+      let same = flushes.active in
+      let whole = flushes.store.whole.parts.laid_out.within in
+      omega (arith, m.0, m.1)
+
+  flushed : Moves (DirtyIn (log_state old)) (log_state b) (log_state new)
+  flushed = record {
+    numbers = flushes.numbers;
+    places = λ n c there dirty. elim (waits_or b n c) [
+      | inl waits ↦ absurd (active_other (subst (DirtyIn (log_state old)) (moved_active n c there waits) dirty))
+      | inr none ↦ sym (flushes.still n c (subst (λ k. n < k) flushes.numbers there.number_below) there.code_below none)
+    ];
+    versions = λ n c there dirty. sym (flushes.versions n);
+  }
+
+  staged_moves : Moves (DirtyIn (log_state old)) (log_state a) (log_state b)
+  staged_moves = record {
+    numbers = stages.log.moves.numbers;
+    places = λ n c there dirty. stages.log.moves.places n c there tt;
+    versions = λ n c there dirty. stages.log.moves.versions n c there tt;
+  }
+
+  moves_ahead : Moves (DirtyIn (log_state old)) (log_state old) (log_state new)
+  moves_ahead =
+      moves-trans (DirtyIn (log_state old)) (log_state old) (log_state b) (log_state new)
+      (moves-trans (DirtyIn (log_state old)) (log_state old) (log_state a) (log_state b) (moves-same (DirtyIn (log_state old)) (log_state old) (log_state a) kept.keys) staged_moves)
+      flushed
+
+  -- ---- the blocks
+  -- a block that was written lies outside what was written now
+  outside : (x : ℕ) → state_of old.log.tables (x / SEGMENT_BLOCKS) ≢ Clean → (x / SEGMENT_BLOCKS ≡ old.log.memory.active → x < next_address old.log.memory)
+      → (x < next_address b.log.memory) ⊎ (SEGMENT_BLOCKS * active + SEGMENT_BLOCKS ≤ x)
+  outside x used before = elim either [
+    | inl same ↦
+        let memory : b.log.memory ≡ old.log.memory = stages.log.memory ∙ ap (λ (p : Parts). p.log.memory) same in
+        subst (λ (m : SegmentMemory). (x < next_address m) ⊎ (64 * m.active + 64 ≤ x)) (sym memory)
+        (elim (cases_eq (x / 64) old.log.memory.active) [
+          | inl here ↦ inl (before here)
+          | inr other ↦ apart x old.log.memory.active old.log.memory.fill other
+        ])
+    | inr opened ↦
+        let was : state_of old.log.tables active ≡ Clean = ap (λ (m : SegmentMemory). state_of old.log.tables m.active) stages.log.memory ∙ opened.was_clean in
+        apart x active b.log.memory.fill (λ here. used (ap (state_of old.log.tables) here ∙ was))
+  ]
+
+  clean_less : new.log.clean ≤ old.log.clean
+  clean_less =
+      let same : new.log.clean ≡ a.log.clean = flushes.clean ∙ stages.log.clean in
+      elim either [
+        | inl is ↦ let one = ap (λ (p : Parts). p.log.clean) is in omega arith
+        | inr opened ↦ omega (arith, opened.clean)
+      ]
+
+  pub writes_ahead : WritesAhead old new
+  writes_ahead = record {
+    segments = flushes.segments ∙ segments_same;
+    numbers = flushes.numbers ∙ stages.log.numbers ∙ ap (λ (rs : List InodeRow). length rs) kept.rows;
+    clean = clean_less;
+    moves = moves_ahead;
+    dirty = StaysDirty-trans (log_state old) (log_state b) (log_state new) until_dirty flushed_dirty;
+    blocks = λ x used before.
+        flushes.blocks x (outside x used before) ∙ ap (λ (m : SegmentMemory). block_at m x) stages.log.memory ∙ kept.blocks x used;
+  }
+
+-- ---- what waits is written
+waits_room : (old a : Parts) → KeepsFiles old a → (n c : ℕ) → Waits a n c → Waits old n c
+waits_room old a kept n zero waits = subst (λ w. IsSome (waiting_in w n)) kept.waiting waits
+waits_room old a kept n (suc c) waits =
+    let version : version_of a n ≡ version_of old n = ap (λ (rs : List InodeRow). (row_at rs n).version) kept.rows in
+    subst (λ v. IsLocked (key_of n v (suc c)) old.cache) version (subst (IsLocked (key_of n (version_of a n) (suc c))) kept.cache waits)
+
+pub waiting_same : (old a : Parts) → KeepsFiles old a → waiting_blocks a ≡ waiting_blocks old
+waiting_same old a kept = ap blocks_of_entries (entries_of-same old a kept.cache kept.waiting)
+
+module _ (old a new : Parts) (blocks : ℕ) (is : blocks ≡ waiting_blocks old) (store : IsStore a) (kept : KeepsFiles old a) (enough : blocks ≤ room_of old.log.memory → a ≡ old)
+    (opened : room_of old.log.memory < blocks → (1 < old.log.clean) × (a.log.clean + 1 ≡ old.log.clean) × (state_of old.log.tables a.log.memory.active ≡ Clean))
+    (fresh : room_of old.log.memory < blocks → 64 ≤ room_of a.log.memory + 1) (flushes : Flushes a new) where
+  same : waiting_blocks a ≡ waiting_blocks old
+  same = waiting_same old a kept
+
+  pub writes_waiting : WritesWaiting old new
+  writes_waiting = record {
+    store = flushes.store;
+    settled = flushes.settled;
+    content = flushes.content ∙ kept.content;
+    log = writes_ahead [] 1 old a a new kept (opened_or old a blocks 1 enough opened) (stages_refl a (store_staged a store)) flushes;
+    used = λ n. flushes.used n ∙ ap (λ (rs : List InodeRow). (row_at rs n).used) kept.rows;
+    versions = λ n. flushes.versions n ∙ ap (λ (rs : List InodeRow). (row_at rs n).version) kept.rows;
+    still = λ n c low below none.
+        flushes.still n c (subst (λ k. n < k) (sym (ap (λ (rs : List InodeRow). length rs) kept.rows)) low) below (λ waits. none (waits_room old a kept n c waits))
+        ∙ kept.keys.places n c low below;
+    left =
+        let clean = flushes.clean in
+        let grown = flushes.grown in
+        let active = flushes.active in
+        let within = flushes.store.whole.parts.laid_out.within in
+        let all = same in
+        elim (cases_lt (room_of old.log.memory) blocks) [
+          | inl short ↦
+              let o = opened short in
+              let new_room = fresh short in
+              inr (omega (arith, is), omega (arith, o.1), o.0, omega (arith, is))
+          | inr enough_room ↦
+              let nothing = enough enough_room in
+              let first : room_of a.log.memory ≡ room_of old.log.memory = ap (λ (p : Parts). room_of p.log.memory) nothing in
+              let kept_clean : a.log.clean ≡ old.log.clean = ap (λ (p : Parts). p.log.clean) nothing in
+              let end : next_address a.log.memory ≡ next_address old.log.memory = ap (λ (p : Parts). next_address p.log.memory) nothing in
+              inl (omega arith, omega arith, clean ∙ kept_clean)
+        ];
+  }
+
+-- ---- changes are staged where nothing was written, or behind what was
+pub stays_ahead : (a b : Parts) → StaysInLog a b → WritesAhead a b
+stays_ahead a b stays = record {
+  segments = ap (λ (m : SegmentMemory). m.segments) stays.memory;
+  numbers = stays.numbers;
+  clean = let same = stays.clean in omega arith;
+  moves = record {
+    numbers = stays.moves.numbers;
+    places = λ n c there dirty. stays.moves.places n c there tt;
+    versions = λ n c there dirty. stays.moves.versions n c there tt;
+  };
+  dirty = record {
+    segments = ap (λ (m : SegmentMemory). m.segments) stays.memory;
+    dirty = λ s low dirty. ap (λ (xs : List SegState). slice_index_or xs s Clean) stays.states ∙ dirty;
+  };
+  blocks = λ x used before. ap (λ (m : SegmentMemory). block_at m x) stays.memory;
+}
+
+pub ahead_stays : (old a b : Parts) → WritesAhead old a → StaysInLog a b → WritesAhead old b
+ahead_stays old a b ahead stays =
+    let after = stays_ahead a b stays in
+    record {
+      segments = after.segments ∙ ahead.segments;
+      numbers = after.numbers ∙ ahead.numbers;
+      clean = let first = ahead.clean in let second = after.clean in omega arith;
+      moves = moves-trans (DirtyIn (log_state old)) (log_state old) (log_state a) (log_state b) ahead.moves (record {
+        numbers = stays.moves.numbers;
+        places = λ n c there dirty. stays.moves.places n c there tt;
+        versions = λ n c there dirty. stays.moves.versions n c there tt;
+      });
+      dirty = StaysDirty-trans (log_state old) (log_state a) (log_state b) ahead.dirty after.dirty;
+      blocks = λ x used before. ap (λ (m : SegmentMemory). block_at m x) stays.memory ∙ ahead.blocks x used before;
+    }
+
+module _ (changes : List Change) (old a b : Parts) (store : IsStore a) (stages : StagesAll changes a b) where
+  pub still_store : IsStore b
+  still_store = staged_store b stages.staged (subst (λ (m : SegmentMemory). Expects m []) (sym stages.log.memory) store.ready)
+
+  same_room : room_of b.log.memory ≡ room_of a.log.memory
+  same_room = ap (λ (m : SegmentMemory). room_of m) stages.log.memory
+
+  -- what waits then takes no more than what waited and the changes
+  pub waiting_most : waiting_blocks b ≤ waiting_blocks a + needs_of changes
+  waiting_most =
+      let more = blocks_more (length b.cache.locked) (length a.cache.locked + frames_of_all changes) (length b.waiting) (length a.waiting + records_of_all changes)
+      stages.frames_more stages.records_more in
+      let sum = blocks_sum (length a.cache.locked) (frames_of_all changes) (length a.waiting) (records_of_all changes) in
+      let before : waiting_blocks a ≡ blocks_for (length a.cache.locked) (length a.waiting) = ap (λ n. if n == 0 then 0 else n + 1) (entries_of-length a) in
+      let after : waiting_blocks b ≡ blocks_for (length b.cache.locked) (length b.waiting) = ap (λ n. if n == 0 then 0 else n + 1) (entries_of-length b) in
+      omega arith
+
+-- what waits takes at most 41 blocks
+pub waits_few : (p : Parts) → IsStore p → waiting_blocks p ≤ 41
+waits_few p store =
+    let limit = store.whole.cache.limit in
+    let few = store.few in
+    let more = blocks_more (length p.cache.locked) 24 (length p.waiting) 64 limit few in
+    let is : blocks_for 24 64 ≡ 41 = refl in
+    let all : waiting_blocks p ≡ blocks_for (length p.cache.locked) (length p.waiting) = ap (λ n. if n == 0 then 0 else n + 1) (entries_of-length p) in
+    omega arith
+
+-- nothing that waits takes no block
+settled_none : (p : Parts) → IsSettled p → waiting_blocks p ≡ 0
+settled_none p settled =
+    let frames : length p.cache.locked ≡ 0 = ap length settled.no_frame in
+    let records : length p.waiting ≡ 0 = ap (λ (vs : List Inode). length vs) settled.no_record in
+    let none : length (entries_of p) ≡ 0 = let all = entries_of-length p in omega arith in
+    ap (λ n. if n == 0 then 0 else n + 1) none
+
+pub makes_changes : (changes : List Change) (old a b : Parts) → HasRoom old → HasRoomFor changes old → waiting_blocks old ≤ 41 → needs_of changes ≤ 17
+    → MakesWay changes old a → StagesAll changes a b → MakesChanges changes old b
+makes_changes changes old a b had has few most way stages =
+    let least = reserve_least (content_of old) changes in
+    elim way.either [
+      | inl nothing ↦
+          let same : a ≡ old = nothing.1 in
+          let from : StagesAll changes old b = subst (λ p. StagesAll changes p b) same stages in
+          let store : IsStore old = subst IsStore same way.store in
+          let waits = waiting_most changes old old b store from in
+          let room = same_room changes old old b store from in
+          let clean = from.log.clean in
+          record {
+            store = still_store changes old old b store from;
+            room = record { room = elim has [ inl enough ↦ inl (omega arith) | inr free ↦ inr (omega arith) ] };
+            content = from.content_is;
+            versions = from.versions_are;
+            log = stays_ahead old b from.log;
+            reserve = λ fewer. absurd (omega arith);
+            opened = omega arith;
+            enough = λ _. clean;
+            delayed = λ _. from.log;
+          }
+      | inr written ↦
+          let w = written.1 in
+          let waits = waiting_most changes old a b way.store stages in
+          let room = same_room changes old a b way.store stages in
+          let none = settled_none a w.settled in
+          let clean = stages.log.clean in
+          record {
+            store = still_store changes old a b way.store stages;
+            room = record {
+              room = elim w.left [
+                | inl here ↦
+                    let first = here.1 in
+                    let second = here.2 in
+                    elim has [ inl enough ↦ inl (omega arith) | inr free ↦ inr (omega arith) ]
+                | inr opened ↦ let first = opened.0 in inl (omega arith)
+              ];
+            };
+            content = stages.content_is ∙ ap (applied changes) w.content;
+            versions = λ n. stages.versions_are n ∙ ap (versions_after changes n) (w.versions n);
+            log = ahead_stays old a b w.log stages.log;
+            reserve = λ fewer. elim w.left [
+              | inl here ↦ let second = here.2 in absurd (omega arith)
+              | inr opened ↦ let short = opened.3 in elim has [ inl enough ↦ absurd (omega arith) | inr free ↦ free ]
+            ];
+            opened = elim w.left [
+              | inl here ↦ let second = here.2 in omega arith
+              | inr opened ↦ let one = opened.1 in omega arith
+            ];
+            enough = λ fits. elim w.left [
+              | inl here ↦ clean ∙ here.2
+              | inr opened ↦ let short = opened.3 in absurd (omega arith)
+            ];
+            delayed = λ no. absurd (false≢true (sym no ∙ written.0));
+          }
+    ]

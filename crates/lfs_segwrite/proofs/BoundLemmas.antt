@@ -1,0 +1,182 @@
+-- How much changes take at most, that may be asked for in one call.
+use Rattle.std.proofs.Common.{◌≡◌, ℕ, zero, suc, ◌+◌, ◌-◌, ◌*◌, ◌%◌, ◌<◌, ◌≤◌, List, [], ◌∷◌, All, length, refl, inl, inr, arith}
+use Rattle.std.specs.List.{list_any}
+use Rattle.std.specs.FinMap as map
+use Rattle.std.proofs.lemmas.Bool.{cases_Bool, cases_eq, cases_lt, cond-true, cond-false, eq-eqb, ne_eqb, lt-ltb, le-ltb}
+use Rattle.std.proofs.lemmas.List.Sums.{sum_by-cons}
+use Rattle.lfs_types.specs.Changes.{CanApply, CanChange, CanChangeAll, changed, lengths_of, put_bytes, puts_of}
+use Rattle.lfs_types.specs.Tree.{Content}
+use Rattle.lfs_types.specs.declared.store.Change.{Change}
+use Rattle.lfs_types.specs.declared.store.Change.TheVariants.{Make, Remove, SetAttrs, Put, SetLength}
+use Rattle.lfs_segwrite.specs.Applying.{IsInReach, blocks_for, frames_of_all, gives_back, needs_of, peak_of, peak_of_all, records_of_all, reserve_of}
+use Rattle.lfs_staging.specs.Changing.{frames_of, frames_of_length, frames_of_put, frames_of_single, records_of}
+use Rattle.lfs_segwrite.specs.Collecting.{inode_blocks}
+use Rattle.lfs_segwrite.proofs.AskedLemmas.{length_limit, put_limit}
+
+-- ---- frames
+single_most : (end : ℕ) → frames_of_single end ≤ 1
+single_most end = elim (cases_lt 6144 end) [
+  | inl past ↦ let is = cond-true {A = ℕ} _ 1 0 (lt-ltb 6144 end past) in omega arith
+  | inr within ↦ let is = cond-false {A = ℕ} _ 1 0 (le-ltb 6144 end within) in omega arith
+]
+
+put_most : (start count : ℕ) → 512 * frames_of_put start count ≤ count + 1534
+put_most start count = let one = single_most (start + count) in omega arith
+
+length_most : (len : ℕ) → frames_of_length len ≤ 2
+length_most len = let one = single_most len in elim (cases_eq (len % 512) 0) [
+  | inl e ↦ let is = cond-true {A = ℕ} _ 0 1 (eq-eqb (len % 512) 0 e) in omega arith
+  | inr ne ↦ let is = cond-false {A = ℕ} _ 0 1 (ne_eqb (len % 512) 0 ne) in omega arith
+]
+
+frames_sum : (changes : List Change) → 512 * frames_of_all changes ≤ put_bytes changes + 1534 * puts_of changes + 1024 * lengths_of changes
+frames_sum [] = omega arith
+frames_sum (Make ino attrs ∷ changes) = frames_sum changes
+frames_sum (Remove ino ∷ changes) = frames_sum changes
+frames_sum (SetAttrs ino attrs ∷ changes) = frames_sum changes
+frames_sum (Put ino off bytes ∷ changes) =
+    let rest = frames_sum changes in
+    let sum = sum_by-cons frames_of (Put ino off bytes) changes in
+    let n = length bytes.now in
+    let most = put_most off n in
+    elim (cases_eq n 0) [
+      | inl e ↦ let is = cond-true {A = ℕ} _ 0 (frames_of_put off n) (eq-eqb n 0 e) in omega arith
+      | inr ne ↦ let is = cond-false {A = ℕ} _ 0 (frames_of_put off n) (ne_eqb n 0 ne) in omega arith
+    ]
+frames_sum (SetLength ino len ∷ changes) =
+    let rest = frames_sum changes in
+    let sum = sum_by-cons frames_of (SetLength ino len) changes in
+    let most = length_most len in
+    omega arith
+
+pub frames_most : (numbers : ℕ) (changes : List Change) (c : Content) → CanApply numbers changes c → frames_of_all changes ≤ 15
+frames_most numbers changes c can = let sum = frames_sum changes in omega (arith, can.few_bytes, can.few_puts, can.few_lengths)
+
+-- ---- frames while changes are staged
+pub peak_least : (change : Change) → frames_of change ≤ peak_of change
+peak_least (Make ino attrs) = omega arith
+peak_least (Remove ino) = omega arith
+peak_least (SetAttrs ino attrs) = omega arith
+peak_least (Put ino off bytes) = omega arith
+peak_least (SetLength ino len) = let most = length_most len in omega arith
+
+puts_few : (changes : List Change) → puts_of changes ≤ length changes
+puts_few [] = omega arith
+puts_few (Make ino attrs ∷ changes) = let rest = puts_few changes in omega arith
+puts_few (Remove ino ∷ changes) = let rest = puts_few changes in omega arith
+puts_few (SetAttrs ino attrs ∷ changes) = let rest = puts_few changes in omega arith
+puts_few (Put ino off bytes ∷ changes) = let rest = puts_few changes in omega arith
+puts_few (SetLength ino len ∷ changes) = let rest = puts_few changes in omega arith
+
+peak_sum : (changes : List Change) → 512 * peak_of_all changes ≤ put_bytes changes + 1534 * puts_of changes + 1024 * (length changes - puts_of changes)
+peak_sum [] = omega arith
+peak_sum (Make ino attrs ∷ changes) = let rest = peak_sum changes in let sum = sum_by-cons peak_of (Make ino attrs) changes in let few = puts_few changes in omega arith
+peak_sum (Remove ino ∷ changes) = let rest = peak_sum changes in let sum = sum_by-cons peak_of (Remove ino) changes in let few = puts_few changes in omega arith
+peak_sum (SetAttrs ino attrs ∷ changes) = let rest = peak_sum changes in let sum = sum_by-cons peak_of (SetAttrs ino attrs) changes in let few = puts_few changes in omega arith
+peak_sum (Put ino off bytes ∷ changes) =
+    let rest = peak_sum changes in
+    let sum = sum_by-cons peak_of (Put ino off bytes) changes in
+    let n = length bytes.now in
+    let most = put_most off n in
+    elim (cases_eq n 0) [
+      | inl e ↦ let is = cond-true {A = ℕ} _ 0 (frames_of_put off n) (eq-eqb n 0 e) in omega arith
+      | inr ne ↦ let is = cond-false {A = ℕ} _ 0 (frames_of_put off n) (ne_eqb n 0 ne) in omega arith
+    ]
+peak_sum (SetLength ino len ∷ changes) = let rest = peak_sum changes in let sum = sum_by-cons peak_of (SetLength ino len) changes in let few = puts_few changes in omega arith
+
+pub peak_most : (numbers : ℕ) (changes : List Change) (c : Content) → CanApply numbers changes c → peak_of_all changes ≤ 21
+peak_most numbers changes c can = let sum = peak_sum changes in omega (arith, can.few_bytes, can.few_puts, can.few)
+
+-- ---- records
+pub record_most : (change : Change) → records_of change ≤ 1
+record_most (Make ino attrs) = omega arith
+record_most (Remove ino) = omega arith
+record_most (SetAttrs ino attrs) = omega arith
+record_most (Put ino off bytes) = let n = length bytes.now in elim (cases_eq n 0) [
+  | inl e ↦ let is = cond-true {A = ℕ} _ 0 1 (eq-eqb n 0 e) in omega arith
+  | inr ne ↦ let is = cond-false {A = ℕ} _ 0 1 (ne_eqb n 0 ne) in omega arith
+]
+record_most (SetLength ino len) = omega arith
+
+pub records_most : (changes : List Change) → records_of_all changes ≤ length changes
+records_most [] = omega arith
+records_most (change ∷ changes) =
+    let one = record_most change in
+    let rest = records_most changes in
+    let sum = sum_by-cons records_of change changes in
+    omega arith
+
+-- ---- blocks
+-- more frames and records take no fewer blocks
+pub blocks_more : (f g r s : ℕ) → f ≤ g → r ≤ s → blocks_for f r ≤ blocks_for g s
+blocks_more f g r s more_frames more_records =
+    let least : f + inode_blocks r ≤ g + inode_blocks s = omega arith in
+    elim (cases_eq (f + inode_blocks r) 0) [
+      | inl none ↦ let is = cond-true {A = ℕ} _ 0 (f + inode_blocks r + 1) (eq-eqb _ 0 none) in omega arith
+      | inr some ↦
+          let is = cond-false {A = ℕ} _ 0 (f + inode_blocks r + 1) (ne_eqb _ 0 some) in
+          let to = cond-false {A = ℕ} _ 0 (g + inode_blocks s + 1) (ne_eqb (g + inode_blocks s) 0 (λ e. some (omega arith))) in
+          omega arith
+    ]
+
+pub needs_few : (changes : List Change) → frames_of_all changes ≤ 15 → records_of_all changes ≤ 4 → needs_of changes ≤ 17
+needs_few changes frames records =
+    let most = blocks_more (frames_of_all changes) 15 (records_of_all changes) 4 frames records in
+    let is : blocks_for 15 4 ≡ 17 = refl in
+    omega arith
+
+pub needs_most : (changes : List Change) → frames_of_all changes ≤ 15 → records_of_all changes ≤ 4 → needs_of changes < 64
+needs_most changes frames records =
+    let most = blocks_more (frames_of_all changes) 15 (records_of_all changes) 4 frames records in
+    let is : blocks_for 15 4 ≡ 17 = refl in
+    omega arith
+
+-- frames and records written together take no more than each by itself
+pub blocks_sum : (f g r s : ℕ) → blocks_for (f + g) (r + s) ≤ blocks_for f r + blocks_for g s
+blocks_sum f g r s = elim (cases_eq (f + inode_blocks r) 0) [
+  | inl none ↦
+      let more = blocks_more (f + g) g (r + s) s (omega arith) (omega arith) in omega arith
+  | inr some ↦ elim (cases_eq (g + inode_blocks s) 0) [
+    | inl none ↦ let more = blocks_more (f + g) f (r + s) r (omega arith) (omega arith) in omega arith
+    | inr other ↦
+        let first = cond-false {A = ℕ} _ 0 (f + inode_blocks r + 1) (ne_eqb _ 0 some) in
+        let second = cond-false {A = ℕ} _ 0 (g + inode_blocks s + 1) (ne_eqb _ 0 other) in
+        let both = cond-false {A = ℕ} _ 0 (f + g + inode_blocks (r + s) + 1) (ne_eqb (f + g + inode_blocks (r + s)) 0 (λ e. some (omega arith))) in
+        omega arith
+  ]
+]
+
+-- ---- the segments that stay clean
+pub reserve_least : (c : Content) (changes : List Change) → 1 ≤ reserve_of c changes
+reserve_least c changes = elim (cases_Bool (list_any (gives_back c) changes)) [
+  | inl some ↦ let is = cond-true {A = ℕ} _ 1 2 some in omega arith
+  | inr none ↦ let is = cond-false {A = ℕ} _ 1 2 none in omega arith
+]
+
+pub reserve_most : (c : Content) (changes : List Change) → reserve_of c changes ≤ 2
+reserve_most c changes = elim (cases_Bool (list_any (gives_back c) changes)) [
+  | inl some ↦ let is = cond-true {A = ℕ} _ 1 2 some in omega arith
+  | inr none ↦ let is = cond-false {A = ℕ} _ 1 2 none in omega arith
+]
+
+-- ---- reach
+in_reach : (numbers : ℕ) (change : Change) (c : Content) → put_bytes (change ∷ []) ≤ 4096 → CanChange numbers change c → IsInReach change
+in_reach numbers (Make ino attrs) c few can = tt
+in_reach numbers (Remove ino) c few can = tt
+in_reach numbers (SetAttrs ino attrs) c few can = tt
+in_reach numbers (Put ino off bytes) c few can = (omega arith, put_limit (map.get c ino) off bytes.now can)
+in_reach numbers (SetLength ino len) c few can = length_limit (map.get c ino) len can
+
+one_put : (change : Change) (changes : List Change) → put_bytes (change ∷ changes) ≡ put_bytes (change ∷ []) + put_bytes changes
+one_put (Make ino attrs) changes = omega arith
+one_put (Remove ino) changes = omega arith
+one_put (SetAttrs ino attrs) changes = omega arith
+one_put (Put ino off bytes) changes = omega arith
+one_put (SetLength ino len) changes = omega arith
+
+pub all_in_reach : (numbers : ℕ) (changes : List Change) (c : Content) → put_bytes changes ≤ 4096 → CanChangeAll numbers changes c → All IsInReach changes
+all_in_reach numbers [] c few can k d low = absurd (omega arith)
+all_in_reach numbers (change ∷ changes) c few can zero d low =
+    let parts = one_put change changes in in_reach numbers change c (omega arith) can.0
+all_in_reach numbers (change ∷ changes) c few can (suc k) d low =
+    let parts = one_put change changes in all_in_reach numbers changes (changed change c) (omega arith) can.1 k d (omega arith)

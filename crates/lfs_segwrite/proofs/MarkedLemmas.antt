@@ -1,0 +1,266 @@
+-- Blocks that were staged with what they had were written again.
+use Rattle.std.proofs.Common.{◌≡◌, ◌≢◌, ◌⊎◌, ℕ, zero, suc, ◌+◌, ◌*◌, ◌/◌, ◌<◌, ◌≤◌, List, All, get_or, length, Option, IsSome, is_some, refl, sym, ap, ◌∙◌, subst, inl, inr, arith}
+use Rattle.std.specs.Prelude.{if◌then◌else◌, ◌==◌, slice_index_or}
+use Rattle.std.proofs.lemmas.Bool.{cases_Bool, cases_eq, cases_lt, cond-true, cond-false, eq-eqb, ne_eqb, false≢true}
+use Rattle.lfs_types.specs.declared.cleaner.BlockInfo.{BlockInfo}
+use Rattle.lfs_ifile.specs.declared.inode.InodeRow.{InodeRow}
+use Rattle.lfs_ifile.specs.declared.segment.SegState.TheVariants.{Clean, Dirty}
+use Rattle.lfs_ifile.specs.Tables.{row_at}
+use Rattle.lfs_cache.specs.Contents.{Contents, block_in}
+use Rattle.lfs_segments.specs.Memory.{SegmentMemory, block_at, next_address, room_of}
+use Rattle.lfs_log.specs.Parts.{LogParts, state_of}
+use Rattle.lfs_bmap.specs.declared.blocks.TheConstants.{BLOCK_CODES}
+use Rattle.lfs_bmap.specs.Counting.{seg_of}
+use Rattle.lfs_bmap.specs.Log.{HasPlace}
+use Rattle.lfs_bmap.specs.Moves.{DirtyIn, Moves}
+use Rattle.lfs_bmap.proofs.MoveLemmas.{StaysDirty-refl, StaysDirty-trans, moves-trans}
+use Rattle.lfs_ifile.specs.declared.segment.SegState.{SegState}
+use Rattle.lfs_segwrite.specs.Applying.{WritesWaiting}
+use Rattle.lfs_bmap.proofs.LogLemmas.{dirty_not_active, dirty_not_clean}
+use Rattle.lfs_staging.specs.declared.parts.Parts.{Parts}
+use Rattle.lfs_segwrite.specs.Collecting.{blocks_of_entries, entries_of}
+use Rattle.lfs_staging.specs.Files.{content_of}
+use Rattle.lfs_segwrite.specs.Flushing.{Flushes, Waits}
+use Rattle.lfs_staging.specs.Keys.{log_state}
+use Rattle.lfs_segwrite.specs.Marking.{AreNamed, IsRewritten, MarksAgain, MarksSettled, SameShown, StagesNamed, blocks_to_mark, code_named}
+use Rattle.lfs_segwrite.specs.Room.{KeepsFiles}
+use Rattle.lfs_staging.specs.Store.{IsSettled, IsStore}
+use Rattle.lfs_staging.specs.View.{key_of, version_of, waiting_in}
+use Rattle.lfs_segwrite.proofs.CollectingLemmas.{entries_of-length}
+use Rattle.lfs_staging.proofs.KeptLemmas.{keys_kept}
+use Rattle.lfs_segwrite.proofs.PutLemmas.{next_some}
+use Rattle.lfs_segwrite.proofs.NamedLemmas.{named_there}
+use Rattle.lfs_staging.proofs.SameContentLemmas.{content_of-same, file_at-kept}
+
+-- a key waits, or doesn't
+tested : (o : Option (List ℕ)) → IsSome o ⊎ (IsSome o → ⊥)
+tested o = elim (cases_Bool (is_some o)) [ inl t ↦ inl t | inr f ↦ inr (λ t. absurd (false≢true (sym f ∙ t))) ]
+
+waits_cases : (p : Parts) (n c : ℕ) → Waits p n c ⊎ (Waits p n c → ⊥)
+waits_cases p n zero = elim (cases_Bool (is_some (waiting_in p.waiting n))) [ inl t ↦ inl t | inr f ↦ inr (λ t. absurd (false≢true (sym f ∙ t))) ]
+waits_cases p n (suc c) = tested (block_in (key_of n (version_of p n) (suc c)) p.cache.locked)
+
+-- what shows the same has the same content
+pub shown_content : (old new : Parts) → SameShown old new → content_of new ≡ content_of old
+shown_content old new h =
+    content_of-same old new (ap (λ (l : LogParts). length l.tables.rows) h.log) (λ n low. file_at-kept old new n (h.records n) (h.blocks n))
+
+-- nothing waits still where a segment was opened
+pub settled_still : (old new : Parts) → KeepsFiles old new → IsSettled old → IsSettled new
+settled_still old new h settled = record {
+  no_record = h.waiting ∙ settled.no_record;
+  no_frame = ap (λ (s : Contents). s.locked) h.cache ∙ settled.no_frame;
+}
+
+-- what was staged fits into the room that was made
+entries_most : (n : ℕ) → (if n == 0 then 0 else n + 1) ≤ n + 1
+entries_most n = elim (cases_eq n 0) [
+  | inl is ↦ let e : (if n == 0 then 0 else n + 1) ≡ 0 = cond-true _ _ _ (eq-eqb n 0 is) in omega arith
+  | inr some ↦ let e : (if n == 0 then 0 else n + 1) ≡ n + 1 = cond-false _ _ _ (ne_eqb n 0 some) in omega arith
+]
+
+pub staged_fits : (mid staged : Parts) (named : List BlockInfo) → StagesNamed named mid staged → blocks_to_mark named ≤ room_of mid.log.memory
+    → blocks_of_entries (entries_of staged) ≤ room_of staged.log.memory
+staged_fits mid staged named h room =
+    let most = entries_most (length (entries_of staged)) in
+    let many = entries_of-length staged in
+    let frames = h.frames in
+    let records = h.records in
+    let same : room_of staged.log.memory ≡ room_of mid.log.memory = ap (λ (l : LogParts). room_of l.memory) h.same.log in
+    omega arith
+
+module _ (old mid staged new : Parts) (marks named : List BlockInfo) (keeps : KeepsFiles old mid) (stages : StagesNamed named mid staged) (flushes : Flushes staged new)
+    (are : AreNamed (log_state old) marks named) (fewer : mid.log.clean ≤ old.log.clean) where
+  log : staged.log ≡ mid.log
+  log = stages.same.log
+
+  numbers : length staged.log.tables.rows ≡ length old.log.tables.rows
+  numbers = ap (λ (l : LogParts). length l.tables.rows) log ∙ ap length keeps.rows
+
+  segments : staged.log.memory.segments ≡ old.log.memory.segments
+  segments = ap (λ (l : LogParts). l.memory.segments) log ∙ keeps.keys.segments
+
+  rows : staged.log.tables.rows ≡ old.log.tables.rows
+  rows = ap (λ (l : LogParts). l.tables.rows) log ∙ keeps.rows
+
+  -- each key had its place still when all was staged
+  place_staged : (n c : ℕ) → n < length old.log.tables.rows → c < BLOCK_CODES → (log_state staged).at n c ≡ (log_state old).at n c
+  place_staged n c low below =
+      (keys_kept mid staged log stages.same.addresses).places n c (subst (λ (m : ℕ). n < m) (sym (ap length keeps.rows)) low) below
+      ∙ keeps.keys.places n c low below
+
+  -- one that waited has a place in the segment that is written
+  module _ (n c : ℕ) (low : n < length old.log.tables.rows) (below : c < BLOCK_CODES) (waits : Waits staged n c) where
+    ends : (next_address staged.log.memory ≤ (log_state new).at n c / 4) × ((log_state new).at n c / 4 < next_address new.log.memory)
+    ends = flushes.moved n c (subst (λ m. n < m) (sym numbers) low) below waits
+
+    in_active : seg_of ((log_state new).at n c) ≡ staged.log.memory.active
+    in_active =
+        let from = stages.staged.log.segments.from in
+        let to = flushes.store.log.segments.to in
+        let same = flushes.active in
+        let first = ends.0 in
+        let last = ends.1 in
+        omega arith
+
+    pub outside : DirtyIn (log_state old) (seg_of ((log_state new).at n c)) → ⊥
+    outside dirty =
+        let active = staged.log.memory.active in
+        let inside : active < old.log.memory.segments = subst (λ m. active < m) segments stages.staged.log.segments.inside in
+        let was : state_of old.log.tables active ≡ Dirty = ap (state_of old.log.tables) (sym in_active) ∙ dirty in
+        let still : state_of mid.log.tables active ≡ Dirty = keeps.dirty.dirty active inside was in
+        dirty_not_active (sym (ap (λ (l : LogParts). state_of l.tables active) log ∙ still) ∙ stages.staged.log.segments.is_active)
+
+    pub elsewhere : HasPlace (log_state old) n c → (log_state new).at n c ≢ (log_state old).at n c
+    elsewhere there same =
+        let at : (log_state new).at n c ≡ (log_state staged).at n c = same ∙ sym (place_staged n c low below) in
+        let had : HasPlace (log_state staged) n c = record {
+          number_below = subst (λ m. n < m) (sym numbers) low;
+          code_below = below;
+          somewhere = λ none. there.somewhere (sym (place_staged n c low below) ∙ none);
+        } in
+        let written = (stages.staged.log.keys n c had).written (ap seg_of (sym at) ∙ in_active) in
+        let first = ends.0 in
+        absurd (omega arith)
+
+    pub somewhere : (log_state new).at n c ≢ 0
+    somewhere none =
+        let first = ends.0 in
+        let some = next_some staged.log.memory stages.staged.whole.parts.laid_out in
+        absurd (omega arith)
+
+  -- the named blocks were written again
+  rewritten : All (IsRewritten (log_state old) (log_state new)) named
+  rewritten k d inside =
+      let info = get_or named k d in
+      let there = (named_there (log_state old) info (are.only k d inside)).0 in
+      let waits = stages.waits k d inside in
+      record {
+        somewhere = somewhere info.ino (code_named info.lbn) there.number_below there.code_below waits;
+        elsewhere = elsewhere info.ino (code_named info.lbn) there.number_below there.code_below waits there;
+        outside = outside info.ino (code_named info.lbn) there.number_below there.code_below waits;
+      }
+
+  version_all : (n : ℕ) → version_of new n ≡ version_of old n
+  version_all n = flushes.versions n ∙ ap (λ (rs : List InodeRow). (row_at rs n).version) rows
+
+  moves : Moves (DirtyIn (log_state old)) (log_state old) (log_state new)
+  moves = record {
+    numbers = flushes.numbers ∙ numbers;
+    places = λ n c there within.
+        let low : n < length old.log.tables.rows = subst (λ m. n < m) (flushes.numbers ∙ numbers) there.number_below in
+        elim (waits_cases staged n c) [
+          | inl waits ↦ absurd (outside n c low there.code_below waits within)
+          | inr free ↦ sym (flushes.still n c (subst (λ m. n < m) (sym numbers) low) there.code_below free ∙ place_staged n c low there.code_below)
+        ];
+    versions = λ n c there within. sym (version_all n);
+  }
+
+  -- no block changed that was written before
+  not_end : (a : ℕ) → state_of old.log.tables (a / 64) ≢ Clean → (a / 64 ≡ old.log.memory.active → a < next_address old.log.memory)
+      → (a < next_address staged.log.memory) ⊎ (64 * staged.log.memory.active + 64 ≤ a)
+  not_end a used end =
+      let from = stages.staged.log.segments.from in
+      elim (cases_eq (a / 64) staged.log.memory.active) [
+        | inl here ↦ elim keeps.end [
+          | inl same ↦
+              let memory : staged.log.memory ≡ old.log.memory = ap (λ (l : LogParts). l.memory) log ∙ same in
+              let before = end (here ∙ ap (λ (m : SegmentMemory). m.active) memory) in
+              inl (subst (λ m. a < m) (sym (ap next_address memory)) before)
+          | inr clean ↦
+              let active : staged.log.memory.active ≡ mid.log.memory.active = ap (λ (l : LogParts). l.memory.active) log in
+              absurd (used (ap (state_of old.log.tables) (here ∙ active) ∙ clean))
+        ]
+        | inr other ↦ elim (cases_lt (a / 64) staged.log.memory.active) [
+          | inl less ↦ inl (omega arith)
+          | inr more ↦ inr (omega arith)
+        ]
+      ]
+
+  blocks : (a : ℕ) → state_of old.log.tables (a / 64) ≢ Clean → (a / 64 ≡ old.log.memory.active → a < next_address old.log.memory)
+      → block_at new.log.memory a ≡ block_at old.log.memory a
+  blocks a used end =
+      flushes.blocks a (not_end a used end) ∙ ap (λ (l : LogParts). block_at l.memory a) log ∙ keeps.blocks a used
+
+  pub marks_again : (blocks_to_mark named ≤ room_of old.log.memory → mid ≡ old)
+      → (room_of old.log.memory < blocks_to_mark named → mid.log.clean + 1 ≡ old.log.clean) → MarksSettled marks (length named) old new
+  marks_again enough opened = record {
+    named = named;
+    are_named = are;
+    counted = refl;
+    rewritten = rewritten;
+    moves = moves;
+    segments = flushes.segments ∙ segments;
+    numbers = flushes.numbers ∙ numbers;
+    used = λ n. flushes.used n ∙ ap (λ (rs : List InodeRow). (row_at rs n).used) rows;
+    versions = version_all;
+    blocks = blocks;
+    clean =
+        let same : staged.log.clean ≡ mid.log.clean = ap (λ (l : LogParts). l.clean) log in
+        let kept = flushes.clean in
+        omega arith;
+    opened =
+        let same : staged.log.clean ≡ mid.log.clean = ap (λ (l : LogParts). l.clean) log in
+        let kept = flushes.clean in
+        elim (cases_lt (room_of old.log.memory) (blocks_to_mark named)) [
+          | inl short ↦ let one = opened short in omega arith
+          | inr fits ↦ let none : mid.log.clean ≡ old.log.clean = ap (λ (p : Parts). p.log.clean) (enough fits) in omega arith
+        ];
+    enough = λ fits. flushes.clean ∙ ap (λ (l : LogParts). l.clean) log ∙ ap (λ (p : Parts). p.log.clean) (enough fits);
+    dirty = StaysDirty-trans (log_state old) (log_state mid) (log_state new) keeps.dirty (record {
+      segments = flushes.segments ∙ ap (λ (l : LogParts). l.memory.segments) log;
+      dirty = λ s low dirty. ap (λ (xs : List SegState). slice_index_or xs s Clean) (flushes.states ∙ ap (λ (l : LogParts). l.tables.states) log) ∙ dirty;
+    });
+  }
+
+  pub marked_content : content_of new ≡ content_of old
+  marked_content = flushes.content ∙ shown_content mid staged stages.same ∙ keeps.content
+
+-- nothing is named, and nothing is done
+pub marks_none : (p : Parts) (marks named : List BlockInfo) → AreNamed (log_state p) marks named → length named ≡ 0 → MarksSettled marks 0 p p
+marks_none p marks named are none = record {
+  named = named;
+  are_named = are;
+  counted = sym none;
+  rewritten = λ k d inside. absurd (omega arith);
+  moves = record { numbers = refl; places = λ n c there within. refl; versions = λ n c there within. refl };
+  segments = refl;
+  numbers = refl;
+  used = λ n. refl;
+  versions = λ n. refl;
+  blocks = λ a used end. refl;
+  clean = omega arith;
+  opened = omega arith;
+  enough = λ _. refl;
+  dirty = StaysDirty-refl (log_state p);
+}
+
+-- what waits was written, and then the blocks were
+pub marks_after : (marks : List BlockInfo) (count : ℕ) (old mid new : Parts) → IsStore old → IsStore mid → IsStore new → WritesWaiting old mid → MarksSettled marks count mid new
+    → MarksAgain marks count old new
+marks_after marks count old mid new first before store w m =
+    let still : (s : ℕ) → s < old.log.memory.segments → DirtyIn (log_state old) s → DirtyIn (log_state mid) s = w.log.dirty.dirty in
+    let all : new.log.memory.segments ≡ old.log.memory.segments = m.segments ∙ w.log.segments in
+    let inside : (n c : ℕ) → HasPlace (log_state new) n c → seg_of ((log_state new).at n c) < old.log.memory.segments
+    = λ n c there. let place = (store.log.keys n c there).in_volume in omega arith in
+    record {
+      between = mid;
+      written = w;
+      again = m;
+      opened =
+          let second = m.opened in
+          elim w.left [
+            | inl here ↦ let first = here.2 in omega arith
+            | inr one ↦ let first = one.1 in omega arith
+          ];
+      moves = moves-trans (DirtyIn (log_state old)) (log_state old) (log_state mid) (log_state new) w.log.moves (record {
+        numbers = m.moves.numbers;
+        places = λ n c there dirty. m.moves.places n c there (still _ (inside n c there) dirty);
+        versions = λ n c there dirty. m.moves.versions n c there (still _ (inside n c there) dirty);
+      });
+      dirty = StaysDirty-trans (log_state old) (log_state mid) (log_state new) w.log.dirty m.dirty;
+      blocks = λ a low dirty.
+          let was = still (a / 64) low dirty in
+          m.blocks a (λ clean. dirty_not_clean (sym was ∙ clean)) (λ here. absurd (dirty_not_active (sym was ∙ ap (state_of mid.log.tables) here ∙ before.log.segments.is_active)))
+          ∙ w.log.blocks a (λ clean. dirty_not_clean (sym dirty ∙ clean)) (λ here. absurd (dirty_not_active (sym dirty ∙ ap (state_of old.log.tables) here ∙ first.log.segments.is_active)));
+    }

@@ -1,0 +1,51 @@
+use Rattle.std.proofs.Common.{◌≡◌, ◌≢◌, ℕ, ◌<◌, length, refl, sym, ◌∙◌, arith}
+use Rattle.std.proofs.lemmas.Bool.{cond-false, eqb-false, eqb-true}
+use Rattle.lfs_staging.specs.Changing.{frames_of_put}
+use Rattle.lfs_staging.specs.Files.{content_of}
+use Rattle.lfs_segwrite.proofs.AskedLemmas.{may_change, put_nothing, put_sized, shown_used, some_from}
+use Rattle.lfs_segwrite.proofs.ChangedLemmas.{stays_refl, stays_same}
+use Rattle.lfs_staging.proofs.StagingLemmas.{version-same}
+use Rattle.lfs_segwrite.proofs.applying.put_some.Goals as goal
+
+pub put-requires-clause-may : goal.put-requires-clause-may
+put-requires-clause-may c =
+    may_change c.args.parts.now c.args.ino c.requires.staged (shown_used c.args.parts.now c.args.ino (some_from _ _ c.requires.can)) (omega (arith, c.requires.records))
+
+pub put-requires-clause-fits : goal.put-requires-clause-fits
+put-requires-clause-fits c =
+    let ne : length c.args.bytes.now ≢ 0 = eqb-false _ _ (sym c.is_empty.ensures ∙ c.if-not-is_empty.true) in
+    let some : 0 < length c.args.bytes.now = omega arith in
+    record {
+      some = some;
+      bounded = c.requires.reach.1 some;
+      sized = put_sized c.args.parts.now c.args.ino c.args.off c.args.bytes.now c.requires.staged.whole c.requires.can some;
+    }
+
+pub put-requires-clause-room : goal.put-requires-clause-room
+put-requires-clause-room c =
+    let here = sym c.is_empty.ensures ∙ c.if-not-is_empty.true in
+    omega (arith, cond-false {A = ℕ} _ 0 (frames_of_put c.args.off (length c.args.bytes.now)) here, c.requires.frames)
+
+pub returns-then-not-is_empty : goal.returns-then-not-is_empty
+returns-then-not-is_empty c =
+    let here = sym c.is_empty.ensures ∙ c.if-not-is_empty.true in
+    record {
+      staged = c.put.ensures.kept 0 c.requires.staged;
+      content_is = c.put.ensures.content;
+      versions_are = λ n. version-same c.args.parts.now c.put.new.self n c.put.ensures.log;
+      log = stays_same c.args.parts.now c.put.new.self c.put.ensures.log c.put.ensures.addresses;
+      frames_more = omega (arith, cond-false {A = ℕ} _ 0 (frames_of_put c.args.off (length c.args.bytes.now)) here, c.put.ensures.frames);
+      records_more = omega (arith, cond-false {A = ℕ} _ 0 1 here, c.put.ensures.waiting);
+    }
+
+pub returns-else-not-is_empty : goal.returns-else-not-is_empty
+returns-else-not-is_empty c =
+    let none : length c.args.bytes.now ≡ 0 = eqb-true _ _ (sym c.is_empty.ensures ∙ c.if-not-is_empty.false) in
+    record {
+      staged = c.requires.staged;
+      content_is = sym (put_nothing (content_of c.args.parts.now) c.args.ino c.args.off c.args.bytes.now none);
+      versions_are = λ n. refl;
+      log = stays_refl c.args.parts.now;
+      frames_more = omega arith;
+      records_more = omega arith;
+    }

@@ -1,0 +1,6 @@
+use Rattle.std.proofs.Common.{◌≡◌, ◌+◌, drop}
+use Rattle.lfs_segwrite.specs.Applying.{records_of_all}
+use Rattle.lfs_segwrite.proofs.applying.records_of_all.Given as goal
+
+abbrev pub invariant-loop-change : goal.invariant-loop-change
+invariant-loop-change l = l.records + records_of_all (drop l.change-index l.changes) ≡ records_of_all l.changes

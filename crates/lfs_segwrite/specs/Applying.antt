@@ -1,0 +1,171 @@
+-- Changes of a store's content, made one after another, and written all together.
+use Rattle.std.specs.Prelude.{◌≡◌, ◌≢◌, ◌⊎◌, ◌||◌, ℕ, ◌+◌, ◌/◌, ◌<◌, ◌≤◌, Bool, true, false, List, [], ◌∷◌, length, nat_lt, if◌then◌else◌, ◌==◌, sum_by}
+use Rattle.std.specs.List.{list_any}
+use Rattle.lfs_types.specs.Changes.{applied, changed}
+use Rattle.lfs_types.specs.Stored.{bytes_of}
+use Rattle.lfs_types.specs.Tree.{Content}
+use Rattle.lfs_types.specs.declared.limits.TheConstants.{FILE_BYTES, SEGMENT_BLOCKS, TRANSFER_BYTES}
+use Rattle.lfs_types.specs.declared.store.Change.{Change}
+use Rattle.lfs_types.specs.declared.store.Change.TheVariants.{Make, Remove, SetAttrs, Put, SetLength}
+use Rattle.lfs_ifile.specs.declared.segment.SegState.TheVariants.{Clean}
+use Rattle.lfs_log.specs.Parts.{state_of}
+use Rattle.lfs_segments.specs.Memory.{block_at, next_address, room_of}
+use Rattle.lfs_bmap.specs.Moves.{DirtyIn, Moves, StaysDirty}
+use Rattle.lfs_staging.specs.declared.parts.Parts.{Parts}
+use Rattle.lfs_staging.specs.Changing.{StaysInLog, frames_of, frames_of_put, records_of, version_after}
+use Rattle.lfs_segwrite.specs.Collecting.{blocks_of_entries, entries_of, inode_blocks}
+use Rattle.lfs_segwrite.specs.Flushing.{Waits}
+use Rattle.lfs_ifile.specs.Tables.{row_of}
+use Rattle.lfs_cache.specs.declared.cache.TheConstants.{LOCKED_LIMIT}
+use Rattle.lfs_bmap.specs.declared.blocks.TheConstants.{BLOCK_CODES}
+use Rattle.lfs_staging.specs.declared.records.TheConstants.{WAITING_LIMIT}
+use Rattle.lfs_staging.specs.View.{version_of}
+use Rattle.lfs_staging.specs.Files.{content_of}
+use Rattle.lfs_staging.specs.Keys.{log_state}
+use Rattle.lfs_staging.specs.Staging.{IsStaged}
+use Rattle.lfs_staging.specs.Store.{IsSettled, IsStore}
+
+-- a change ends within the limit of a file, and puts no more bytes than one call brings
+abbrev pub IsInReach : Change → Type 0
+IsInReach (Make ino attrs) = Unit {0}
+IsInReach (Remove ino) = Unit {0}
+IsInReach (SetAttrs ino attrs) = Unit {0}
+IsInReach (Put ino off bytes) = (length bytes.now ≤ TRANSFER_BYTES) × (0 < length bytes.now → off + length bytes.now ≤ FILE_BYTES)
+IsInReach (SetLength ino len) = len ≤ FILE_BYTES
+
+-- the frames that changes take at most
+abbrev pub frames_of_all : List Change → ℕ
+frames_of_all changes = sum_by frames_of changes
+
+-- the records that they have wait at most
+abbrev pub records_of_all : List Change → ℕ
+records_of_all changes = sum_by records_of changes
+
+-- the blocks that so many frames and records take in the log, with the summary before them; nothing takes none
+abbrev pub blocks_for : ℕ → ℕ → ℕ
+blocks_for frames records = if frames + inode_blocks records == 0 then 0 else frames + inode_blocks records + 1
+
+-- the blocks of the log that changes take at most
+abbrev pub needs_of : List Change → ℕ
+needs_of changes = blocks_for (frames_of_all changes) (records_of_all changes)
+
+-- a change gives blocks back: it removes a file, or cuts one
+abbrev pub gives_back : Content → Change → Bool
+gives_back c (Make ino attrs) = false
+gives_back c (Remove ino) = true
+gives_back c (SetAttrs ino attrs) = false
+gives_back c (Put ino off bytes) = false
+gives_back c (SetLength ino len) = nat_lt len (length (bytes_of c ino))
+
+-- how many segments stay clean when changes open one: one where they give blocks back, else two
+abbrev pub reserve_of : Content → List Change → ℕ
+reserve_of c changes = if list_any (gives_back c) changes then 1 else 2
+
+-- the version of a number after changes, in order
+abbrev pub versions_after : List Change → ℕ → ℕ → ℕ
+versions_after [] number version = version
+versions_after (change ∷ changes) number version = versions_after changes number (version_after change number version)
+
+-- The parts are staged with this content and these versions, by at most so many frames and so many records more. Nothing was
+-- written.
+pub record StagesTo (content : Content) (versions : ℕ → ℕ → ℕ) (frames records : ℕ) (old new : Parts) : Type 0 where
+  pub staged : IsStaged new 0
+  pub content_is : content_of new ≡ content
+  pub versions_are : (number : ℕ) → version_of new number ≡ versions number (version_of old number)
+  pub log : StaysInLog old new
+  pub frames_more : length new.cache.locked ≤ length old.cache.locked + frames
+  pub records_more : length new.waiting ≤ length old.waiting + records
+
+-- a change waits
+abbrev pub StagesChange : Change → Parts → Parts → Type 0
+StagesChange change old new = StagesTo (changed change (content_of old)) (version_after change) (frames_of change) (records_of change) old new
+
+-- changes wait, in order
+abbrev pub StagesAll : List Change → Parts → Parts → Type 0
+StagesAll changes old new = StagesTo (applied changes (content_of old)) (versions_after changes) (frames_of_all changes) (records_of_all changes) old new
+
+-- Blocks were written at the log's end, perhaps in a clean segment that was opened for them. No key came to lie in a
+-- segment that was dirty, each of these is dirty still, and no block that was written is another.
+pub record WritesAhead (old new : Parts) : Type 0 where
+  pub segments : new.log.memory.segments ≡ old.log.memory.segments
+  pub numbers : length new.log.tables.rows ≡ length old.log.tables.rows
+  pub clean : new.log.clean ≤ old.log.clean
+  pub moves : Moves (DirtyIn (log_state old)) (log_state old) (log_state new)
+  pub dirty : StaysDirty (log_state old) (log_state new)
+  pub blocks : (a : ℕ) → state_of old.log.tables (a / SEGMENT_BLOCKS) ≢ Clean
+      → (a / SEGMENT_BLOCKS ≡ old.log.memory.active → a < next_address old.log.memory)
+      → block_at new.log.memory a ≡ block_at old.log.memory a
+
+-- the blocks of the log that what waits takes, with the summary before them
+abbrev pub waiting_blocks : Parts → ℕ
+waiting_blocks p = blocks_of_entries (entries_of p)
+
+-- What waits has room: the active segment has enough left for it, or one may be opened that leaves one clean.
+pub record HasRoom (p : Parts) : Type 0 where
+  pub room : (waiting_blocks p ≤ room_of p.log.memory) ⊎ (1 < p.log.clean)
+
+-- All that waited was written as one partial segment: where the log ended, or at the start of a segment that was opened for
+-- it, where it had no room, and which left one clean. The content is the same, nothing waits, and each key that did not wait
+-- has the place that it had.
+pub record WritesWaiting (old new : Parts) : Type 0 where
+  pub store : IsStore new
+  pub settled : IsSettled new
+  pub content : content_of new ≡ content_of old
+  pub log : WritesAhead old new
+  pub used : (number : ℕ) → (row_of new.log.tables number).used ≡ (row_of old.log.tables number).used
+  pub versions : (number : ℕ) → version_of new number ≡ version_of old number
+  pub still : (number code : ℕ) → number < length old.log.tables.rows → code < BLOCK_CODES → (Waits old number code → ⊥)
+      → (log_state new).at number code ≡ (log_state old).at number code
+  pub left : ((next_address new.log.memory ≡ next_address old.log.memory + waiting_blocks old)
+      × (room_of old.log.memory ≤ room_of new.log.memory + waiting_blocks old) × (new.log.clean ≡ old.log.clean))
+      ⊎ ((SEGMENT_BLOCKS ≤ room_of new.log.memory + waiting_blocks old + 1) × (new.log.clean + 1 ≡ old.log.clean)
+      × (1 < old.log.clean) × (room_of old.log.memory < waiting_blocks old))
+
+-- the frames that a change takes at most while it is staged: a cut has the single indirect block wait, and the last block
+abbrev pub peak_of : Change → ℕ
+peak_of (Make ino attrs) = 0
+peak_of (Remove ino) = 2
+peak_of (SetAttrs ino attrs) = 0
+peak_of (Put ino off bytes) = if length bytes.now == 0 then 0 else frames_of_put off (length bytes.now)
+peak_of (SetLength ino len) = 2
+
+-- those that changes take at most
+abbrev pub peak_of_all : List Change → ℕ
+peak_of_all changes = sum_by peak_of changes
+
+-- changes could have more wait than may wait
+abbrev pub passes_limits : Parts → List Change → Bool
+passes_limits p changes =
+    nat_lt LOCKED_LIMIT (length p.cache.locked + peak_of_all changes) || nat_lt WAITING_LIMIT (length p.waiting + length changes)
+
+-- There is room for what waits and for changes, or a segment may be opened.
+abbrev pub HasRoomFor : List Change → Parts → Type 0
+HasRoomFor changes p = (waiting_blocks p + needs_of changes ≤ room_of p.log.memory) ⊎ (reserve_of (content_of p) changes < p.log.clean)
+
+-- There is room among what waits for changes: nothing was done, or what waited was written.
+pub record MakesWay (changes : List Change) (old new : Parts) : Type 0 where
+  pub store : IsStore new
+  pub frames : length new.cache.locked + peak_of_all changes ≤ LOCKED_LIMIT
+  pub records : length new.waiting + length changes ≤ WAITING_LIMIT
+  pub either : ((passes_limits old changes ≡ false) × (new ≡ old)) ⊎ ((passes_limits old changes ≡ true) × WritesWaiting old new)
+
+-- All the changes were made, in order, and wait, or what waited before them was written. A number that was made has the
+-- version behind its last, each other one the version that it had. One segment was opened at most,
+-- and only where what waited had no room and where it left enough clean; nothing was written where no more wait than may
+-- wait.
+pub record MakesChanges (changes : List Change) (old new : Parts) : Type 0 where
+  pub store : IsStore new
+  pub room : HasRoom new
+  pub content : content_of new ≡ applied changes (content_of old)
+  pub versions : (number : ℕ) → version_of new number ≡ versions_after changes number (version_of old number)
+  pub log : WritesAhead old new
+  pub reserve : new.log.clean < old.log.clean → reserve_of (content_of old) changes < old.log.clean
+  pub opened : old.log.clean ≤ new.log.clean + 1
+  pub enough : waiting_blocks old ≤ room_of old.log.memory → new.log.clean ≡ old.log.clean
+  pub delayed : passes_limits old changes ≡ false → StaysInLog old new
+
+-- There is no room for changes: the active segment has too little left for what waits and for them, and too few segments
+-- are clean to open one.
+pub record LacksRoom (changes : List Change) (p : Parts) : Type 0 where
+  pub full : room_of p.log.memory < waiting_blocks p + needs_of changes
+  pub few_clean : p.log.clean ≤ reserve_of (content_of p) changes

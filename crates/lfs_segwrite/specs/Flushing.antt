@@ -1,0 +1,41 @@
+-- All that waits was written into the log.
+use Rattle.std.specs.Prelude.{◌≡◌, ◌⊎◌, ℕ, ◌+◌, ◌*◌, ◌/◌, ◌<◌, ◌≤◌, zero, suc, IsSome, length}
+use Rattle.lfs_types.specs.declared.limits.TheConstants.{SEGMENT_BLOCKS}
+use Rattle.lfs_cache.specs.Contents.{IsLocked}
+use Rattle.lfs_ifile.specs.Tables.{row_of}
+use Rattle.lfs_segments.specs.Memory.{block_at, next_address}
+use Rattle.lfs_bmap.specs.declared.blocks.TheConstants.{BLOCK_CODES}
+use Rattle.lfs_staging.specs.declared.parts.Parts.{Parts}
+use Rattle.lfs_segwrite.specs.Collecting.{blocks_of_entries, entries_of}
+use Rattle.lfs_staging.specs.Files.{content_of}
+use Rattle.lfs_staging.specs.Keys.{log_state}
+use Rattle.lfs_staging.specs.Store.{IsSettled, IsStore}
+use Rattle.lfs_staging.specs.View.{key_of, version_of, waiting_in}
+
+-- a key waits to be written: a record, or another block of a number in use
+abbrev pub Waits : Parts → ℕ → ℕ → Type 0
+Waits p number zero = IsSome (waiting_in p.waiting number)
+Waits p number (suc code) = IsLocked (key_of number (version_of p number) (suc code)) p.cache
+
+-- All that waited was written as one partial segment, behind what the active segment held: one summary and the blocks that
+-- it names, and nothing where nothing waited. The content is the same. Each key that waited has a place there, every other
+-- one the place that it had, and no other block changed.
+pub record Flushes (old new : Parts) : Type 0 where
+  pub store : IsStore new
+  pub settled : IsSettled new
+  pub content : content_of new ≡ content_of old
+  pub segments : new.log.memory.segments ≡ old.log.memory.segments
+  pub active : new.log.memory.active ≡ old.log.memory.active
+  pub states : new.log.tables.states ≡ old.log.tables.states
+  pub clean : new.log.clean ≡ old.log.clean
+  pub numbers : length new.log.tables.rows ≡ length old.log.tables.rows
+  pub used : (number : ℕ) → (row_of new.log.tables number).used ≡ (row_of old.log.tables number).used
+  pub versions : (number : ℕ) → version_of new number ≡ version_of old number
+  pub still : (number code : ℕ) → number < length old.log.tables.rows → code < BLOCK_CODES → (Waits old number code → ⊥)
+      → (log_state new).at number code ≡ (log_state old).at number code
+  pub moved : (number code : ℕ) → number < length old.log.tables.rows → code < BLOCK_CODES → Waits old number code
+      → (next_address old.log.memory ≤ (log_state new).at number code / 4)
+      × ((log_state new).at number code / 4 < next_address new.log.memory)
+  pub blocks : (a : ℕ) → (a < next_address old.log.memory) ⊎ (SEGMENT_BLOCKS * old.log.memory.active + SEGMENT_BLOCKS ≤ a)
+      → block_at new.log.memory a ≡ block_at old.log.memory a
+  pub grown : next_address new.log.memory ≡ next_address old.log.memory + blocks_of_entries (entries_of old)

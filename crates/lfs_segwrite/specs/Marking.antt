@@ -1,0 +1,121 @@
+-- Blocks that are written again at the log's end, as a cleaner asks.
+use Rattle.std.specs.Prelude.{◌≡◌, ◌≢◌, ◌⊎◌, ℕ, ◌+◌, ◌/◌, ◌<◌, ◌≤◌, List, [], ◌∷◌, ◌++◌, All, Contains, AllPairs, length, sum_by, if◌then◌else◌, ◌==◌, nat_lt, IsSome}
+use Rattle.lfs_types.specs.declared.cleaner.BlockInfo.{BlockInfo}
+use Rattle.lfs_types.specs.declared.limits.TheConstants.{FILE_BLOCKS, SEGMENT_BLOCKS}
+use Rattle.lfs_ifile.specs.declared.segment.SegState.TheVariants.{Clean}
+use Rattle.lfs_ifile.specs.Tables.{row_of}
+use Rattle.lfs_segments.specs.Memory.{block_at, next_address, room_of}
+use Rattle.lfs_cache.specs.declared.key.Key.{Key}
+use Rattle.lfs_cache.specs.Contents.{IsLocked}
+use Rattle.lfs_log.specs.Parts.{state_of}
+use Rattle.lfs_bmap.specs.declared.blocks.TheConstants.{BLOCK_CODES, DIRECT_BLOCKS, FIRST_DATA_CODE}
+use Rattle.lfs_bmap.specs.Counting.{seg_of}
+use Rattle.lfs_bmap.specs.Log.{LogState}
+use Rattle.lfs_bmap.specs.Moves.{DirtyIn, Moves, StaysDirty, present_address}
+use Rattle.lfs_bmap.specs.Reading.{address, data_block}
+use Rattle.lfs_bmap.specs.Ways.{IsKnown}
+use Rattle.lfs_staging.specs.declared.parts.Parts.{Parts}
+use Rattle.lfs_segwrite.specs.Applying.{WritesWaiting}
+use Rattle.lfs_segwrite.specs.Flushing.{Waits}
+use Rattle.lfs_staging.specs.Keys.{log_state}
+use Rattle.lfs_staging.specs.Staging.{IsStaged}
+use Rattle.lfs_staging.specs.View.{record_of, tree_of, version_of, waiting_in}
+
+-- the code of the block that an info names, BLOCK_CODES where no file can have such a block
+unfoldable pub code_named : ℕ → ℕ
+code_named lbn =
+    if lbn == 0x8000_0000 then 1
+    else (if lbn == 0xffff_ffff then 0 else (if nat_lt lbn FILE_BLOCKS then FIRST_DATA_CODE + lbn else BLOCK_CODES))
+
+-- An info names a block: its address isn't 0, and is the present one of the block with that number, version and code.
+pub record IsNamed (l : LogState) (info : BlockInfo) : Type 0 where
+  pub somewhere : info.addr ≢ 0
+  pub present : present_address l info.ino info.version (code_named info.lbn) ≡ info.addr
+
+-- A list has each info of another that names a block, and nothing else; no two of them name the same block.
+pub record AreNamed (l : LogState) (marks named : List BlockInfo) : Type 0 where
+  pub each : (info : BlockInfo) → Contains marks info → IsNamed l info → Contains named info
+  pub marked : All (λ (info : BlockInfo). Contains marks info) named
+  pub only : All (IsNamed l) named
+  pub once : AllPairs (λ (a b : BlockInfo). a.ino ≡ b.ino → code_named a.lbn ≡ code_named b.lbn → ⊥) named
+
+-- an info was added to a list, if it names a block and wasn't there
+abbrev pub AddsNamed : LogState → BlockInfo → List BlockInfo → List BlockInfo → Type 0
+AddsNamed l info old new =
+    ((new ≡ old) × (IsNamed l info → Contains old info)) ⊎ ((new ≡ old ++ info ∷ []) × IsNamed l info × (Contains old info → ⊥))
+
+-- the frames that a block with a code takes at most: none for a record, one for a block, and one for the single indirect
+-- block that leads to a data block
+unfoldable pub frames_of_code : ℕ → ℕ
+frames_of_code code = if code == 0 then 0 else (if nat_lt code (FIRST_DATA_CODE + DIRECT_BLOCKS) then 1 else 2)
+
+-- those that the block of an info takes
+abbrev pub frames_to_mark : BlockInfo → ℕ
+frames_to_mark info = frames_of_code (code_named info.lbn)
+
+-- the blocks of the log that these take at most: a summary, their frames, and an inode block for each four records
+abbrev pub blocks_to_mark : List BlockInfo → ℕ
+blocks_to_mark named = sum_by frames_to_mark named + (length named + 3) / 4 + 1
+
+-- What waits reads as what was there: each record, data block and address is what it was.
+pub record SameShown (old new : Parts) : Type 0 where
+  pub log : new.log ≡ old.log
+  pub records : (n : ℕ) → record_of new n ≡ record_of old n
+  pub blocks : (n m : ℕ) → data_block (tree_of new n) m ≡ data_block (tree_of old n) m
+  pub addresses : (n : ℕ) (way : List ℕ) → IsKnown way → address (tree_of new n) way ≡ address (tree_of old n) way
+
+-- The block with a code of a number waits with what it had, and what waited does still.
+pub record StagesAgain (number code : ℕ) (old new : Parts) : Type 0 where
+  pub same : SameShown old new
+  pub waits : Waits new number code
+  pub frames_still : (key : Key) → IsLocked key old.cache → IsLocked key new.cache
+  pub records_still : (n : ℕ) → IsSome (waiting_in old.waiting n) → IsSome (waiting_in new.waiting n)
+  pub frames : length new.cache.locked ≤ length old.cache.locked + frames_of_code code
+  pub records : length new.waiting ≤ length old.waiting + 1
+
+-- So do the blocks of some infos.
+pub record StagesNamed (named : List BlockInfo) (old new : Parts) : Type 0 where
+  pub same : SameShown old new
+  pub staged : IsStaged new 0
+  pub waits : All (λ (info : BlockInfo). Waits new info.ino (code_named info.lbn)) named
+  pub frames : length new.cache.locked ≤ sum_by frames_to_mark named
+  pub records : length new.waiting ≤ length named
+
+-- A block has another place, outside the segments that were dirty.
+pub record IsRewritten (old new : LogState) (info : BlockInfo) : Type 0 where
+  pub somewhere : new.at info.ino (code_named info.lbn) ≢ 0
+  pub elsewhere : new.at info.ino (code_named info.lbn) ≢ old.at info.ino (code_named info.lbn)
+  pub outside : DirtyIn old (seg_of (new.at info.ino (code_named info.lbn))) → ⊥
+
+-- The blocks that some infos name were written again, so many. What else moved went to segments that weren't dirty too. No
+-- block changed that was written before, and no segment became clean. One segment was opened at most, and none where the
+-- blocks had room.
+pub record MarksSettled (marks : List BlockInfo) (count : ℕ) (old new : Parts) : Type 0 where
+  pub named : List BlockInfo
+  pub are_named : AreNamed (log_state old) marks named
+  pub counted : count ≡ length named
+  pub rewritten : All (IsRewritten (log_state old) (log_state new)) named
+  pub moves : Moves (DirtyIn (log_state old)) (log_state old) (log_state new)
+  pub segments : new.log.memory.segments ≡ old.log.memory.segments
+  pub numbers : length new.log.tables.rows ≡ length old.log.tables.rows
+  pub used : (number : ℕ) → (row_of new.log.tables number).used ≡ (row_of old.log.tables number).used
+  pub versions : (number : ℕ) → version_of new number ≡ version_of old number
+  pub blocks : (a : ℕ) → state_of old.log.tables (a / SEGMENT_BLOCKS) ≢ Clean
+      → (a / SEGMENT_BLOCKS ≡ old.log.memory.active → a < next_address old.log.memory)
+      → block_at new.log.memory a ≡ block_at old.log.memory a
+  pub clean : new.log.clean ≤ old.log.clean
+  pub opened : old.log.clean ≤ new.log.clean + 1
+  pub enough : blocks_to_mark named ≤ room_of old.log.memory → new.log.clean ≡ old.log.clean
+  pub dirty : StaysDirty (log_state old) (log_state new)
+
+-- What waits was written first. Then the blocks that some infos name, as the map then stood, were written again, so many.
+-- What moved went to segments that weren't dirty, these are dirty still, and two segments were opened at most.
+pub record MarksAgain (marks : List BlockInfo) (count : ℕ) (old new : Parts) : Type 0 where
+  pub between : Parts
+  pub written : WritesWaiting old between
+  pub again : MarksSettled marks count between new
+  pub opened : old.log.clean ≤ new.log.clean + 2
+  pub moves : Moves (DirtyIn (log_state old)) (log_state old) (log_state new)
+  pub dirty : StaysDirty (log_state old) (log_state new)
+  pub blocks : (a : ℕ) → a / SEGMENT_BLOCKS < old.log.memory.segments → DirtyIn (log_state old) (a / SEGMENT_BLOCKS)
+      → block_at new.log.memory a ≡ block_at old.log.memory a

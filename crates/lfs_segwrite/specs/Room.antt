@@ -1,0 +1,38 @@
+-- What stays when the log is given room for more blocks.
+use Rattle.std.specs.Prelude.{◌≡◌, ◌≢◌, ◌⊎◌, ℕ, ◌+◌, ◌/◌, ◌≤◌}
+use Rattle.lfs_types.specs.declared.limits.TheConstants.{SEGMENT_BLOCKS}
+use Rattle.lfs_ifile.specs.declared.segment.SegState.TheVariants.{Clean}
+use Rattle.lfs_segments.specs.Memory.{block_at, room_of}
+use Rattle.lfs_log.specs.Parts.{state_of}
+use Rattle.lfs_bmap.specs.Log.{SameKeys}
+use Rattle.lfs_bmap.specs.Moves.{StaysDirty}
+use Rattle.lfs_bmap.specs.Reading.{SameReadings}
+use Rattle.lfs_staging.specs.declared.parts.Parts.{Parts}
+use Rattle.lfs_staging.specs.Files.{content_of}
+use Rattle.lfs_staging.specs.Keys.{log_state}
+use Rattle.lfs_staging.specs.Store.{IsStore}
+use Rattle.lfs_staging.specs.View.{record_of, tree_of}
+
+-- The files are what they were: each number has its record, each block its address, its bytes and its place, and what
+-- waits is the same. No block changed in a segment that was in use, and the segments that were dirty are dirty. The log
+-- goes on where it did, or in a segment that was clean.
+pub record KeepsFiles (old new : Parts) : Type 0 where
+  pub rows : new.log.tables.rows ≡ old.log.tables.rows
+  pub cache : new.cache ≡ old.cache
+  pub waiting : new.waiting ≡ old.waiting
+  pub content : content_of new ≡ content_of old
+  pub records : (number : ℕ) → record_of new number ≡ record_of old number
+  pub readings : (number : ℕ) → SameReadings (tree_of old number) (tree_of new number)
+  pub keys : SameKeys (log_state old) (log_state new)
+  pub dirty : StaysDirty (log_state old) (log_state new)
+  pub blocks : (a : ℕ) → state_of old.log.tables (a / SEGMENT_BLOCKS) ≢ Clean
+      → block_at new.log.memory a ≡ block_at old.log.memory a
+  pub end : (new.log.memory ≡ old.log.memory) ⊎ (state_of old.log.tables new.log.memory.active ≡ Clean)
+
+-- A clean segment was opened: it has room for all that one summary can name and more, and the files are what they were.
+pub record OpensSegment (old new : Parts) : Type 0 where
+  pub store : IsStore new
+  pub files : KeepsFiles old new
+  pub room : SEGMENT_BLOCKS ≤ room_of new.log.memory + 1
+  pub clean : new.log.clean + 1 ≡ old.log.clean
+  pub was_clean : state_of old.log.tables new.log.memory.active ≡ Clean

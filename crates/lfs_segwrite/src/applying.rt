@@ -1,0 +1,304 @@
+//! Changes of a store's content, which wait. Where more would wait than may, what waits is written
+//! first.
+
+ghost use Rattle.std.specs.Prelude.{◌≡◌, ◌+◌, ◌<◌, ◌≤◌, All, OnErr, OnOk, length};
+ghost use Rattle.lfs_types.specs.Changes.{CanApply, CanChange, CanChangeAll};
+ghost use Rattle.lfs_types.specs.declared.store.Change.TheVariants.{Put};
+ghost use Rattle.lfs_types.specs.declared.limits.TheConstants.{FILE_BYTES};
+ghost use Rattle.lfs_segwrite.specs.Applying.{HasRoom, HasRoomFor, IsInReach, LacksRoom, MakesChanges, MakesWay, StagesAll, StagesChange, frames_of_all, gives_back, needs_of, passes_limits, peak_of, peak_of_all, records_of_all, reserve_of};
+ghost use Rattle.lfs_cache.specs.declared.cache.TheConstants.{LOCKED_LIMIT};
+ghost use Rattle.lfs_staging.specs.declared.records.TheConstants.{WAITING_LIMIT};
+ghost use Rattle.lfs_staging.specs.Changing.{frames_of, frames_of_length, frames_of_put, frames_of_single, records_of};
+ghost use Rattle.lfs_staging.specs.Files.{content_of};
+ghost use Rattle.lfs_staging.specs.Staging.{IsStaged};
+ghost use Rattle.lfs_staging.specs.Store.{IsStore};
+ghost use Rattle.lfs_segwrite.specs.declared.applying.TheConstants.{APPLIED_FRAMES, APPLIED_RECORDS};
+
+use crate::collecting::{blocks_to_write, inode_blocks};
+use crate::room::NoRoom;
+use crate::writing::{LEAST_RESERVE, write_waiting};
+use lfs_bmap::blocks::DIRECT_BLOCKS;
+use lfs_bmap::pieces::blocks_touched;
+use lfs_cache::LOCKED_LIMIT;
+use lfs_staging::parts::Parts;
+use lfs_staging::records::WAITING_LIMIT;
+use lfs_types::block::BLOCK_SIZE;
+use lfs_types::store::Change;
+
+/// The greatest number of frames that the changes of one call take.
+pub const APPLIED_FRAMES: usize = 15;
+
+/// The greatest number of records that they have wait: one for each change.
+pub const APPLIED_RECORDS: usize = 4;
+
+/// How many stay clean when another call opens one.
+const RESERVE: u32 = 2;
+
+/// How many frames the single indirect block takes of a file that is changed up to before this byte:
+/// one where that lies past the direct blocks.
+fn frames_of_single(end: u64) -> usize
+    ensures { result ≡ frames_of_single end }
+{
+    let direct = u64::from(DIRECT_BLOCKS) * BLOCK_SIZE as u64;
+    if direct < end { 1 } else { 0 }
+}
+
+/// How many frames so many bytes put at byte `off` of a file take at most.
+fn frames_of_put(off: u64, count: usize) -> usize
+    requires some { 0 < count }
+    requires within { off + count ≤ FILE_BYTES }
+    ensures { result ≡ frames_of_put off count }
+{
+    let end = off + count as u64;
+    let touched = blocks_touched(off, end);
+    (touched.end - touched.start) as usize + frames_of_single(end)
+}
+
+/// How many frames a length of a file takes at most.
+fn frames_of_length(len: u64) -> usize
+    ensures { result ≡ frames_of_length len }
+{
+    let last = if len % BLOCK_SIZE as u64 == 0 { 0 } else { 1 };
+    last + frames_of_single(len)
+}
+
+/// How many frames a change takes at most.
+fn frames_of(change: &Change<'_>) -> usize
+    requires { IsInReach change.now }
+    ensures { result ≡ frames_of change.now }
+{
+    match *change {
+        Change::Make { .. } | Change::Remove { .. } | Change::SetAttrs { .. } => 0,
+        Change::Put { off, bytes, .. } => {
+            if bytes.is_empty() {
+                0
+            } else {
+                frames_of_put(off, bytes.len())
+            }
+        }
+        Change::SetLength { len, .. } => frames_of_length(len),
+    }
+}
+
+/// How many frames a change takes at most while it is staged.
+fn peak_of(change: &Change<'_>) -> usize
+    requires { IsInReach change.now }
+    ensures { result ≡ peak_of change.now }
+{
+    match *change {
+        Change::Make { .. } | Change::SetAttrs { .. } => 0,
+        Change::Remove { .. } | Change::SetLength { .. } => 2,
+        Change::Put { off, bytes, .. } => {
+            if bytes.is_empty() {
+                0
+            } else {
+                frames_of_put(off, bytes.len())
+            }
+        }
+    }
+}
+
+/// How many frames changes take at most while they are staged.
+fn peak_of_all(changes: &[Change<'_>]) -> usize
+    requires reach { All IsInReach changes.now }
+    requires few { peak_of_all changes.now ≤ LOCKED_LIMIT }
+    ensures { result ≡ peak_of_all changes.now }
+{
+    let mut frames = 0;
+    for change in changes {
+        frames += peak_of(change);
+    }
+    frames
+}
+
+/// Whether changes could have more wait than may wait.
+fn passes_limits(parts: &Parts, changes: &[Change<'_>]) -> bool
+    requires store { IsStore parts.now }
+    requires reach { All IsInReach changes.now }
+    requires frames { peak_of_all changes.now ≤ LOCKED_LIMIT }
+    requires few { length changes.now ≤ APPLIED_RECORDS }
+    ensures { result ≡ passes_limits parts.now changes.now }
+{
+    parts.cache.locked_count() + peak_of_all(changes) > LOCKED_LIMIT
+        || parts.waiting.len() + changes.len() > WAITING_LIMIT
+}
+
+/// How many records a change has wait at most.
+fn records_of(change: &Change<'_>) -> usize
+    ensures { result ≡ records_of change.now }
+{
+    match *change {
+        Change::Remove { .. } => 0,
+        Change::Put { bytes, .. } => usize::from(!bytes.is_empty()),
+        Change::Make { .. } | Change::SetAttrs { .. } | Change::SetLength { .. } => 1,
+    }
+}
+
+/// How many frames changes take at most.
+fn frames_of_all(changes: &[Change<'_>]) -> usize
+    requires reach { All IsInReach changes.now }
+    requires few { frames_of_all changes.now ≤ APPLIED_FRAMES }
+    ensures { result ≡ frames_of_all changes.now }
+{
+    let mut frames = 0;
+    for change in changes {
+        frames += frames_of(change);
+    }
+    frames
+}
+
+/// How many records changes have wait at most.
+fn records_of_all(changes: &[Change<'_>]) -> usize
+    requires { records_of_all changes.now ≤ APPLIED_RECORDS }
+    ensures { result ≡ records_of_all changes.now }
+{
+    let mut records = 0;
+    for change in changes {
+        records += records_of(change);
+    }
+    records
+}
+
+/// How many blocks of the log changes take at most, with the summary before them: none where nothing
+/// is to be written.
+fn needs(changes: &[Change<'_>]) -> u32
+    requires reach { All IsInReach changes.now }
+    requires frames { frames_of_all changes.now ≤ APPLIED_FRAMES }
+    requires records { records_of_all changes.now ≤ APPLIED_RECORDS }
+    ensures { result ≡ needs_of changes.now }
+{
+    let blocks = frames_of_all(changes) + inode_blocks(records_of_all(changes));
+    if blocks == 0 { 0 } else { blocks as u32 + 1 }
+}
+
+/// Whether a change gives blocks back: it removes a file, or cuts one.
+fn gives_back(parts: &Parts, change: &Change<'_>) -> bool
+    requires { IsStore parts.now }
+    ensures { result ≡ gives_back (content_of parts.now) change.now }
+{
+    match *change {
+        Change::Remove { .. } => true,
+        Change::SetLength { ino, len } => match parts.attrs(ino) {
+            Some(attrs) => len < attrs.size,
+            None => false,
+        },
+        Change::Make { .. } | Change::SetAttrs { .. } | Change::Put { .. } => false,
+    }
+}
+
+/// How many segments stay clean when these changes open one.
+fn reserve_of(parts: &Parts, changes: &[Change<'_>]) -> u32
+    requires { IsStore parts.now }
+    ensures { result ≡ reserve_of (content_of parts.now) changes.now }
+{
+    for change in changes {
+        if gives_back(parts, change) {
+            return LEAST_RESERVE;
+        }
+    }
+    RESERVE
+}
+
+/// Has bytes wait that are put into a file in use; no bytes change nothing.
+fn put_some(parts: &mut Parts, ino: u32, off: u64, bytes: &[u8])
+    requires staged { IsStaged parts.old 0 }
+    requires can { CanChange (length parts.old.log.tables.rows) (Put ino off bytes)
+        (content_of parts.old) }
+    requires reach { IsInReach (Put ino off bytes) }
+    requires frames { length parts.old.cache.locked + peak_of (Put ino off bytes)
+        ≤ LOCKED_LIMIT }
+    requires records { length parts.old.waiting < WAITING_LIMIT }
+    ensures { StagesChange (Put ino off bytes.entry) parts.old parts.new }
+{
+    if !bytes.is_empty() {
+        parts.put(ino, off, bytes);
+    }
+}
+
+/// Has a change wait.
+fn stage_change(parts: &mut Parts, change: &Change<'_>)
+    requires staged { IsStaged parts.old 0 }
+    requires can { CanChange (length parts.old.log.tables.rows) change.now
+        (content_of parts.old) }
+    requires reach { IsInReach change.now }
+    requires frames { length parts.old.cache.locked + peak_of change.now ≤ LOCKED_LIMIT }
+    requires records { length parts.old.waiting < WAITING_LIMIT }
+    ensures { StagesChange change.now parts.old parts.new }
+{
+    match *change {
+        Change::Make { ino, attrs } => parts.make(ino, &attrs),
+        Change::Remove { ino } => parts.remove(ino),
+        Change::SetAttrs { ino, attrs } => parts.set_attrs(ino, &attrs),
+        Change::Put { ino, off, bytes } => put_some(parts, ino, off, bytes),
+        Change::SetLength { ino, len } => parts.set_length(ino, len),
+    }
+}
+
+/// Has changes wait, in order.
+fn stage_changes(parts: &mut Parts, changes: &[Change<'_>])
+    requires staged { IsStaged parts.old 0 }
+    requires can { CanChangeAll (length parts.old.log.tables.rows) changes.now
+        (content_of parts.old) }
+    requires reach { All IsInReach changes.now }
+    requires frames { length parts.old.cache.locked + peak_of_all changes.now
+        ≤ LOCKED_LIMIT }
+    requires records { length parts.old.waiting + length changes.now ≤ WAITING_LIMIT }
+    ensures { StagesAll changes.now parts.old parts.new }
+{
+    for change in changes {
+        stage_change(parts, change);
+    }
+}
+
+/// Whether there is room for what waits and for changes: in the active segment, or in one that may be
+/// opened.
+fn check_room(parts: &Parts, changes: &[Change<'_>]) -> Result<(), NoRoom>
+    requires store { IsStore parts.now }
+    requires reach { All IsInReach changes.now }
+    requires frames { frames_of_all changes.now ≤ APPLIED_FRAMES }
+    requires records { records_of_all changes.now ≤ APPLIED_RECORDS }
+    ensures has { OnOk result (HasRoomFor changes.now parts.now) }
+    ensures lacking { OnErr result (LacksRoom changes.now parts.now) }
+{
+    let needed = blocks_to_write(parts) + needs(changes);
+    if parts.log.room() >= needed {
+        return Ok(());
+    }
+    if parts.log.clean() > reserve_of(parts, changes) {
+        return Ok(());
+    }
+    Err(NoRoom)
+}
+
+/// Writes what waits where changes could have more wait than may.
+fn make_way(parts: &mut Parts, changes: &[Change<'_>])
+    requires store { IsStore parts.old }
+    requires room { HasRoom parts.old }
+    requires reach { All IsInReach changes.now }
+    requires frames { peak_of_all changes.now ≤ LOCKED_LIMIT }
+    requires few { length changes.now ≤ APPLIED_RECORDS }
+    ensures { MakesWay changes.now parts.old parts.new }
+{
+    if passes_limits(parts, changes) {
+        write_waiting(parts);
+    }
+}
+
+/// Makes changes, in order: all of them, or none where there is no room. They wait; where more would
+/// wait than may, what waits is written first.
+pub fn apply(parts: &mut Parts, changes: &[Change<'_>]) -> Result<(), NoRoom>
+    requires store { IsStore parts.old }
+    requires room { HasRoom parts.old }
+    requires can { CanApply (length parts.old.log.tables.rows) changes.now
+        (content_of parts.old) }
+    ensures made { OnOk result (MakesChanges changes.now parts.old parts.new) }
+    ensures refused { OnErr result (parts.new ≡ parts.old) }
+    ensures lacking { OnErr result (LacksRoom changes.now parts.old) }
+    // Which is never so with more than two clean segments.
+    ensures short { OnErr result (parts.old.log.clean ≤ 2) }
+{
+    check_room(parts, changes)?;
+    make_way(parts, changes);
+    stage_changes(parts, changes);
+    Ok(())
+}

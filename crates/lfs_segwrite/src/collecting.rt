@@ -1,0 +1,160 @@
+//! What waits to be written, in the order in which it is written.
+
+ghost use Rattle.std.specs.Prelude.{◌≡◌, ◌<◌, ◌≤◌, ◌+◌, ◌++◌, ◌∷◌, ◌↔◌, [], All, length, map, replicate};
+ghost use Rattle.std.specs.List.{filter};
+ghost use Rattle.lfs_cache.specs.Contents.{keys_of};
+ghost use Rattle.lfs_segments.specs.Entry.{IsEntry};
+ghost use Rattle.lfs_segments.specs.declared.summary.TheConstants.{ENTRY_LIMIT};
+ghost use Rattle.lfs_segwrite.specs.Collecting.{AreLocked, blocks_of_entries, entries_of, entry_of, in_order, inode_blocks, is_data, is_of};
+ghost use Rattle.lfs_staging.specs.Opening.{inodes_entry};
+ghost use Rattle.lfs_staging.specs.Store.{AreFiles, IsSettled};
+ghost use Rattle.lfs_staging.specs.declared.records.TheConstants.{WAITING_LIMIT};
+
+use lfs_bmap::blocks::FIRST_DATA_CODE;
+use lfs_cache::Key;
+use lfs_log::packing::SLOT_COUNT;
+use lfs_segments::entry::{LogicalBlock, SummaryEntry};
+use lfs_segments::summary::ENTRY_LIMIT;
+use lfs_staging::parts::Parts;
+use std::marker::Model;
+
+/// At most 40 entries, which lie in the value itself.
+#[derive(Drop)]
+pub struct EntryList {
+    entries: [SummaryEntry; ENTRY_LIMIT],
+    count: usize,
+}
+
+impl Model for EntryList {
+    ghost use Rattle.std.specs.Prelude.{List, ◌≡◌, ◌≤◌, length, take};
+    ghost use Rattle.lfs_segments.specs.declared.entry.SummaryEntry.{SummaryEntry};
+
+    ghost Value = { List SummaryEntry };
+
+    ghost view = { λ l. take l.count l.entries };
+
+    ghost invariant = { λ l. (length l.entries ≡ 40) × (l.count ≤ 40) };
+}
+
+impl EntryList {
+    /// A list of no entries.
+    fn empty() -> EntryList
+        ensures { result ≡ [] }
+    {
+        EntryList {
+            entries: [SummaryEntry::UNUSED; ENTRY_LIMIT],
+            count: 0,
+        }
+    }
+
+    /// The entries, in order.
+    pub fn entries(&self) -> &[SummaryEntry]
+        ensures entries { result.now ≡ self.now }
+        ensures fits { length self.now ≤ ENTRY_LIMIT }
+    {
+        &self.entries[..self.count]
+    }
+
+    /// Adds an entry behind the others. There must be room.
+    fn push(&mut self, entry: SummaryEntry)
+        requires { length self.old < ENTRY_LIMIT }
+        ensures { self.new ≡ self.old ++ entry ∷ [] }
+    {
+        self.entries[self.count] = entry;
+        self.count += 1;
+    }
+
+    /// Adds the entries of the data blocks among some keys, or those of the others.
+    fn push_keys(&mut self, keys: &[Key], of_data: bool)
+        requires { length self.old + length (filter (is_of of_data) keys.now) ≤ ENTRY_LIMIT }
+        ensures { self.new ≡ self.old ++ map entry_of (filter (is_of of_data) keys.now) }
+    {
+        for key in keys {
+            if is_of(key, of_data) {
+                self.push(entry_of(key));
+            }
+        }
+    }
+
+    /// Adds so many entries of inode blocks.
+    fn push_inodes(&mut self, blocks: usize)
+        requires { length self.old + blocks ≤ ENTRY_LIMIT }
+        ensures { self.new ≡ self.old ++ replicate blocks inodes_entry }
+    {
+        for _ in 0..blocks {
+            self.push(SummaryEntry {
+                number: 0,
+                version: 0,
+                block: LogicalBlock::Inodes,
+            });
+        }
+    }
+}
+
+/// Whether a key is of a data block.
+fn is_data(key: &Key) -> bool
+    ensures { result ≡ is_data key.now }
+{
+    key.lbn >= FIRST_DATA_CODE
+}
+
+/// Whether a key is of a data block, or, where it is asked so, whether it is not.
+fn is_of(key: &Key, of_data: bool) -> bool
+    ensures { result ≡ is_of of_data key.now }
+{
+    is_data(key) == of_data
+}
+
+/// How many inode blocks so many records take.
+pub(crate) fn inode_blocks(records: usize) -> usize
+    requires { records ≤ WAITING_LIMIT }
+    ensures { result ≡ inode_blocks records }
+{
+    records.div_ceil(SLOT_COUNT)
+}
+
+/// What a summary says of the block of a key.
+fn entry_of(key: &Key) -> SummaryEntry
+    ensures { result ≡ entry_of key.now }
+{
+    let block = if is_data(key) {
+        LogicalBlock::Data(key.lbn - FIRST_DATA_CODE)
+    } else {
+        LogicalBlock::Single
+    };
+    SummaryEntry {
+        number: key.ino,
+        version: key.version,
+        block,
+    }
+}
+
+/// The entries of all that waits to be written, in the order in which it is written: data blocks,
+/// then the single indirect blocks, then an inode block for each four records.
+pub fn to_land(parts: &Parts) -> EntryList
+    requires files { AreFiles parts.now }
+    requires few { length parts.now.waiting ≤ WAITING_LIMIT }
+    ensures entries { result ≡ entries_of parts.now }
+    ensures valid { All IsEntry result }
+    ensures fits { length result ≤ ENTRY_LIMIT }
+    // The blocks are those that wait, each once.
+    ensures blocks { AreLocked (in_order (keys_of parts.now.cache.locked)) parts.now.cache }
+{
+    let keys = parts.cache.locked();
+    let mut list = EntryList::empty();
+    list.push_keys(keys, true);
+    list.push_keys(keys, false);
+    list.push_inodes(inode_blocks(parts.waiting.len()));
+    list
+}
+
+/// How many blocks of the log what waits takes, its summary among them: none where nothing waits.
+pub fn blocks_to_write(parts: &Parts) -> u32
+    requires few { length parts.now.waiting ≤ WAITING_LIMIT }
+    ensures blocks { result ≡ blocks_of_entries (entries_of parts.now) }
+    ensures at_most { result ≤ ENTRY_LIMIT + 1 }
+    ensures none { (result ≡ 0) ↔ IsSettled parts.now }
+{
+    let blocks = parts.cache.locked_count() + inode_blocks(parts.waiting.len());
+    if blocks == 0 { 0 } else { blocks as u32 + 1 }
+}

@@ -1,0 +1,137 @@
+//! Writing all that waits into the log.
+
+ghost use Rattle.std.specs.Prelude.{◌≡◌, ◌≢◌, ◌+◌, ◌<◌, ◌≤◌, ◌∷◌, [], ℕ, All, List, length, replicate, false};
+ghost use Rattle.lfs_cache.specs.declared.key.Key.{Key};
+ghost use Rattle.lfs_cache.specs.Contents.{IsLocked};
+ghost use Rattle.lfs_cache.specs.Keys.{same_key};
+ghost use Rattle.lfs_segments.specs.declared.entry.SummaryEntry.{SummaryEntry};
+ghost use Rattle.lfs_segments.specs.declared.summary.TheConstants.{ENTRY_LIMIT};
+ghost use Rattle.lfs_segments.specs.Entry.{IsEntry};
+ghost use Rattle.lfs_segments.specs.Log.{Expects};
+ghost use Rattle.lfs_segments.specs.Memory.{next_address, room_of};
+ghost use Rattle.lfs_bmap.specs.Blocks.{IsFileBlock, code_of};
+ghost use Rattle.lfs_bmap.specs.declared.blocks.FileBlock.TheVariants.{Single};
+ghost use Rattle.lfs_segwrite.specs.Collecting.{blocks_of_entries, entries_of, inode_blocks};
+ghost use Rattle.lfs_segwrite.specs.Flushing.{Flushes};
+ghost use Rattle.lfs_segwrite.specs.Landing.{ExpectsBlock};
+ghost use Rattle.lfs_staging.specs.Opening.{inodes_entry};
+ghost use Rattle.lfs_segwrite.specs.Recording.{Advances, entry_at_version};
+ghost use Rattle.lfs_staging.specs.Staging.{IsStaged};
+ghost use Rattle.lfs_staging.specs.Store.{IsSettled};
+ghost use Rattle.lfs_staging.specs.View.{key_of, version_of};
+
+use crate::collecting::{blocks_to_write, to_land};
+use crate::landing::land_block;
+use crate::records::land_records;
+use lfs_bmap::blocks::FileBlock;
+use lfs_segments::entry::SummaryEntry;
+use lfs_staging::parts::Parts;
+
+/// Writes all that waits at the log's end, as one partial segment: the data blocks, the single
+/// indirect blocks, then the records, four to a block. The active segment must have room for it.
+/// Where nothing waits, nothing is written.
+pub fn flush(parts: &mut Parts)
+    requires staged { IsStaged parts.old 0 }
+    requires ready { Expects parts.old.log.memory [] }
+    requires room { blocks_of_entries (entries_of parts.old) ≤ room_of parts.old.log.memory }
+    ensures { Flushes parts.old parts.new }
+{
+    if blocks_to_write(parts) == 0 {
+        return;
+    }
+    let list = to_land(parts);
+    begin_partial(parts, list.entries());
+    land_blocks(parts, list.entries());
+    land_all_records(parts);
+}
+
+/// Begins a partial segment of the blocks of some entries, 1 to 40 of them, for which there is
+/// room: writes their summary at the log's end.
+fn begin_partial(parts: &mut Parts, entries: &[SummaryEntry])
+    requires staged { IsStaged parts.old 0 }
+    requires ready { Expects parts.old.log.memory [] }
+    requires some { 0 < length entries.now }
+    requires at_most { length entries.now ≤ ENTRY_LIMIT }
+    requires fit { length entries.now < room_of parts.old.log.memory }
+    requires named { All IsEntry entries.now }
+    ensures staged { IsStaged parts.new 0 }
+    ensures advances { (from : ℕ) → from ≤ next_address parts.old.log.memory
+        → Advances from parts.old parts.new }
+    ensures expects { Expects parts.new.log.memory entries.now }
+    ensures next { next_address parts.new.log.memory ≡ next_address parts.old.log.memory + 1 }
+    ensures cache { parts.new.cache ≡ parts.old.cache }
+    ensures waiting { parts.new.waiting ≡ parts.old.waiting }
+{
+    parts.log.begin(entries);
+}
+
+/// Writes the data blocks and the single indirect blocks that wait, of which these are the
+/// entries, in their order.
+fn land_blocks(parts: &mut Parts, entries: &[SummaryEntry])
+    requires staged { IsStaged parts.old 0 }
+    requires all { entries.now ≡ entries_of parts.old }
+    requires expected { Expects parts.old.log.memory (entries_of parts.old) }
+    ensures staged { IsStaged parts.new 0 }
+    ensures advances { (from : ℕ) → from ≤ next_address parts.old.log.memory
+        → Advances from parts.old parts.new }
+    ensures no_frame { parts.new.cache.locked ≡ [] }
+    ensures waiting { length parts.new.waiting ≡ length parts.old.waiting }
+    ensures next { next_address parts.new.log.memory
+        ≡ next_address parts.old.log.memory + length parts.old.cache.locked }
+    ensures expects { Expects parts.new.log.memory
+        (replicate (inode_blocks (length parts.new.waiting)) inodes_entry) }
+{
+    let blocks = parts.cache.locked_count();
+    for entry in &entries[..blocks] {
+        land_waiting(parts, entry.number, FileBlock::from_logical(entry.block));
+    }
+}
+
+/// Writes a block of a file that waits at the log's end, which expects it. A single indirect block
+/// is written when no data block waits any more.
+fn land_waiting(parts: &mut Parts, number: u32, block: FileBlock)
+    requires staged { IsStaged parts.old 0 }
+    requires block { IsFileBlock block }
+    requires other { code_of block ≢ 0 }
+    requires waits { IsLocked (key_of number (version_of parts.old number) (code_of block)) parts.old.cache }
+    requires last { block ≡ Single → (key : Key) → IsLocked key parts.old.cache → key.lbn ≡ 1 }
+    requires expected { ExpectsBlock parts.old.log.memory (entry_at_version parts.old number block) }
+    ensures staged { IsStaged parts.new 0 }
+    ensures advances { (from : ℕ) → from ≤ next_address parts.old.log.memory
+        → Advances from parts.old parts.new }
+    ensures expects { (rest : List SummaryEntry)
+        → Expects parts.old.log.memory (entry_at_version parts.old number block ∷ rest)
+        → Expects parts.new.log.memory rest }
+    // It waits no more, and what else waits still does.
+    ensures gone { IsLocked (key_of number (version_of parts.old number) (code_of block)) parts.new.cache → ⊥ }
+    ensures others { (key : Key)
+        → same_key (key_of number (version_of parts.old number) (code_of block)) key ≡ false
+        → IsLocked key parts.old.cache → IsLocked key parts.new.cache }
+    ensures only { (key : Key) → IsLocked key parts.new.cache → IsLocked key parts.old.cache }
+    ensures waiting { length parts.new.waiting ≡ length parts.old.waiting }
+    ensures next { next_address parts.new.log.memory ≡ next_address parts.old.log.memory + 1 }
+{
+    let Some(inode) = parts.waiting(number) else {
+        unreachable!()
+    };
+    land_block(parts, &inode, block);
+}
+
+/// Writes the records that wait, four to a block.
+fn land_all_records(parts: &mut Parts)
+    requires staged { IsStaged parts.old 0 }
+    requires no_frame { parts.old.cache.locked ≡ [] }
+    requires expected { Expects parts.old.log.memory
+        (replicate (inode_blocks (length parts.old.waiting)) inodes_entry) }
+    ensures staged { IsStaged parts.new 0 }
+    ensures settled { IsSettled parts.new }
+    ensures advances { (from : ℕ) → from ≤ next_address parts.old.log.memory
+        → Advances from parts.old parts.new }
+    ensures ready { Expects parts.new.log.memory [] }
+    ensures next { next_address parts.new.log.memory
+        ≡ next_address parts.old.log.memory + inode_blocks (length parts.old.waiting) }
+{
+    while !parts.waiting.is_empty() {
+        land_records(parts);
+    }
+}

@@ -1,0 +1,12 @@
+//! What waits over the log of a store is written into it: room is made for it, its blocks and records
+//! land, and changes are made all together or none of them.
+#![tactic(auto)]
+
+pub mod applying;
+pub mod collecting;
+pub mod flushing;
+pub mod landing;
+pub mod marking;
+pub mod records;
+pub mod room;
+pub mod writing;

@@ -1,0 +1,25 @@
+//! Writing what waits.
+
+ghost use Rattle.lfs_segwrite.specs.Applying.{HasRoom, WritesWaiting};
+ghost use Rattle.lfs_staging.specs.Store.{IsStore};
+
+use crate::collecting::blocks_to_write;
+use crate::flushing::flush;
+use crate::room::make_room;
+use lfs_staging::parts::Parts;
+
+/// How many segments stay clean when one is opened for what waits, or for changes that give blocks back.
+pub const LEAST_RESERVE: u32 = 1;
+
+/// Writes all that waits, in a segment that is opened where the active one has too little room left.
+pub fn write_waiting(parts: &mut Parts)
+    requires store { IsStore parts.old }
+    requires room { HasRoom parts.old }
+    ensures { WritesWaiting parts.old parts.new }
+{
+    let blocks = blocks_to_write(parts);
+    match make_room(parts, blocks, LEAST_RESERVE) {
+        Ok(()) => flush(parts),
+        Err(_) => unreachable!(),
+    }
+}

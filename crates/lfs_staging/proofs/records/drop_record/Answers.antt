@@ -1,0 +1,22 @@
+use Rattle.std.proofs.Common.{◌≡◌, ◌<◌, get_or, length, sym, ap, ◌∙◌, arith}
+use Rattle.std.proofs.lemmas.List.{get_or_default}
+use Rattle.lfs_inodes.specs.declared.inode.Inode.{Inode}
+use Rattle.lfs_staging.specs.Waiting.{without}
+use Rattle.lfs_staging.proofs.WaitingLemmas.{without-at, without-none}
+use Rattle.lfs_staging.proofs.records.drop_record.Goals as goal
+
+pub returns-then-index-number-clause-items : goal.returns-then-index-number-clause-items
+returns-then-index-number-clause-items c =
+    let vs = c.loop-place.records in
+    let inside : c.loop-place.place < length vs.items
+    = let long = vs.ok.0 in let test = c.loop-place-test.true in let whole = ap (λ v. v.len) c.loop-place.invariant.same in omega (arith, c.len-place-end.ensures) in
+    let here : (d : Inode) → (get_or vs.items c.loop-place.place d).number ≡ c.args.number
+    = λ d. ap (λ (v : Inode). v.number) (get_or_default vs.items c.loop-place.place d c.index.result.now inside ∙ sym c.index.ensures) ∙ c.if-index-number.true in
+    c.remove-dropped.ensures.items ∙ without-at vs.items c.loop-place.place c.args.number inside c.loop-place.invariant.others here
+    ∙ ap (λ v. without c.args.number v.items) c.loop-place.invariant.same
+
+pub returns-clause-items : goal.returns-clause-items
+returns-clause-items c =
+    let vs = c.loop-place.records in
+    sym (without-none vs.items c.args.number (λ k d low. c.loop-place.invariant.others k d (let long = vs.ok.0 in let test = c.loop-place-test.false in let whole = ap (λ v. v.len) c.loop-place.invariant.same in omega (arith, c.len-place-end.ensures))))
+    ∙ ap (λ v. without c.args.number v.items) c.loop-place.invariant.same

@@ -1,0 +1,178 @@
+//! The program's arguments.
+
+use super::expect_parts;
+use crate::tests::expect_eq;
+use clap::Error;
+use clap::error::ErrorKind;
+use lfs_options::{DEFAULTS, Options, not_utf8, options_of};
+use lfs_types::store::Params;
+use std::alloc::Global;
+use std::process::Abort;
+
+/// Words of a command line, and what they ask for.
+const TAKEN: [(&[&str], Options); 3] = [
+    (
+        &["lfsd"],
+        Options {
+            params: DEFAULTS,
+            threads: false,
+        },
+    ),
+    (
+        &[
+            "lfsd",
+            "--inodes",
+            "16",
+            "--journal",
+            "1",
+            "--segments",
+            "6",
+            "--frames",
+            "32",
+        ],
+        Options {
+            params: Params {
+                segments: 6,
+                inodes: 16,
+                frames: 32,
+                journal: 1,
+            },
+            threads: false,
+        },
+    ),
+    (
+        &[
+            "lfsd",
+            "--threads",
+            "--journal=100000",
+            "--inodes=0004096",
+            "--segments=1024",
+            "--frames=1024",
+        ],
+        Options {
+            params: Params {
+                segments: 1024,
+                inodes: 4096,
+                frames: 1024,
+                journal: 100_000,
+            },
+            threads: true,
+        },
+    ),
+];
+
+#[test]
+fn parameters(rt: HostRuntime) {
+    for (words, options) in TAKEN {
+        let found = options_of(rt.alloc(), words).expect(&rt, "options");
+        expect_eq(&rt, found, options);
+    }
+}
+
+/// Words of command lines that are refused.
+const REFUSED: [&[&str]; 20] = [
+    &["lfsd", "--inodes", "15"],
+    &["lfsd", "--inodes", "4097"],
+    &["lfsd", "--inodes", "+16"],
+    &["lfsd", "--inodes", "-16"],
+    &["lfsd", "--inodes=-16"],
+    &["lfsd", "--inodes", "0x20"],
+    &["lfsd", "--inodes", "4294967312"],
+    &["lfsd", "--inodes", ""],
+    &["lfsd", "--inodes"],
+    &["lfsd", "--journal", "0"],
+    &["lfsd", "--journal", "100001"],
+    &["lfsd", "--journal=+1"],
+    &["lfsd", "script"],
+    &["lfsd", "--threads=1"],
+    &["lfsd", "--segments", "5"],
+    &["lfsd", "--segments", "1025"],
+    &["lfsd", "--frames", "31"],
+    &["lfsd", "--frames", "1025"],
+    &["lfsd", "--segments", "+6"],
+    &["lfsd", "--frames=+32"],
+];
+
+/// The fault of words that are refused, or a call for help.
+fn fault_of(rt: &impl Abort, alloc: Global, words: &[&str]) -> Error {
+    options_of(alloc, words).err().expect(rt, "a fault")
+}
+
+/// Asserts that the program ends with status 2 at these words.
+fn expect_refused(rt: &impl Abort, alloc: Global, words: &[&str]) {
+    expect_eq(rt, fault_of(rt, alloc, words).exit_code(), 2);
+}
+
+/// Asserts that what is told of a fault has each of these parts.
+fn expect_told(rt: &impl Abort, alloc: Global, error: &Error, parts: &[&str]) {
+    let text = format!(in alloc; "{error}").expect(rt, "memory");
+    expect_parts(rt, text.as_str(), parts);
+}
+
+#[test]
+fn usage_faults(rt: HostRuntime) {
+    for words in REFUSED {
+        expect_refused(&rt, rt.alloc(), words);
+    }
+}
+
+#[test]
+fn arguments_that_are_no_text_are_a_usage_fault(rt: HostRuntime) {
+    let error = not_utf8(rt.alloc());
+    expect_eq(&rt, error.exit_code(), 2);
+    expect_told(&rt, rt.alloc(), &error, &["UTF-8", "--help"]);
+}
+
+/// What the help tells of, among others.
+const HELP: &[&str] = &[
+    "--threads",
+    "--segments",
+    "6 to 1024",
+    "--frames",
+    "32 to 1024",
+    "--inodes",
+    "16 to 4096",
+    "--journal",
+    "1 to 100000",
+    "Example: ",
+    "docs/FORMATS.md",
+];
+
+/// Asserts that this is a call for help, which is told on standard output.
+fn expect_help(rt: &impl Abort, error: &Error) {
+    expect_eq(rt, error.kind(), ErrorKind::DisplayHelp);
+    expect_eq(rt, error.exit_code(), 0);
+    expect_eq(rt, error.use_stderr(), false);
+}
+
+#[test]
+fn help(rt: HostRuntime) {
+    let error = fault_of(&rt, rt.alloc(), &["lfsd", "--help"]);
+    expect_help(&rt, &error);
+    expect_told(&rt, rt.alloc(), &error, HELP);
+}
+
+/// Words that are refused, and how the range is told.
+const RANGES: [(&str, &str); 8] = [
+    ("--inodes=15", "16..=4096"),
+    ("--inodes=4097", "16..=4096"),
+    ("--segments=5", "6..=1024"),
+    ("--frames=31", "32..=1024"),
+    ("--frames=+32", "from 32 to 1024"),
+    ("--journal=0", "1..=100000"),
+    ("--inodes=+16", "from 16 to 4096"),
+    ("--journal=+1", "from 1 to 100000"),
+];
+
+/// Asserts that the range is told where this word is refused.
+fn expect_range(rt: &impl Abort, alloc: Global, word: &str, range: &str) {
+    let error = fault_of(rt, alloc, &["lfsd", word]);
+    expect_told(rt, alloc, &error, &[range]);
+}
+
+#[test]
+fn usage_fault_names_the_range(rt: HostRuntime) {
+    for (word, range) in RANGES {
+        expect_range(&rt, rt.alloc(), word, range);
+    }
+}

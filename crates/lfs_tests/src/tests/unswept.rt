@@ -1,0 +1,87 @@
+//! A plain store with a cleaner that finds nothing to do.
+
+ghost use Rattle.std.specs.Prelude.{◌≡◌};
+
+use lfs_types::attrs::Attrs;
+use lfs_types::cleaned::CleanedStore;
+use lfs_types::cleaner::{BlockInfo, CleanFault, InfoList, MarkList};
+use lfs_types::store::{Change, FileStore, StoreRefusal};
+use lfs_volume::flat_files::FlatFiles;
+use std::alloc::AllocError;
+
+/// Files of a plain store. Its ifile never finds memory, no segment is dirty, and no block is written again.
+#[derive(Drop)]
+pub struct Unswept {
+    files: FlatFiles,
+}
+
+impl Unswept {
+    /// The store over these files.
+    pub fn new(files: FlatFiles) -> Unswept
+        ensures { result.files ≡ files }
+    {
+        Unswept { files }
+    }
+}
+
+impl FileStore for Unswept {
+    ghost state = { λ store. ⟦<FlatFiles as FileStore>⟧.state store.files };
+
+    ghost is_settled = { λ store. ⟦<FlatFiles as FileStore>⟧.is_settled store.files };
+
+    fn attrs(&self, ino: u32) -> Option<Attrs> {
+        self.files.attrs(ino)
+    }
+
+    fn read(&mut self, ino: u32, off: u64, into: &mut [u8]) -> usize {
+        self.files.read(ino, off, into)
+    }
+
+    fn least_free(&self) -> Option<u32> {
+        self.files.least_free()
+    }
+
+    fn clean_segments(&self) -> u32 {
+        self.files.clean_segments()
+    }
+
+    fn apply(&mut self, changes: &[Change<'_>]) -> Result<(), StoreRefusal> {
+        self.files.apply(changes)
+    }
+
+    fn sync(&mut self) -> Result<(), StoreRefusal> {
+        self.files.sync()
+    }
+}
+
+impl CleanedStore for Unswept {
+    ghost use Rattle.std.specs.Prelude.{⊤};
+
+    ghost gives_ifile = { λ _ _. ⊤ };
+
+    ghost gives_infos = { λ _ _ _ _. ⊤ };
+
+    ghost gives_addresses = { λ _ _ _. ⊤ };
+
+    ghost writes_again = { λ _ _ _ _. ⊤ };
+
+    ghost reclaims = { λ _ _ _ _. ⊤ };
+
+    fn ifile_bytes(&self) -> Result<Vec<u8>, AllocError> {
+        Err(AllocError)
+    }
+
+    fn infos(&self, _segment: u32, _infos: &mut InfoList) -> Result<(), CleanFault> {
+        Err(CleanFault::NotDirty)
+    }
+
+    fn bmapv(&self, _infos: &mut [BlockInfo]) {}
+
+    fn markv(&mut self, _marks: &MarkList) -> Result<u32, CleanFault> {
+        Ok(0)
+    }
+
+    fn segclean(&mut self, _segment: u32) -> Result<(), CleanFault> {
+        Err(CleanFault::NotDirty)
+    }
+}

@@ -1,5 +1,0 @@
-use Rattle.lfs_text.proofs.RequestLemmas.{mkdir_there}
-use Rattle.lfs_text.proofs.requests.mkdir.Goals as goal
-
-pub returns : goal.returns
-returns c = mkdir_there (λ x. x.now) c.args.words.now c.in_ok-path.path c.in_ok-path.mode c.in_ok-path.ensures

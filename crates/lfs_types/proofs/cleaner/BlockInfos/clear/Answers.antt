@@ -1,5 +1,0 @@
-use Rattle.std.proofs.Common.{rules}
-use Rattle.lfs_types.proofs.cleaner.BlockInfos.clear.Goals as goal
-
-pub returns : goal.returns
-returns g c = search rules
