@@ -4,8 +4,8 @@
 //! Over a log what a call changes waits, and is written together with what other calls change. So `write-4k` and
 //! `write-small`, which overwrite the blocks of one file, hardly reach it or never; `write-sync` does with each Sync.
 //!
-//! What the calls were answered is counted on standard output. The times go to standard error, as the table that
-//! `docs/SPEED.md` keeps.
+//! What the calls were answered is counted on standard output. The times go to standard error, as a table;
+//! `docs/speed` keeps some.
 #![tactic(auto)]
 
 mod cleaned;
