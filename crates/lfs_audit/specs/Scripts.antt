@@ -3,6 +3,7 @@ use Rattle.std.specs.Prelude.{◌≡◌, ℕ, List, Option}
 use Rattle.lfs_types.specs.declared.fault.FormatFault.{FormatFault}
 use Rattle.lfs_types.specs.declared.fault.FormatFault.TheVariants as faults
 use Rattle.lfs_staging.specs.Opening.{IsTooFew, IsTooMany}
+use Rattle.lfs_staging.specs.Store.{IsSettled}
 use Rattle.lfs_staging.specs.declared.parts.Parts.{Parts}
 use Rattle.lfs_logstore.specs.Cleaning.{GivesAddresses, GivesIfile, GivesInfos, Reclaims}
 use Rattle.lfs_logstore.specs.Marking.{WritesAgain}
@@ -15,7 +16,7 @@ use Rattle.lfs_audit.specs.declared.fault.RunFault.TheVariants.{Format, Memory}
 
 -- the log store as a kind of store
 abbrev pub log_cleaner : Cleaner Parts
-log_cleaner = cleaner_of state_of GivesIfile GivesInfos GivesAddresses WritesAgain Reclaims
+log_cleaner = cleaner_of state_of IsSettled GivesIfile GivesInfos GivesAddresses WritesAgain Reclaims
 
 -- a text is that of a run of the plan of a script, on a fresh volume over a log of so many segments and inode numbers
 pub record IsLogOutput (script : List ℕ) (segments inodes limit : ℕ) (text : List ℕ) : Type 0 where

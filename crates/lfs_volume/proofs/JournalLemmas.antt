@@ -1,5 +1,5 @@
 -- Journals: the opening one, and one with an entry more.
-use Rattle.std.proofs.Common.{◌≡◌, ℕ, ◌+◌, ◌<◌, ◌≤◌, List, [], ◌∷◌, ◌++◌, length, ◌↔◌, None, inr, true, false, refl, sym, ap, subst, ◌∙◌, ⊎_elim, arith, length-append, append_assoc, append-nil}
+use Rattle.std.proofs.Common.{◌≡◌, ℕ, ◌+◌, ◌<◌, ◌≤◌, List, [], ◌∷◌, ◌++◌, length, None, inr, true, false, refl, sym, ap, subst, ◌∙◌, ⊎_elim, arith, length-append}
 use Rattle.std.proofs.lemmas.Bool.{cases_eq}
 use Rattle.std.specs.Prelude.{option_map, Result, Ok, Err, OnErr, OnOk}
 use Rattle.std.specs.FinMap as map
@@ -18,11 +18,10 @@ use Rattle.lfs_types.specs.declared.level.Level.TheVariants.{Insecure}
 use Rattle.lfs_types.specs.declared.request.Request.{Request}
 use Rattle.lfs_types.specs.declared.request.Request.TheVariants.{Stat, Read, Write, List as Names, SetLength, Create, Mkdir, Unlink, Rmdir, Rename, Chmod, Chown, Chflags, SetLevel, Sync}
 use Rattle.lfs_dirs.specs.Changes.{number_in-nil}
-use Rattle.lfs_model.specs.declared.journal.Call.{Call}
 use Rattle.lfs_model.specs.declared.journal.Entry.{Entry}
 use Rattle.lfs_model.specs.declared.journal.Event.{Event}
 use Rattle.lfs_model.specs.declared.journal.Event.TheVariants.{User, Cleaner}
-use Rattle.lfs_model.specs.Runs.{IsNoSpace, IsShort, IsUnserved, cleaned, cleans, kept, kept_entry}
+use Rattle.lfs_model.specs.Runs.{IsNoSpace, IsShort, IsUnserved, cleaned, cleans}
 use Rattle.lfs_model.specs.Steps.{IsAnswer, IsLegal, after_answer, world_of}
 use Rattle.lfs_model.proofs.Children.{child-answer}
 use Rattle.lfs_model.proofs.LevelLemmas.{level_after}
@@ -35,7 +34,7 @@ use Rattle.lfs_calls.specs.Calls.{IsCallAt, answered}
 use Rattle.lfs_calls.specs.declared.not_served.NotServed.{NotServed}
 use Rattle.lfs_calls.specs.declared.not_served.NotServed.TheVariants as reasons
 use Rattle.lfs_volume.specs.Copies.{is_lack_of_memory}
-use Rattle.lfs_volume.specs.Journals.{AreAnswers, IsAnswered, IsCaused, IsJournal, IsStep, Stays, level_left, level_set}
+use Rattle.lfs_volume.specs.Journals.{IsAnswered, IsJournal, IsStep, Stays, level_left, level_set}
 
 nothing_listed : IsListing opening_rows root []
 unfolding entries_below
@@ -192,31 +191,6 @@ IsAnswered-copy old new level level_after caller request answer a list =
       listed = λ h. absurd h;
       follows = a.follows;
     }
-
--- ---- runs
-
--- one more call was answered
-pub AreAnswers-append : (old : StoreState) (limit : ℕ) (journal : List Entry) (calls : List Call) (answers : List Answer) (call : Call) (answer : Answer)
-    → AreAnswers old limit journal calls answers
-    → ((answer ≡ Refused JournalFull) ↔ (length (journal ++ kept calls answers) ≡ limit))
-    → (length (journal ++ kept calls answers) < limit → IsCaused old (journal ++ kept calls answers) call answer)
-    → AreAnswers old limit journal (calls ++ call ∷ []) (answers ++ answer ∷ [])
-AreAnswers-append old limit journal [] [] call answer are full cause = (
-  subst (λ j. (answer ≡ Refused JournalFull) ↔ (length j ≡ limit)) (append-nil journal) full,
-  subst (λ j. length j < limit → IsCaused old j call answer) (append-nil journal) cause,
-  tt,
-)
-AreAnswers-append old limit journal [] (a ∷ answers) call answer are full cause = absurd are
-AreAnswers-append old limit journal (c ∷ calls) [] call answer are full cause = absurd are
-AreAnswers-append old limit journal (c ∷ calls) (a ∷ answers) call answer are full cause =
-    let entry = kept_entry c.session c.cred c.request a in
-    let behind = sym (append_assoc journal entry (kept calls answers)) in (
-      are.0,
-      are.1,
-      AreAnswers-append old limit (journal ++ entry) calls answers call answer are.2
-          (subst (λ j. (answer ≡ Refused JournalFull) ↔ (length j ≡ limit)) behind full)
-          (subst (λ j. length j < limit → IsCaused old j call answer) behind cause),
-    )
 
 -- ---- from what a call comes to, to its answer
 

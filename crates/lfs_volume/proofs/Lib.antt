@@ -1,3 +1,4 @@
+pub mod CallLemmas
 pub mod CleaningLemmas
 pub mod JournalLemmas
 pub mod StepLemmas

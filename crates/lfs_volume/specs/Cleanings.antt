@@ -16,9 +16,10 @@ use Rattle.lfs_model.specs.declared.journal.Event.TheVariants.{Cleaner as Cleani
 use Rattle.lfs_model.specs.Cleaning.{IsCleaning}
 use Rattle.lfs_model.specs.Runs.{cleans, kind_of, outcome_of}
 
--- a kind of store: the state that contracts see, and what each call of its cleaner may answer
+-- a kind of store: the state that contracts see, that nothing waits, and what each call of its cleaner may answer
 pub record Cleaner (F : Type 0) : Type 1 where
   pub state : F → StoreState
+  pub is_settled : F → Type 0
   pub gives_ifile : F → List ℕ → Type 0
   pub gives_infos : F → ℕ → Result (Unit {0}) CleanFault → List BlockInfo → Type 0
   pub gives_addresses : F → List BlockInfo → List BlockInfo → Type 0
@@ -26,11 +27,12 @@ pub record Cleaner (F : Type 0) : Type 1 where
   pub reclaims : F → ℕ → Result (Unit {0}) CleanFault → F → Type 0
 
 -- such a kind of store, of its parts
-abbrev pub cleaner_of : {F : Type 0} → (F → StoreState) → (F → List ℕ → Type 0) → (F → ℕ → Result (Unit {0}) CleanFault → List BlockInfo → Type 0)
+abbrev pub cleaner_of : {F : Type 0} → (F → StoreState) → (F → Type 0) → (F → List ℕ → Type 0) → (F → ℕ → Result (Unit {0}) CleanFault → List BlockInfo → Type 0)
     → (F → List BlockInfo → List BlockInfo → Type 0) → (F → List BlockInfo → Result ℕ CleanFault → F → Type 0)
     → (F → ℕ → Result (Unit {0}) CleanFault → F → Type 0) → Cleaner F
-cleaner_of state gives_ifile gives_infos gives_addresses writes_again reclaims = record {
+cleaner_of state is_settled gives_ifile gives_infos gives_addresses writes_again reclaims = record {
   state = state;
+  is_settled = is_settled;
   gives_ifile = gives_ifile;
   gives_infos = gives_infos;
   gives_addresses = gives_addresses;

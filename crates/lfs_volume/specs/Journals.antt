@@ -1,19 +1,17 @@
 -- What the journal of a volume over a store is, and how a step leaves a store and a level.
-use Rattle.std.specs.Prelude.{◌≡◌, ◌↔◌, ℕ, ◌+◌, ◌<◌, ◌≤◌, List, [], ◌∷◌, ◌++◌, length}
+use Rattle.std.specs.Prelude.{◌≡◌, ℕ, ◌+◌, ◌<◌, ◌≤◌, List, length}
 use Rattle.lfs_types.specs.Caller.{Caller}
 use Rattle.lfs_types.specs.Shown.{ServesList}
 use Rattle.lfs_types.specs.StoreStates.{Follows, StoreState}
 use Rattle.lfs_types.specs.Tree.{World, opening_world}
 use Rattle.lfs_types.specs.declared.answer.Answer.{Answer}
 use Rattle.lfs_types.specs.declared.answer.Answer.TheVariants.{Served, Denied, Refused}
-use Rattle.lfs_types.specs.declared.answer.Resource.TheVariants.{JournalFull}
 use Rattle.lfs_types.specs.declared.level.Level.{Level}
 use Rattle.lfs_types.specs.declared.request.Request.{Request}
 use Rattle.lfs_types.specs.declared.request.Request.TheVariants.{SetLevel}
-use Rattle.lfs_model.specs.declared.journal.Call.{Call}
 use Rattle.lfs_model.specs.declared.journal.Entry.{Entry}
 use Rattle.lfs_model.specs.declared.journal.Event.{Event}
-use Rattle.lfs_model.specs.Runs.{IsNoSpace, IsShort, IsUnserved, cleans, kept_entry}
+use Rattle.lfs_model.specs.Runs.{IsNoSpace, IsShort, IsUnserved, cleans}
 use Rattle.lfs_model.specs.Steps.{IsEvent, IsLegal, after_answer, after_event, world_of}
 use Rattle.lfs_calls.specs.Outcomes.{IsOutcome}
 use Rattle.lfs_calls.specs.Volumes.{InWorld, IsVolume}
@@ -69,22 +67,3 @@ pub record IsAnswered (old new : StoreState) (level level_after : Level) (caller
   pub unserved : IsUnserved answer → Stays old new level level_after
   pub listed : ServesList answer → Stays old new level level_after
   pub follows : Follows old new
-
--- A call was answered so behind a journal on a volume whose store was once in this state: over a later state of the store,
--- which shows the journal's world, and with its cause there.
-pub record IsCaused (old : StoreState) (journal : List Entry) (call : Call) (answer : Answer) : Type 0 where
-  pub store : StoreState
-  pub follows : Follows old store
-  pub shown : IsVolume store (world_of old.shape.numbers journal)
-  pub outcome : IsOutcome store (world_of old.shape.numbers journal) call.cred call.request answer
-
--- Answers to calls made one after another behind a journal: JournalFull exactly where it has its limit by then, and each
--- other with its cause in the world that the calls before it left.
-abbrev pub AreAnswers : StoreState → ℕ → List Entry → List Call → List Answer → Type 0
-AreAnswers old limit journal [] [] = Unit {0}
-AreAnswers old limit journal [] (answer ∷ answers) = ⊥
-AreAnswers old limit journal (call ∷ calls) [] = ⊥
-AreAnswers old limit journal (call ∷ calls) (answer ∷ answers) =
-    ((answer ≡ Refused JournalFull) ↔ (length journal ≡ limit))
-    × (length journal < limit → IsCaused old journal call answer)
-    × AreAnswers old limit (journal ++ kept_entry call.session call.cred call.request answer) calls answers

@@ -1,3 +1,4 @@
+pub mod CallRuns
 pub mod Cleanings
 pub mod Copies
 pub mod Journals

@@ -1,9 +1,8 @@
 -- Steps of users and of the cleaner, made one after another on a volume.
 use Rattle.std.specs.Prelude.{◌≡◌, ◌↔◌, ℕ, ◌<◌, List, [], ◌∷◌, ◌++◌, length}
 use Rattle.lfs_types.specs.Caller.{Caller}
-use Rattle.lfs_types.specs.StoreStates.{Follows, Shape}
+use Rattle.lfs_types.specs.StoreStates.{Shape}
 use Rattle.lfs_types.specs.Tree.{World}
-use Rattle.lfs_types.specs.declared.answer.Answer.TheVariants.{Refused}
 use Rattle.lfs_types.specs.declared.answer.Resource.TheVariants.{JournalFull}
 use Rattle.lfs_model.specs.declared.journal.CleanerAnswer.TheVariants as cleaner
 use Rattle.lfs_model.specs.declared.journal.Entry.{Entry}
@@ -14,19 +13,16 @@ use Rattle.lfs_model.specs.declared.steps.StepAnswer.{StepAnswer}
 use Rattle.lfs_model.specs.declared.steps.StepAnswer.TheVariants.{User, Cleaner as Cleaned}
 use Rattle.lfs_model.specs.Runs.{kept_step, users_alone}
 use Rattle.lfs_model.specs.Steps.{IsLegal, world_after, world_of}
-use Rattle.lfs_calls.specs.Outcomes.{IsOutcome}
 use Rattle.lfs_calls.specs.Volumes.{IsVolume}
+use Rattle.lfs_volume.specs.CallRuns.{IsCallMade}
 use Rattle.lfs_volume.specs.Cleanings.{Cleaner, CleansOnly, IsCleanerAnswer}
 
--- A call was answered so behind a journal, and led from one store to another: JournalFull exactly where the journal has its
--- limit, and then the store is as before; else a user's answer has its cause in the world of the journal, and a cleaner's
--- answer is that of the store's call. No segment becomes clean but by the cleaner's call that tells so.
+-- A call was answered so behind a journal, and led from one store to another: a user's as it is made alone; a cleaner's
+-- JournalFull exactly where the journal has its limit, and then the store is as before, else as the store's call answers.
+-- No segment becomes clean but by the cleaner's call that tells so.
 abbrev pub IsActMade : {F : Type 0} → Cleaner F → ℕ → List Entry → F → Caller → Act → StepAnswer → F → Type 0
 IsActMade r limit journal old caller (acts.User request) (User answer) new =
-    ((answer ≡ Refused JournalFull) ↔ (length journal ≡ limit))
-    × (length journal ≡ limit → new ≡ old)
-    × (length journal < limit → IsOutcome (r.state old) (world_of (r.state old).shape.numbers journal) caller request answer)
-    × Follows (r.state old) (r.state new)
+    IsCallMade r.state r.is_settled limit journal old caller request answer new
 IsActMade r limit journal old caller (acts.Cleaner call) (Cleaned answer) new =
     ((answer ≡ cleaner.Refused JournalFull) ↔ (length journal ≡ limit))
     × (length journal ≡ limit → new ≡ old)

@@ -18,7 +18,7 @@ use lfs_types::rule::{Denial, Rule};
 /// The answer to a cleaner's call: a denial where the caller is not the superuser, else what the store's call gives.
 pub fn cleaned<F: CleanedStore>(store: &mut F, cred: &Cred, call: CleanerCall) -> CleanerAnswer
     ensures answered { IsCleanerAnswer
-        (cleaner_of F.state F.gives_ifile F.gives_infos F.gives_addresses F.writes_again F.reclaims)
+        (cleaner_of F.state F.is_settled F.gives_ifile F.gives_infos F.gives_addresses F.writes_again F.reclaims)
         store.old cred.now call result store.new }
     ensures cleaned { IsCleaned (F.state store.old) (F.state store.new) cred.now call result }
 {
@@ -35,7 +35,7 @@ pub fn cleaned<F: CleanedStore>(store: &mut F, cred: &Cred, call: CleanerCall) -
 /// The answer to a superuser's call: what the store's call gives.
 fn done<F: CleanedStore>(store: &mut F, call: CleanerCall) -> CleanerAnswer
     ensures done { IsDone
-        (cleaner_of F.state F.gives_ifile F.gives_infos F.gives_addresses F.writes_again F.reclaims)
+        (cleaner_of F.state F.is_settled F.gives_ifile F.gives_infos F.gives_addresses F.writes_again F.reclaims)
         store.old call result store.new }
     ensures cleaned { (caller : Caller) → caller.uid ≡ 0
         → IsCleaned (F.state store.old) (F.state store.new) caller call result }

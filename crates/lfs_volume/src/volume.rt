@@ -10,9 +10,10 @@ ghost use Rattle.lfs_model.specs.Runs.{IsUnserved, kept, kept_cleaning, kept_ent
 ghost use Rattle.lfs_model.specs.Steps.{world_of};
 ghost use Rattle.lfs_calls.specs.Outcomes.{IsOutcome};
 ghost use Rattle.lfs_calls.specs.Volumes.{HasWorld, IsVolume};
+ghost use Rattle.lfs_volume.specs.CallRuns.{AreAnswers};
 ghost use Rattle.lfs_volume.specs.Cleanings.{CleansOnly, IsCleanerAnswer, cleaner_of};
 ghost use Rattle.lfs_volume.specs.Copies.{is_lack_of_memory};
-ghost use Rattle.lfs_volume.specs.Journals.{AreAnswers, IsAnswered, IsJournal, Stays, StaysJournal, level_left, level_set};
+ghost use Rattle.lfs_volume.specs.Journals.{IsAnswered, IsJournal, Stays, StaysJournal, level_left, level_set};
 ghost use Rattle.lfs_volume.specs.StepRuns.{AreLegalAlone, AreSteps, IsActMade};
 
 use crate::cleaning::{cleaned, outcome};
@@ -138,10 +139,12 @@ impl<F: FileStore + Drop> Volume<F> {
         answer
     }
 
-    /// Makes calls one after another, each as `call` does. Room for the answers is asked for before the first.
+    /// Makes calls one after another, each as `call` does, on the store that the one before it left. Room for the answers
+    /// is asked for before the first.
     pub fn run(&mut self, calls: Vec<Call>) -> Result<Vec<Answer>, RunMemory>
-        ensures each { IfOk result (λ answers. let old = self.old in
-            AreAnswers (F.state old.store) old.limit old.journal calls.items answers.items) }
+        ensures each { IfOk result (λ answers. AreAnswers F.state F.is_settled
+            self.old.limit self.old.journal self.old.store
+            calls.items answers.items self.new.store) }
         ensures entered { IfOk result (λ answers. self.new.journal
             ≡ self.old.journal ++ kept calls.items answers.items) }
         ensures legal { IsJournal (F.state self.new.store)
@@ -214,7 +217,7 @@ impl<F: CleanedStore + Drop> Volume<F> {
         ensures shown { let old = F.state self.old.store in
             IsVolume old (world_of old.shape.numbers self.old.journal) }
         ensures answered { length self.old.journal < self.old.limit → IsCleanerAnswer
-            (cleaner_of F.state F.gives_ifile F.gives_infos F.gives_addresses
+            (cleaner_of F.state F.is_settled F.gives_ifile F.gives_infos F.gives_addresses
             F.writes_again F.reclaims)
             self.old.store cred.now call result self.new.store }
         ensures entered { self.new.journal ≡ self.old.journal
@@ -243,7 +246,7 @@ impl<F: CleanedStore + Drop> Volume<F> {
     /// first. Without the cleaner's steps the users' would have the same answers.
     pub fn run_steps(&mut self, steps: Vec<Step>) -> Result<Vec<StepAnswer>, RunMemory>
         ensures each { IfOk result (λ answers. AreSteps
-            (cleaner_of F.state F.gives_ifile F.gives_infos F.gives_addresses
+            (cleaner_of F.state F.is_settled F.gives_ifile F.gives_infos F.gives_addresses
             F.writes_again F.reclaims)
             self.old.limit self.old.journal self.old.store
             steps.items answers.items self.new.store) }
@@ -272,7 +275,7 @@ impl<F: CleanedStore + Drop> Volume<F> {
     /// Makes one step, as `call` or `clean` does.
     fn make(&mut self, step: Step) -> StepAnswer
         ensures made { IsActMade
-            (cleaner_of F.state F.gives_ifile F.gives_infos F.gives_addresses
+            (cleaner_of F.state F.is_settled F.gives_ifile F.gives_infos F.gives_addresses
             F.writes_again F.reclaims)
             self.old.limit self.old.journal self.old.store
             step.cred step.act result self.new.store }

@@ -1,6 +1,6 @@
-use Rattle.std.proofs.Common.{ap}
 use Rattle.lfs_model.specs.declared.steps.StepAnswer.TheVariants.{User}
 use Rattle.lfs_volume.specs.Cleanings.{cleaner_of}
+use Rattle.lfs_volume.proofs.CallLemmas.{call_made}
 use Rattle.lfs_audit.specs.Runs.{call_step}
 use Rattle.lfs_audit.proofs.RunLemmas.{call_tells, on_ok, runs_one}
 use Rattle.lfs_audit.proofs.passing.call.Goals as goal
@@ -8,11 +8,13 @@ use Rattle.lfs_audit.proofs.passing.call.Goals as goal
 pub returns : goal.returns
 returns g c =
     let s = g.F.CleanedStore in
-    let r = cleaner_of g.F.FileStore.state s.gives_ifile s.gives_infos s.gives_addresses s.writes_again s.reclaims in
+    let r = cleaner_of g.F.FileStore.state g.F.FileStore.is_settled s.gives_ifile s.gives_infos s.gives_addresses s.writes_again s.reclaims in
     let old = c.args.volume.now in
     let new = c.call-answer.new.self in
     let e = c.call-answer.ensures in
     let step = call_step c.args.session c.args.cred.now c.args.request in
-    let ran = runs_one r old new step (User c.call-answer.result) e.shown (e.full, λ full. ap (λ v. v.store) (e.at_limit full), e.outcome, e.follows) e.entered e.limit e.follows.shape in
+    let ran = runs_one r old new step (User c.call-answer.result) e.shown
+    (call_made r.state r.is_settled old new c.args.cred.now c.args.request c.call-answer.result e.full e.at_limit e.shown e.outcome e.unserved e.synced e.follows)
+    e.entered e.limit e.follows.shape in
     on_ok c.append_answer.result c.append_answer.ensures
     (λ printed. call_tells r old new c.args.session c.args.cred.now c.args.request c.call-answer.result _ _ ran printed)

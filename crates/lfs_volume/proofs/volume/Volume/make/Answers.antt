@@ -1,8 +1,20 @@
-use Rattle.std.proofs.Common.{rules}
+use Rattle.std.proofs.Common.{rules, sym, subst}
+use Rattle.lfs_model.specs.declared.steps.Act.{Act}
+use Rattle.lfs_model.specs.declared.steps.StepAnswer.TheVariants.{User}
+use Rattle.lfs_volume.specs.Cleanings.{cleaner_of}
+use Rattle.lfs_volume.specs.StepRuns.{IsActMade}
+use Rattle.lfs_volume.proofs.CallLemmas.{call_made}
 use Rattle.lfs_volume.proofs.volume.Volume.make.Goals as goal
 
 pub returns-in-User-clause-made : goal.returns-in-User-clause-made
-returns-in-User-clause-made g c = search rules
+returns-in-User-clause-made g c =
+    let s = g.F.CleanedStore in
+    let r = cleaner_of g.F.FileStore.state g.F.FileStore.is_settled s.gives_ifile s.gives_infos s.gives_addresses s.writes_again s.reclaims in
+    let old = c.args.self.now in
+    let new = c.call.new.self in
+    let e = c.call.ensures in
+    subst (λ (act : Act). IsActMade r old.limit old.journal old.store c.args.step.cred act (User c.call.result) new.store) (sym c.in-User.is)
+    (call_made r.state r.is_settled old new c.args.step.cred c.in-User.request c.call.result e.full e.at_limit e.shown e.outcome e.unserved e.synced e.follows)
 
 pub returns-in-User-clause-entered : goal.returns-in-User-clause-entered
 returns-in-User-clause-entered g c = search rules

@@ -1,12 +1,13 @@
 use Rattle.std.proofs.Common.{◌≡◌, ◌++◌, ◌≤◌, length, vec_capacity}
 use Rattle.lfs_types.specs.StoreStates.{Follows}
 use Rattle.lfs_model.specs.Runs.{kept}
-use Rattle.lfs_volume.specs.Journals.{AreAnswers, IsJournal}
+use Rattle.lfs_volume.specs.CallRuns.{AreAnswers}
+use Rattle.lfs_volume.specs.Journals.{IsJournal}
 use Rattle.lfs_volume.proofs.volume.Volume.run.Given as goal
 
 abbrev pub invariant-loop-session : goal.invariant-loop-session
 invariant-loop-session g l = record {
-  each : AreAnswers (g.F.FileStore.state l.fn.self.store) l.fn.self.limit l.fn.self.journal l.yielded l.answers.items;
+  each : AreAnswers g.F.FileStore.state g.F.FileStore.is_settled l.fn.self.limit l.fn.self.journal l.fn.self.store l.yielded l.answers.items l.self.store;
   entered : l.self.journal ≡ l.fn.self.journal ++ kept l.yielded l.answers.items;
   legal : IsJournal (g.F.FileStore.state l.self.store) l.self.level l.self.journal l.self.limit;
   all : l.yielded ++ l.session-iterator.rest.items ≡ l.fn.calls.items;

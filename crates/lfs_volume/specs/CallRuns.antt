@@ -1,0 +1,40 @@
+-- Users' calls, made one after another on a volume.
+use Rattle.std.specs.Prelude.{◌≡◌, ◌↔◌, ℕ, ◌<◌, List, [], ◌∷◌, ◌++◌, length}
+use Rattle.lfs_types.specs.Caller.{Caller}
+use Rattle.lfs_types.specs.StoreStates.{Follows, StoreState}
+use Rattle.lfs_types.specs.declared.answer.Answer.{Answer}
+use Rattle.lfs_types.specs.declared.answer.Answer.TheVariants.{Served, Refused}
+use Rattle.lfs_types.specs.declared.answer.Resource.TheVariants.{JournalFull}
+use Rattle.lfs_types.specs.declared.answer.Served.TheVariants.{Done}
+use Rattle.lfs_types.specs.declared.request.Request.{Request}
+use Rattle.lfs_types.specs.declared.request.Request.TheVariants.{Sync}
+use Rattle.lfs_model.specs.declared.journal.Call.{Call}
+use Rattle.lfs_model.specs.declared.journal.Entry.{Entry}
+use Rattle.lfs_model.specs.Runs.{IsUnserved, kept_entry}
+use Rattle.lfs_model.specs.Steps.{world_of}
+use Rattle.lfs_calls.specs.Outcomes.{IsOutcome}
+use Rattle.lfs_calls.specs.Volumes.{IsVolume}
+
+-- A user's call was answered so behind a journal, and led from one store to another: JournalFull exactly where the journal
+-- has its limit, and then the store is as before; else the answer has its cause over the store as it was, which shows the
+-- journal's world. A call that isn't served leaves the content, a Sync that is served leaves nothing waiting, and no more
+-- segments are clean.
+pub record IsCallMade {F : Type 0} (state : F → StoreState) (is_settled : F → Type 0) (limit : ℕ) (journal : List Entry) (old : F) (caller : Caller) (request : Request) (answer : Answer) (new : F) : Type 0 where
+  pub full : (answer ≡ Refused JournalFull) ↔ (length journal ≡ limit)
+  pub at_limit : length journal ≡ limit → new ≡ old
+  pub shown : IsVolume (state old) (world_of (state old).shape.numbers journal)
+  pub outcome : length journal < limit → IsOutcome (state old) (world_of (state old).shape.numbers journal) caller request answer
+  pub unserved : IsUnserved answer → (state new).content ≡ (state old).content
+  pub synced : request ≡ Sync → answer ≡ Served Done → is_settled new
+  pub follows : Follows (state old) (state new)
+
+-- Calls were answered so behind a journal, one after another, and led from one store to another: each is made on the store
+-- that the one before it left.
+abbrev pub AreAnswers : {F : Type 0} → (F → StoreState) → (F → Type 0) → ℕ → List Entry → F → List Call → List Answer → F → Type 0
+AreAnswers state is_settled limit journal old [] [] new = new ≡ old
+AreAnswers state is_settled limit journal old [] (answer ∷ answers) new = ⊥
+AreAnswers state is_settled limit journal old (call ∷ calls) [] new = ⊥
+AreAnswers {F} state is_settled limit journal old (call ∷ calls) (answer ∷ answers) new =
+    (next : F)
+    × IsCallMade state is_settled limit journal old call.cred call.request answer next
+    × AreAnswers state is_settled limit (journal ++ kept_entry call.session call.cred call.request answer) next calls answers new
