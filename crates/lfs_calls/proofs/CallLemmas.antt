@@ -21,6 +21,7 @@ use Rattle.lfs_model.specs.Steps.{IsChanging, LacksInodes}
 use Rattle.lfs_calls.specs.declared.not_served.NotServed.TheVariants.{Denied, Refused}
 use Rattle.lfs_calls.specs.Calls.{ChangesTo, IsCallAt, LooksOn, resource_of}
 use Rattle.lfs_calls.specs.Content.{Shows}
+use Rattle.lfs_calls.specs.Entries.{LeavesEntries}
 use Rattle.lfs_calls.specs.Outcomes.{FillsDirectory, IsOutcome}
 use Rattle.lfs_calls.specs.Volumes.{InWorld, IsVolume}
 use Rattle.lfs_calls.proofs.StateLemmas.{same_content, follows_itself, follows_same}
@@ -78,6 +79,7 @@ module _ (level : Level) {s : StoreState} {caller : Caller} {request : Request} 
   denied same denial is = record {
     outcome = is;
     leaves = λ w v. still same v;
+    entries = tt;
     halted = same_content same;
     looks = looks_same request same;
     listed = λ h. absurd h;
@@ -90,6 +92,7 @@ module _ (level : Level) {s : StoreState} {caller : Caller} {request : Request} 
   lacking same resource is = record {
     outcome = is;
     leaves = λ w v. still same v;
+    entries = tt;
     halted = same_content same;
     looks = looks_same request same;
     listed = λ h. absurd h;
@@ -110,6 +113,7 @@ module _ (level : Level) {s : StoreState} {caller : Caller} {request : Request} 
       record {
         outcome = is;
         leaves = λ w v. record { shows = subst (λ (c : Content). Shows c w) (sym kept) v.shows; tree = v.tree };
+        entries = tt;
         halted = kept;
         looks = looks_kept s new request changing kept;
         listed = λ h. absurd h;
@@ -127,10 +131,12 @@ module _ (level : Level) {s : StoreState} {caller : Caller} {request : Request} 
   -- a call that changes nothing and shows something
   pub shown : {new : StoreState} → new ≡ s → (shows : Served) → InWorld s (λ w. w.level ≡ level → IsToServe s caller request w)
       → InWorld s (λ w. shows ≡ answer_of w request) → ((w : World) → effect s.shape.numbers w caller request ≡ w)
+      → ((w : World) → LeavesEntries request s.content s.content w.rows)
       → IsCallAt level s new caller request (Ok shows)
-  shown {new = new} same shows serve is stays = record {
+  shown {new = new} same shows serve is stays entries = record {
     outcome = λ w v at. let x = serve w v at in ((x.allowed, x.numbered, is w v), x.roomy);
     leaves = λ w v. subst (IsVolume new) (sym (stays w)) (still same v);
+    entries = λ w v. subst (λ (c : Content). LeavesEntries request s.content c w.rows) (sym (same_content same)) (entries w);
     halted = tt;
     looks = looks_same request same;
     listed = λ h. same_content same;
@@ -139,11 +145,13 @@ module _ (level : Level) {s : StoreState} {caller : Caller} {request : Request} 
 
   -- a call that changes files, with what it may be answered
   pub done_so : {mid new : StoreState} → mid ≡ s → LooksOn request s new → InWorld s (λ w. w.level ≡ level → IsOutcome s w caller request (answers.Served Done))
-      → InWorld s (λ w. IsVolume new (effect s.shape.numbers w caller request)) → Follows mid new
+      → InWorld s (λ w. IsVolume new (effect s.shape.numbers w caller request))
+      → InWorld s (λ w. LeavesEntries request s.content new.content w.rows) → Follows mid new
       → IsCallAt level s new caller request (Ok Done)
-  done_so same looks is leaves follows = record {
+  done_so same looks is leaves entries follows = record {
     outcome = is;
     leaves = leaves;
+    entries = entries;
     halted = tt;
     looks = looks;
     listed = λ h. absurd h;
@@ -152,6 +160,7 @@ module _ (level : Level) {s : StoreState} {caller : Caller} {request : Request} 
 
   -- a call that changes files
   pub done : {mid new : StoreState} → mid ≡ s → LooksOn request s new → InWorld s (λ w. w.level ≡ level → IsToServe s caller request w)
-      → ((w : World) → Done ≡ answer_of w request) → InWorld s (λ w. IsVolume new (effect s.shape.numbers w caller request)) → Follows mid new
+      → ((w : World) → Done ≡ answer_of w request) → InWorld s (λ w. IsVolume new (effect s.shape.numbers w caller request))
+      → InWorld s (λ w. LeavesEntries request s.content new.content w.rows) → Follows mid new
       → IsCallAt level s new caller request (Ok Done)
   done same looks serve is = done_so same looks (λ w v at. let x = serve w v at in ((x.allowed, x.numbered, is w), x.roomy))

@@ -1,5 +1,6 @@
 -- The tree and the store after a new name was put into a directory.
-use Rattle.std.proofs.Common.{◌≡◌, ◌≢◌, ℕ, ◌+◌, ◌*◌, ◌%◌, ◌<◌, ◌≤◌, List, [], ◌∷◌, length, None, Some, refl, sym, ap, subst, ◌∙◌, arith}
+use Rattle.std.proofs.Common.{◌≡◌, ◌≢◌, ℕ, ◌+◌, ◌*◌, ◌%◌, ◌<◌, ◌≤◌, List, [], ◌∷◌, length, None, Some, refl, sym, ap, subst, ◌∙◌, ⊎_elim, arith}
+use Rattle.std.proofs.lemmas.Bool.{cases_eq}
 use Rattle.std.specs.FinMap as map
 use Rattle.lfs_types.specs.Caller.{Caller}
 use Rattle.lfs_types.specs.Changes.{IsLength}
@@ -18,7 +19,7 @@ use Rattle.lfs_calls.specs.declared.walking.Reached.{Reached}
 use Rattle.lfs_model.specs.World.{children, IsTree, file_at}
 use Rattle.lfs_model.specs.Rules.{front, last, reached}
 use Rattle.lfs_model.specs.Effects.{new_file, with_new, least_unused}
-use Rattle.lfs_calls.specs.Content.{Shows, IsListing, FitsNowhere, block_at, listed}
+use Rattle.lfs_calls.specs.Content.{Shows, IsListing, FitsNowhere, KeepsOthers, block_at, listed}
 use Rattle.lfs_calls.specs.Makes.{CanEnter, EntersFirst, IsBlockOf, IsParent, IsRoom, ListsFirst, MakesFile}
 use Rattle.lfs_model.specs.Steps.{AllUsed}
 use Rattle.lfs_model.proofs.Children.{child-new, child-new_other}
@@ -170,12 +171,19 @@ module _ {c : Content} {w : World} (shows : Shows c w) {path : List (List ℕ)} 
         absurd (omega arith)
 
     -- the directory lists the name where there is room first
-    pub enters_first : (before after : Content) → before ≡ c → (file : File) → MakesFile before after number file dir.number room.off room.block → EntersFirst c after w.rows path
-    enters_first before after same file made =
+    pub enters_first : (before after : Content) → before ≡ c → map.get c number ≡ None → (file : File) → file.bytes ≡ [] → MakesFile before after number file dir.number room.off room.block
+        → EntersFirst c after w.rows path
+    enters_first before after same unused file empty made =
         let makes = subst (λ x. MakesFile x after number file dir.number room.off room.block) same made in
         let bytes : bytes_of after dir.number ≡ splice (bytes_of c dir.number) room.off room.block =
         ap bytes_of_file (makes.listed f.file f.stored) ∙ ap (λ bs. splice bs room.off room.block) (sym dir_bytes) in
-        subst (λ m. ListsFirst (bytes_of c m) (bytes_of after m) (last path)) (sym is.object) (number, room, k, (fits, bytes))
+        subst (λ m. ListsFirst (bytes_of c m) (bytes_of after m) (last path) × KeepsOthers m c after) (sym is.object) (
+          (number, room, k, (fits, bytes)),
+          (λ n apart _. ⊎_elim
+              (λ at. ap (λ m. bytes_of after m) at ∙ ap bytes_of_file makes.made ∙ empty ∙ sym (ap bytes_of_file unused) ∙ ap (λ m. bytes_of c m) (sym at))
+              (λ other. ap bytes_of_file (makes.others n other apart))
+              (cases_eq n number)),
+        )
 
     -- the directory is ready for a block to be written
     pub room_ready : IsBlockOf c dir.number room

@@ -8,6 +8,7 @@ pub mod CreateLemmas
 pub mod Crowded
 pub mod CutLemmas
 pub mod Directories
+pub mod EntryLemmas
 pub mod GrownStore
 pub mod LastNames
 pub mod ListLemmas

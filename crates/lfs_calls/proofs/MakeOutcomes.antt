@@ -3,7 +3,7 @@ use Rattle.std.proofs.Common.{◌≡◌, ℕ, ◌≤◌, List, length, None, Som
 use Rattle.lfs_types.specs.Caller.{Caller}
 use Rattle.lfs_types.specs.Stored.{bytes_of, MayRefuse}
 use Rattle.lfs_types.specs.StoreStates.{StoreState}
-use Rattle.lfs_types.specs.Tree.{World, root}
+use Rattle.lfs_types.specs.Tree.{World, Content, root}
 use Rattle.lfs_types.specs.declared.answer.Answer.{Answer}
 use Rattle.lfs_types.specs.declared.answer.Answer.TheVariants.{Served, Denied, Refused}
 use Rattle.lfs_types.specs.declared.answer.Resource.TheVariants.{NoInodes, DirectoryFull}
@@ -12,11 +12,12 @@ use Rattle.lfs_types.specs.declared.attrs.Kind.{Kind}
 use Rattle.lfs_types.specs.declared.attrs.Kind.TheVariants.{File as Regular, Directory}
 use Rattle.lfs_types.specs.declared.rule.Denial.{Denial}
 use Rattle.lfs_types.specs.declared.store.StoreRefusal.{StoreRefusal}
-use Rattle.lfs_model.specs.World.{children}
+use Rattle.lfs_model.specs.World.{Rows, children}
 use Rattle.lfs_model.specs.Rules.{first_failing, making, front, last, reached}
 use Rattle.lfs_model.specs.Effects.{with_new}
 use Rattle.lfs_calls.specs.Content.{FitsNowhere}
-use Rattle.lfs_calls.specs.Makes.{request_for}
+use Rattle.lfs_calls.specs.Entries.{LeavesEntries}
+use Rattle.lfs_calls.specs.Makes.{EntersFirst, request_for}
 use Rattle.lfs_calls.specs.Outcomes.{IsOutcome}
 use Rattle.lfs_model.specs.Steps.{AllUsed, IsChanging, after_answer}
 use Rattle.lfs_calls.specs.Calls.{LooksOn, resource_of}
@@ -26,6 +27,11 @@ use Rattle.lfs_calls.proofs.WriteLemmas.{refused_outcome}
 pub make_changing : (path : List (List ℕ)) (mode : ℕ) (kind : Kind) → IsChanging (request_for kind path mode)
 make_changing path mode Regular = tt
 make_changing path mode Directory = tt
+
+-- it leaves the entries where its kinds do
+pub make_entries : (old new : Content) (rows : Rows) (path : List (List ℕ)) (mode : ℕ) (kind : Kind) → EntersFirst old new rows path → LeavesEntries (request_for kind path mode) old new rows
+make_entries old new rows path mode Regular enters = enters
+make_entries old new rows path mode Directory enters = enters
 
 -- and does not look alone
 pub make_looks : (old new : StoreState) (path : List (List ℕ)) (mode : ℕ) (kind : Kind) → LooksOn (request_for kind path mode) old new

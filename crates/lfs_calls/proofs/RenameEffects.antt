@@ -3,19 +3,16 @@ use Rattle.std.proofs.Common.{◌≡◌, ◌≢◌, ℕ, ◌≤◌, ◌==◌, co
 use Rattle.std.specs.Prelude.{if◌then◌else◌}
 use Rattle.std.specs.FinMap as map
 use Rattle.lfs_types.specs.Caller.{Caller}
-use Rattle.lfs_types.specs.Changes.{changed_at}
-use Rattle.lfs_types.specs.Splicing.{splice}
 use Rattle.lfs_types.specs.Stored.{bytes_of, bytes_of_file}
-use Rattle.lfs_types.specs.Tree.{File, Row, World, Content, root}
+use Rattle.lfs_types.specs.Tree.{Row, World, Content, root}
 use Rattle.lfs_types.specs.declared.request.Request.TheVariants.{Rename}
-use Rattle.lfs_calls.specs.declared.making.Room.{Room}
 use Rattle.lfs_calls.specs.declared.renaming.Move.{Move}
 use Rattle.lfs_calls.specs.declared.renaming.Places.{Places}
 use Rattle.lfs_model.specs.World.{child, children, IsTree}
 use Rattle.lfs_model.specs.Rules.{front, last, reached}
 use Rattle.lfs_model.specs.Effects.{after_rename, effect, with_place, without_row}
 use Rattle.lfs_calls.specs.Content.{Shows, FitsNowhere}
-use Rattle.lfs_calls.specs.Makes.{IsRoom, ListsFirst}
+use Rattle.lfs_calls.specs.Makes.{IsRoom}
 use Rattle.lfs_calls.specs.Removes.{IsTaking}
 use Rattle.lfs_calls.specs.Outcomes.{FillsDirectory, taken_from}
 use Rattle.lfs_calls.specs.Renames.{ArePlaces, AreSwapped, HasNoRoom, IsMove, IsSwap, Leaves, MovesFirst, SwapsBlocks, SwapsInPlace, WritesBlocks, block_put, name_left}
@@ -26,15 +23,6 @@ use Rattle.lfs_calls.proofs.MovedPlaces.{above, at_file, f, g, hung, kind_old, s
 use Rattle.lfs_calls.proofs.MovedStore.{Shows-moved}
 use Rattle.lfs_calls.proofs.SwappedRows.{swapped}
 use Rattle.lfs_calls.proofs.SwappedStore.{Shows-swapped}
-use Rattle.lfs_model.proofs.Trees.{not_in_itself}
-use Rattle.lfs_types.proofs.Maps.{get-insert_same, get-remove_other}
-
--- a block that was written is one of the bytes
-put_bytes : (c : Content) (q : ℕ) (room : Room) (f : File) → map.get c q ≡ Some f → bytes_of (block_put q room c) q ≡ splice (bytes_of c q) room.off room.block
-put_bytes c q room f there =
-    ap (λ o. bytes_of (changed_at o q (λ x. record x { bytes = splice x.bytes room.off room.block }) c) q) there
-    ∙ ap bytes_of_file (get-insert_same c q (record f { bytes = splice f.bytes room.off room.block }))
-    ∙ ap (λ o. splice (bytes_of_file o) room.off room.block) (sym there)
 
 module _ {c : Content} {w : World} (shows : Shows c w) (tree : IsTree w.rows) (caller : Caller) {from to : List (List ℕ)} {move : Move} (is : IsMove c w.rows from to move) where
   abbrev p : ℕ
@@ -133,15 +121,20 @@ module _ {c : Content} {w : World} (shows : Shows c w) (tree : IsTree w.rows) (c
       -- the new name is listed where there was room first
       pub moves_first : MovesFirst c after w.rows from to
       moves_first =
-          let e = g shows tree leaves found.taking.1 in
           let mid = block_put p places.taken c in
-          let bytes : bytes_of after q ≡ splice (bytes_of mid q) places.room.off places.room.block =
-          ap bytes_of_file (writes q) ∙ put_bytes mid q places.room e.value e.is in
+          let dir = reached w.rows root (front to) in
           record {
             taken = places.taken;
             takes = (found.taking.0, subst (λ m. IsTaking (bytes_of c m) (last from) places.taken found.taking.0) (sym is.removal.object) found.taking.1);
-            lists = subst (λ m. ListsFirst (bytes_of (block_put m places.taken c) (reached w.rows root (front to))) (bytes_of after (reached w.rows root (front to))) (last to)) (sym is.removal.object)
-                (subst (λ m. ListsFirst (bytes_of mid m) (bytes_of after m) (last to)) (sym is.arrival.object) (n, places.room, found.room.0, (found.room.1, bytes)));
+            room = places.room;
+            lists = (
+              found.room.0,
+              subst (λ k. IsRoom (bytes_of (block_put k places.taken c) dir) (reached w.rows root from) (last to) places.room found.room.0) (sym is.removal.object)
+                  (subst (λ k. IsRoom (bytes_of (block_put p places.taken c) k) (reached w.rows root from) (last to) places.room found.room.0) (sym is.arrival.object)
+                  (subst (λ k. IsRoom (bytes_of mid q) k (last to) places.room found.room.0) (sym is.removal.row) found.room.1)),
+            );
+            written = subst (λ k. WritesBlocks c after k places.taken dir places.room) (sym is.removal.object)
+                (subst (λ k. WritesBlocks c after p places.taken k places.room) (sym is.arrival.object) writes);
           }
 
   -- ---- the store, with the row in the place of another
@@ -167,16 +160,10 @@ module _ {c : Content} {w : World} (shows : Shows c w) (tree : IsTree w.rows) (c
           after writes)
 
       -- the new name keeps its place, with the row's number
-      pub swaps_place : SwapsInPlace c after w.rows from to
+      pub swaps_place : SwapsInPlace c after w.rows from to m
       swaps_place =
-          let e = g shows tree leaves found.taking.1 in
           let mid = block_put p places.taken c in
-          let hangs = child-is w.rows q (last to) m there in
-          let left : map.get (map.remove (block_put q places.room mid) m) q ≡ map.get (block_put q places.room mid) q = get-remove_other _ m q (not_in_itself w.rows tree q (last to) m hangs) in
-          let bytes : bytes_of after q ≡ splice (bytes_of mid q) places.room.off places.room.block =
-          ap bytes_of_file (writes q ∙ left) ∙ put_bytes mid q places.room e.value e.is in
           let dir = reached w.rows root (front to) in
-          let old_dir = reached w.rows root (front from) in
           record {
             taken = places.taken;
             takes = (found.taking.0, subst (λ k. IsTaking (bytes_of c k) (last from) places.taken found.taking.0) (sym is.removal.object) found.taking.1);
@@ -187,6 +174,6 @@ module _ {c : Content} {w : World} (shows : Shows c w) (tree : IsTree w.rows) (c
                   (subst (λ k. IsSwap (bytes_of mid k) (last to) (reached w.rows root from) places.room found.swap.0) (sym is.arrival.object)
                   (subst (λ k. IsSwap (bytes_of mid q) (last to) k places.room found.swap.0) (sym is.removal.row) found.swap.1)),
             );
-            written = subst (λ k. bytes_of after dir ≡ splice (bytes_of (block_put k places.taken c) dir) places.room.off places.room.block) (sym is.removal.object)
-                (subst (λ k. bytes_of after k ≡ splice (bytes_of mid k) places.room.off places.room.block) (sym is.arrival.object) bytes);
+            written = subst (λ k. SwapsBlocks c after k places.taken dir places.room m) (sym is.removal.object)
+                (subst (λ k. SwapsBlocks c after p places.taken k places.room m) (sym is.arrival.object) writes);
           }

@@ -23,6 +23,7 @@ use Rattle.lfs_types.specs.declared.store.StoreRefusal.{StoreRefusal}
 use Rattle.lfs_types.specs.declared.store.StoreRefusal.TheVariants.{NoSpace, NoMemory}
 use Rattle.lfs_calls.specs.Calls.{answered, resource_of}
 use Rattle.lfs_calls.specs.Content.{Shows}
+use Rattle.lfs_calls.specs.Entries.{OnServed}
 use Rattle.lfs_calls.specs.Outcomes.{FillsDirectory, IsOutcome}
 use Rattle.lfs_calls.specs.Renames.{GoesWith, HasNoRoom, IsCauseOf, IsMove, IsTarget, PlacesName, PlacesOver, PlacesRow, target_number}
 use Rattle.lfs_calls.specs.Volumes.{IsVolume}
@@ -53,6 +54,11 @@ halted_volume s {w} v caller request (reasons.Refused resource) after same = rec
 pub not_listed : (why : NotServed) → ServesList (answered (Err why)) → ⊥
 not_listed (reasons.Denied denial) h = h
 not_listed (reasons.Refused resource) h = h
+
+-- nor anything else
+pub nothing_served : (P : Type 0) (why : NotServed) → OnServed (answered (Err why)) P
+nothing_served P (reasons.Denied denial) = tt
+nothing_served P (reasons.Refused resource) = tt
 
 -- an error is no success
 pub no_error : {A B E : Type 0} {error : E} {value : B} → Err error ≡ Ok value → A
@@ -122,8 +128,8 @@ module _ (s : StoreState) {w : World} (v : IsVolume s w) (caller : Caller) {from
         → PlacesName s.content after.content w.rows from to (child w.rows (reached w.rows root (front to)) (last to))
     placed after o there h = subst (PlacesName s.content after.content w.rows from to) (sym (ap (λ m. child w.rows m (last to)) is.arrival.object ∙ there)) h
 
-    placed_over : (after : StoreState) (m : ℕ) (b : Bool) → (m == n) ≡ b → PlacesOver b s.content after.content w.rows from to → PlacesName s.content after.content w.rows from to (Some m)
-    placed_over after m b e h = subst (λ x. PlacesOver x s.content after.content w.rows from to) (sym (ap (λ k. m == k) is.removal.row ∙ e)) h
+    placed_over : (after : StoreState) (m : ℕ) (b : Bool) → (m == n) ≡ b → PlacesOver b s.content after.content w.rows from to m → PlacesName s.content after.content w.rows from to (Some m)
+    placed_over after m b e h = subst (λ x. PlacesOver x s.content after.content w.rows from to m) (sym (ap (λ k. m == k) is.removal.row ∙ e)) h
 
     pub renamed : (t : Target) → move.target ≡ t → (after : StoreState) → PlacesRow s move (last from) (last to) t (Ok tt) after → Renamed after
     renamed targets.Itself e after h =

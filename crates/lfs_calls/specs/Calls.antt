@@ -18,6 +18,7 @@ use Rattle.lfs_types.specs.declared.store.StoreRefusal.TheVariants.{NoSpace, NoM
 use Rattle.lfs_model.specs.Steps.{after_answer}
 use Rattle.lfs_calls.specs.declared.not_served.NotServed.{NotServed}
 use Rattle.lfs_calls.specs.declared.not_served.NotServed.TheVariants.{Denied, Refused}
+use Rattle.lfs_calls.specs.Entries.{LeavesEntries, OnServed}
 use Rattle.lfs_calls.specs.Outcomes.{IsOutcome}
 use Rattle.lfs_calls.specs.Volumes.{InWorld, IsVolume}
 
@@ -49,10 +50,12 @@ LooksOn Sync old new = new.content ≡ old.content
 LooksOn request old new = Unit {0}
 
 -- A caller made a call of a store at this securelevel, and it came to this: the answer has its cause, the store shows
--- the world that the answer leaves, a call that halts, looks or lists changes nothing, and no more segments are clean.
+-- the world that the answer leaves, a served call leaves the entries of directories in their places, a call that halts,
+-- looks or lists changes nothing, and no more segments are clean.
 pub record IsCallAt (level : Level) (old new : StoreState) (caller : Caller) (request : Request) (result : Result Served NotServed) : Type 0 where
   pub outcome : InWorld old (λ w. w.level ≡ level → IsOutcome old w caller request (answered result))
   pub leaves : InWorld old (λ w. IsVolume new (after_answer old.shape.numbers w caller request (answered result)))
+  pub entries : OnServed (answered result) (InWorld old (λ w. LeavesEntries request old.content new.content w.rows))
   pub halted : OnErr result (new.content ≡ old.content)
   pub looks : LooksOn request old new
   pub listed : ServesList (answered result) → new.content ≡ old.content

@@ -1,5 +1,5 @@
 -- What a store's content shows as a world.
-use Rattle.std.specs.Prelude.{◌≡◌, ℕ, zero, suc, ◌+◌, ◌*◌, ◌/◌, ◌%◌, ◌<◌, List, [], ◌++◌, length, take, drop, Option, None, Some, IsSome, option_map}
+use Rattle.std.specs.Prelude.{◌≡◌, ◌≢◌, ℕ, zero, suc, ◌+◌, ◌*◌, ◌/◌, ◌%◌, ◌<◌, List, [], ◌++◌, length, take, drop, Option, None, Some, IsSome, IsSomeAnd, option_map}
 use Rattle.std.specs.FinMap as map
 use Rattle.lfs_types.specs.declared.limits.TheConstants.{FILE_BLOCKS, FILE_BYTES}
 use Rattle.lfs_types.specs.declared.block.TheConstants.{BLOCK_SIZE}
@@ -57,6 +57,17 @@ pub record Shows (c : Content) (w : World) : Type 0 where
   pub files : (n : ℕ) → option_map visible (map.get c n) ≡ option_map (λ (r : Row). r.file) (map.get w.rows n)
   pub sizes : (n : ℕ) (f : File) → map.get c n ≡ Some f → IsLength f.kind (length f.bytes)
   pub listings : (n : ℕ) (f : File) → map.get c n ≡ Some f → f.kind ≡ Directory → IsListing w.rows n f.bytes
+
+-- A number has a directory. But for one number, each directory has the bytes that it had; one that is new has none.
+abbrev pub IsDirectoryAt : Content → ℕ → Type 0
+IsDirectoryAt c n = IsSomeAnd (map.get c n) (λ f. f.kind ≡ Directory)
+
+abbrev pub KeepsOthers : ℕ → Content → Content → Type 0
+KeepsOthers dir old new = (n : ℕ) → n ≢ dir → IsDirectoryAt new n → bytes_of new n ≡ bytes_of old n
+
+-- each directory has the bytes that it had
+abbrev pub KeepsDirectories : Content → Content → Type 0
+KeepsDirectories old new = (n : ℕ) → IsDirectoryAt new n → bytes_of new n ≡ bytes_of old n
 
 -- entries without that of a name, if one is given
 abbrev pub left_of : Option (List ℕ) → List Entry → List Entry

@@ -2,6 +2,7 @@ pub mod Arrivals
 pub mod Attributes
 pub mod Calls
 pub mod Content
+pub mod Entries
 pub mod Makes
 pub mod Outcomes
 pub mod Reaches

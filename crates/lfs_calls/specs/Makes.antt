@@ -19,7 +19,7 @@ use Rattle.lfs_calls.specs.declared.making.Room.{Room}
 use Rattle.lfs_calls.specs.declared.walking.Reached.{Reached}
 use Rattle.lfs_model.specs.World.{Rows, child}
 use Rattle.lfs_model.specs.Rules.{front, last, reached}
-use Rattle.lfs_calls.specs.Content.{AreBlocks, HasBlocks, block_at, listed}
+use Rattle.lfs_calls.specs.Content.{AreBlocks, HasBlocks, KeepsOthers, block_at, listed}
 
 -- a directory that a path's names before the last lead to, and that hasn't the last name, as the store shows it
 pub record IsParent (c : Content) (rows : Rows) (path : List (List ℕ)) (dir : Reached) : Type 0 where
@@ -89,8 +89,8 @@ abbrev pub ListsFirst : List ℕ → List ℕ → List ℕ → Type 0
 ListsFirst old new name =
     (number : ℕ) × (room : Room) × (k : ℕ) × (IsRoom old number name room k × (new ≡ splice old room.off room.block))
 
--- the directory of a new path's last name lists it so
+-- the directory of a new path's last name lists it so, and all other directories keep their bytes
 abbrev pub EntersFirst : Content → Content → Rows → List (List ℕ) → Type 0
 EntersFirst old new rows path =
     let dir = reached rows root (front path) in
-    ListsFirst (bytes_of old dir) (bytes_of new dir) (last path)
+    ListsFirst (bytes_of old dir) (bytes_of new dir) (last path) × KeepsOthers dir old new

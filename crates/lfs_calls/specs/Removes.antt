@@ -13,7 +13,7 @@ use Rattle.lfs_calls.specs.declared.making.Room.{Room}
 use Rattle.lfs_calls.specs.declared.removing.Removal.{Removal}
 use Rattle.lfs_model.specs.World.{Rows, child}
 use Rattle.lfs_model.specs.Rules.{front, last, reached}
-use Rattle.lfs_calls.specs.Content.{AreBlocks, HasBlocks, block_at, listed}
+use Rattle.lfs_calls.specs.Content.{AreBlocks, HasBlocks, KeepsOthers, block_at, listed}
 
 -- the row that a path leads to, and its directory, as the store shows them
 pub record IsRemoval (c : Content) (rows : Rows) (path : List (List ℕ)) (removal : Removal) : Type 0 where
@@ -62,3 +62,14 @@ pub record TakesFile (old new : Content) (number dir off : ℕ) (block : List �
 abbrev pub TakesRow : Content → Content → Removal → List ℕ → Type 0
 TakesRow old new removal name =
     (room : Room) × (k : ℕ) × (IsTaking (bytes_of old removal.dir.number) name room k × TakesFile old new removal.file.number removal.dir.number room.off room.block)
+
+-- A directory's bytes list a name no more: the block that listed it was written without it, closed up, and all other
+-- blocks, and how many there are, are what they were.
+abbrev pub ListsNoMore : List ℕ → List ℕ → List ℕ → Type 0
+ListsNoMore old new name = (room : Room) × (k : ℕ) × (IsTaking old name room k × (new ≡ splice old room.off room.block))
+
+-- the directory of a path's last name lists it no more, and all other directories keep their bytes
+abbrev pub ClosesUp : Content → Content → Rows → List (List ℕ) → Type 0
+ClosesUp old new rows path =
+    let dir = reached rows root (front path) in
+    ListsNoMore (bytes_of old dir) (bytes_of new dir) (last path) × KeepsOthers dir old new

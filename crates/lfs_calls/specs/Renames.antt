@@ -22,7 +22,7 @@ use Rattle.lfs_types.specs.declared.answer.Served.TheVariants.{Done}
 use Rattle.lfs_types.specs.declared.request.Request.TheVariants.{Rename}
 use Rattle.lfs_model.specs.Rules.{decide, front, last, reached}
 use Rattle.lfs_calls.specs.Arrivals.{IsArrival}
-use Rattle.lfs_calls.specs.Makes.{IsRoom, ListsFirst, StandsIn, with_block}
+use Rattle.lfs_calls.specs.Makes.{IsRoom, StandsIn, with_block}
 use Rattle.std.specs.Borrow.{Bor}
 use Rattle.lfs_types.specs.StoreStates.{Follows, StoreState}
 use Rattle.lfs_types.specs.Stored.{MayRefuse}
@@ -83,14 +83,15 @@ pub record ArePlaces (c : Content) (move : Move) (old new : List ℕ) (places : 
   pub taking : (k : ℕ) × IsTaking (bytes_of c move.removal.dir.number) old places.taken k
   pub room : (k : ℕ) × IsRoom (bytes_of (block_put move.removal.dir.number places.taken c) move.dir.number) move.removal.file.number new places.room k
 
--- A Rename's new name stands in the first block of its directory where it fits, once the old name was taken away, or
--- else in a new one at the end.
+-- A Rename's new name stands in the first block of its directory where it fits, once the old name was taken away from its
+-- own, or else in a new one at the end; nothing but these two blocks was written.
 pub record MovesFirst (old new : Content) (rows : Rows) (from to : List (List ℕ)) : Type 0 where
   pub taken : Room
   pub takes : (k : ℕ) × IsTaking (bytes_of old (reached rows root (front from))) (last from) taken k
-  pub lists : ListsFirst
-      (bytes_of (block_put (reached rows root (front from)) taken old) (reached rows root (front to)))
-      (bytes_of new (reached rows root (front to))) (last to)
+  pub room : Room
+  pub lists : (k : ℕ) × IsRoom (bytes_of (block_put (reached rows root (front from)) taken old) (reached rows root (front to)))
+      (reached rows root from) (last to) room k
+  pub written : WritesBlocks old new (reached rows root (front from)) taken (reached rows root (front to)) room
 
 -- ---- a name that is there
 
@@ -119,25 +120,25 @@ abbrev pub SwapsBlocks : Content → Content → ℕ → Room → ℕ → Room �
 SwapsBlocks old new first taken second room gone =
     (q : ℕ) → map.get new q ≡ map.get (map.remove (block_put second room (block_put first taken old)) gone) q
 
--- A Rename over another row: its old name was taken away, and the new one has its number in the entry's place.
-pub record SwapsInPlace (old new : Content) (rows : Rows) (from to : List (List ℕ)) : Type 0 where
+-- A Rename over another row: its old name was taken away, and the new one has its number in the entry's place; nothing but
+-- these two blocks was written, and nothing but the other row removed.
+pub record SwapsInPlace (old new : Content) (rows : Rows) (from to : List (List ℕ)) (gone : ℕ) : Type 0 where
   pub taken : Room
   pub takes : (k : ℕ) × IsTaking (bytes_of old (reached rows root (front from))) (last from) taken k
   pub room : Room
   pub swaps : (k : ℕ) × IsSwap (bytes_of (block_put (reached rows root (front from)) taken old) (reached rows root (front to)))
       (last to) (reached rows root from) room k
-  pub written : bytes_of new (reached rows root (front to))
-      ≡ splice (bytes_of (block_put (reached rows root (front from)) taken old) (reached rows root (front to))) room.off room.block
+  pub written : SwapsBlocks old new (reached rows root (front from)) taken (reached rows root (front to)) room gone
 
 -- how a Rename onto a name that is there leaves them, by whether it is its own
-abbrev pub PlacesOver : Bool → Content → Content → Rows → List (List ℕ) → List (List ℕ) → Type 0
-PlacesOver true old new rows from to = new ≡ old
-PlacesOver false old new rows from to = SwapsInPlace old new rows from to
+abbrev pub PlacesOver : Bool → Content → Content → Rows → List (List ℕ) → List (List ℕ) → ℕ → Type 0
+PlacesOver true old new rows from to there = new ≡ old
+PlacesOver false old new rows from to there = SwapsInPlace old new rows from to there
 
 -- how a Rename leaves the entries, by what has the new name
 abbrev pub PlacesName : Content → Content → Rows → List (List ℕ) → List (List ℕ) → Option ℕ → Type 0
 PlacesName old new rows from to None = MovesFirst old new rows from to
-PlacesName old new rows from to (Some m) = PlacesOver (m == reached rows root from) old new rows from to
+PlacesName old new rows from to (Some m) = PlacesOver (m == reached rows root from) old new rows from to m
 
 -- a directory of this size, in one of whose blocks another may be read, lists a name, which may get this number
 pub record CanSwap (c : Content) (dir size : ℕ) (taken : Option (Bor Room)) (name : List ℕ) (number : ℕ) : Type 0 where

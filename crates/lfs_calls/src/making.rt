@@ -1,6 +1,6 @@
 //! The calls that make a row.
 
-ghost use Rattle.std.specs.Prelude.{◌≡◌, ℕ, [], ◌∷◌, ◌≤◌, ◌+◌, ◌%◌, ◌<◌, IsSome, IfSome, Some, None, is_none, length, take, drop, MatchOption, OnOk};
+ghost use Rattle.std.specs.Prelude.{◌≡◌, ℕ, [], ◌∷◌, ◌≤◌, ◌+◌, ◌%◌, ◌<◌, IsSome, IfSome, Some, None, is_none, length, take, drop, MatchOption};
 ghost use Rattle.std.specs.FinMap.{get};
 ghost use Rattle.lfs_types.specs.declared.path.TheConstants.{PATH_MAX};
 ghost use Rattle.lfs_types.specs.declared.block.TheConstants.{BLOCK_SIZE};
@@ -13,7 +13,7 @@ ghost use Rattle.lfs_model.specs.Rules.{Judges, judged, making, making_tests};
 ghost use Rattle.lfs_calls.specs.Calls.{ChangesTo, IsCall};
 ghost use Rattle.lfs_calls.specs.Volumes.{HasWorld, InWorld};
 ghost use Rattle.lfs_calls.specs.Content.{FitsNowhere};
-ghost use Rattle.lfs_calls.specs.Makes.{CanEnter, CanMake, EntersFirst, IsParent, request_for, IsRoom, StandsIn, with_block, MakesFile};
+ghost use Rattle.lfs_calls.specs.Makes.{CanEnter, CanMake, IsParent, request_for, IsRoom, StandsIn, with_block, MakesFile};
 
 use crate::directory::{look_up, read_block};
 use crate::not_served::NotServed;
@@ -193,10 +193,8 @@ pub fn create<F: FileStore>(
     mode: Mode,
 ) -> Result<Served, NotServed>
     requires { HasWorld (F.state store.old) }
-    ensures call { IsCall (F.state store.old) (F.state store.new) cred.now (Request.Create path.now mode)
+    ensures { IsCall (F.state store.old) (F.state store.new) cred.now (Request.Create path.now mode)
         result }
-    ensures place { OnOk result (InWorld (F.state store.old) (λ w.
-        EntersFirst (F.state store.old).content (F.state store.new).content w.rows path.now)) }
 {
     make(store, cred, path, Kind::File, mode)
 }
@@ -209,10 +207,8 @@ pub fn mkdir<F: FileStore>(
     mode: Mode,
 ) -> Result<Served, NotServed>
     requires { HasWorld (F.state store.old) }
-    ensures call { IsCall (F.state store.old) (F.state store.new) cred.now (Request.Mkdir path.now mode)
+    ensures { IsCall (F.state store.old) (F.state store.new) cred.now (Request.Mkdir path.now mode)
         result }
-    ensures place { OnOk result (InWorld (F.state store.old) (λ w.
-        EntersFirst (F.state store.old).content (F.state store.new).content w.rows path.now)) }
 {
     make(store, cred, path, Kind::Directory, mode)
 }
@@ -226,10 +222,8 @@ fn make<F: FileStore>(
     mode: Mode,
 ) -> Result<Served, NotServed>
     requires { HasWorld (F.state store.old) }
-    ensures call { IsCall (F.state store.old) (F.state store.new) cred.now (request_for kind path.now mode)
+    ensures { IsCall (F.state store.old) (F.state store.new) cred.now (request_for kind path.now mode)
         result }
-    ensures place { OnOk result (InWorld (F.state store.old) (λ w.
-        EntersFirst (F.state store.old).content (F.state store.new).content w.rows path.now)) }
 {
     let names = path.names();
     let dir = judge_make(store, cred, 0, names)?;

@@ -13,7 +13,7 @@ ghost use Rattle.lfs_calls.specs.Volumes.{HasWorld, InWorld, IsVolume};
 ghost use Rattle.lfs_calls.specs.Content.{FitsNowhere};
 ghost use Rattle.lfs_model.specs.Walks.{is_on_way};
 ghost use Rattle.lfs_calls.specs.Makes.{IsBlockOf, with_block};
-ghost use Rattle.lfs_calls.specs.Renames.{ArePlaces, AreSwapped, CanSwap, GoesOver, GoesTo, GoesWith, HasNoRoom, IsMove, IsSwap, IsTarget, MovesOver, MovesTo, PlacesName, PlacesRow, PutsRow, StaysInPlace, SwapsBlocks, WritesBlocks, name_left, target_number};
+ghost use Rattle.lfs_calls.specs.Renames.{ArePlaces, AreSwapped, CanSwap, GoesOver, GoesTo, GoesWith, HasNoRoom, IsMove, IsSwap, IsTarget, MovesOver, MovesTo, PlacesRow, PutsRow, StaysInPlace, SwapsBlocks, WritesBlocks, name_left, target_number};
 ghost use Rattle.lfs_model.specs.Walks.{walked};
 ghost use Rattle.lfs_model.specs.World.{child};
 ghost use Rattle.lfs_calls.specs.Arrivals.{IsArrival};
@@ -352,9 +352,6 @@ pub fn rename<F: FileStore>(
     ensures call { IsCall (F.state store.old) (F.state store.new) cred.now
         (Request.Rename from.now to.now)
         result }
-    ensures place { OnOk result (InWorld (F.state store.old) (λ w.
-        PlacesName (F.state store.old).content (F.state store.new).content w.rows from.now to.now
-        (child w.rows (reached w.rows root (front to.now)) (last to.now)))) }
     ensures stays { InWorld (F.state store.old) (λ w.
         StaysInPlace (F.state store.old) (F.state store.new) w cred.now from.now to.now result) }
 {

@@ -12,6 +12,7 @@ use Rattle.lfs_model.specs.declared.journal.Call.{Call}
 use Rattle.lfs_model.specs.declared.journal.Entry.{Entry}
 use Rattle.lfs_model.specs.Runs.{IsUnserved, kept, kept_entry}
 use Rattle.lfs_model.specs.Steps.{world_of}
+use Rattle.lfs_calls.specs.Entries.{LeavesEntries, OnServed}
 use Rattle.lfs_calls.specs.Outcomes.{IsOutcome}
 use Rattle.lfs_calls.specs.Volumes.{IsVolume}
 use Rattle.lfs_volume.specs.CallRuns.{AreAnswers, IsCallMade}
@@ -24,15 +25,17 @@ pub call_made : {F : Type 0} (state : F → StoreState) (is_settled : F → Type
     → (length old.journal ≡ old.limit → new ≡ old)
     → IsVolume (state old.store) (world_of (state old.store).shape.numbers old.journal)
     → (length old.journal < old.limit → IsOutcome (state old.store) (world_of (state old.store).shape.numbers old.journal) caller request answer)
+    → OnServed answer (LeavesEntries request (state old.store).content (state new.store).content (world_of (state old.store).shape.numbers old.journal).rows)
     → (IsUnserved answer → Stays (state old.store) (state new.store) old.level new.level)
     → (request ≡ Sync → answer ≡ Served Done → is_settled new.store)
     → Follows (state old.store) (state new.store)
     → IsCallMade state is_settled old.limit old.journal old.store caller request answer new.store
-call_made {F} state is_settled old new caller request answer full at_limit shown outcome unserved synced follows = record {
+call_made {F} state is_settled old new caller request answer full at_limit shown outcome entries unserved synced follows = record {
   full = full;
   at_limit = λ h. ap (λ (v : Seen F). v.store) (at_limit h);
   shown = shown;
   outcome = outcome;
+  entries = entries;
   unserved = λ h. (unserved h).content;
   synced = synced;
   follows = follows;

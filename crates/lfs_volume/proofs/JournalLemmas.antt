@@ -28,8 +28,9 @@ use Rattle.lfs_model.proofs.LevelLemmas.{level_after}
 use Rattle.lfs_model.proofs.RunLemmas.{root_row, only_fresh, no_child, opening_rows, opening_tree, world_after-append, IsLegal-append, list_copies}
 use Rattle.lfs_types.proofs.Maps.{get-insert_same, get-insert_other}
 use Rattle.lfs_calls.specs.Content.{visible, Shows, IsListing, entries_below}
+use Rattle.lfs_calls.specs.Entries.{OnServed}
 use Rattle.lfs_calls.specs.Outcomes.{IsOutcome}
-use Rattle.lfs_calls.specs.Volumes.{HasWorld, IsVolume}
+use Rattle.lfs_calls.specs.Volumes.{HasWorld, InWorld, IsVolume}
 use Rattle.lfs_calls.specs.Calls.{IsCallAt, answered}
 use Rattle.lfs_calls.specs.declared.not_served.NotServed.{NotServed}
 use Rattle.lfs_calls.specs.declared.not_served.NotServed.TheVariants as reasons
@@ -187,6 +188,7 @@ IsAnswered-copy old new level level_after caller request answer a list =
       outcome = λ w shown e. copy_outcome old w caller request answer (a.outcome w shown e) list;
       leaves = λ w shown. record { shows = subst (λ c. Shows c w) (sym stays.content) shown.shows; tree = shown.tree };
       leveled = λ w e. e ∙ sym stays.at_level;
+      entries = tt;
       unserved = λ h. stays;
       listed = λ h. absurd h;
       follows = a.follows;
@@ -264,10 +266,17 @@ of_call old new level left caller request result answer has call is sets =
       outcome = call.outcome;
       leaves = call.leaves;
       leveled = λ w e. answer_level old.shape.numbers w caller level request (answered result) e ∙ sym (sets ∙ ap (level_left level request) is);
+      entries = call.entries;
       unserved = λ h. record { content = unserved_content result call.halted h; at_level = sets ∙ ap (level_left level request) is ∙ unserved_level level request (answered result) h };
       listed = λ h. record { content = call.listed h; at_level = sets ∙ ap (level_left level request) is ∙ listed_level old here caller level request (answered result) (call.outcome here shown refl) h };
       follows = call.follows;
     })
+
+-- what holds of the world of a journal where a call is served
+pub entries_at : (P : World → Type 0) (s : StoreState) (answer : Answer) (w : World) → IsVolume s w → OnServed answer (InWorld s P) → OnServed answer (P w)
+entries_at P s (Served shown) w v h = h w v
+entries_at P s (Denied denial) w v h = tt
+entries_at P s (Refused resource) w v h = tt
 
 -- where a call came to an answer that it is done, what holds of each call that did holds
 pub on_done : (result : Result Shown NotServed) (answer : Answer) (P : Type 0) → answer ≡ answered result → answer ≡ Served Done → OnOk result P → P

@@ -12,18 +12,20 @@ use Rattle.lfs_model.specs.declared.journal.Call.{Call}
 use Rattle.lfs_model.specs.declared.journal.Entry.{Entry}
 use Rattle.lfs_model.specs.Runs.{IsUnserved, kept_entry}
 use Rattle.lfs_model.specs.Steps.{world_of}
+use Rattle.lfs_calls.specs.Entries.{LeavesEntries, OnServed}
 use Rattle.lfs_calls.specs.Outcomes.{IsOutcome}
 use Rattle.lfs_calls.specs.Volumes.{IsVolume}
 
 -- A user's call was answered so behind a journal, and led from one store to another: JournalFull exactly where the journal
 -- has its limit, and then the store is as before; else the answer has its cause over the store as it was, which shows the
--- journal's world. A call that isn't served leaves the content, a Sync that is served leaves nothing waiting, and no more
--- segments are clean.
+-- journal's world. A call that is served leaves the entries of directories in their places, and a Sync nothing waiting;
+-- one that isn't leaves the content; and no more segments are clean.
 pub record IsCallMade {F : Type 0} (state : F → StoreState) (is_settled : F → Type 0) (limit : ℕ) (journal : List Entry) (old : F) (caller : Caller) (request : Request) (answer : Answer) (new : F) : Type 0 where
   pub full : (answer ≡ Refused JournalFull) ↔ (length journal ≡ limit)
   pub at_limit : length journal ≡ limit → new ≡ old
   pub shown : IsVolume (state old) (world_of (state old).shape.numbers journal)
   pub outcome : length journal < limit → IsOutcome (state old) (world_of (state old).shape.numbers journal) caller request answer
+  pub entries : OnServed answer (LeavesEntries request (state old).content (state new).content (world_of (state old).shape.numbers journal).rows)
   pub unserved : IsUnserved answer → (state new).content ≡ (state old).content
   pub synced : request ≡ Sync → answer ≡ Served Done → is_settled new
   pub follows : Follows (state old) (state new)

@@ -8,6 +8,7 @@ ghost use Rattle.lfs_types.specs.declared.level.Level.TheVariants.{Insecure};
 ghost use Rattle.lfs_model.specs.Counts.{counts_of};
 ghost use Rattle.lfs_model.specs.Runs.{IsUnserved, kept, kept_cleaning, kept_entry, kept_step, kept_steps};
 ghost use Rattle.lfs_model.specs.Steps.{world_of};
+ghost use Rattle.lfs_calls.specs.Entries.{LeavesEntries, OnServed};
 ghost use Rattle.lfs_calls.specs.Outcomes.{IsOutcome};
 ghost use Rattle.lfs_calls.specs.Volumes.{HasWorld, IsVolume};
 ghost use Rattle.lfs_volume.specs.CallRuns.{AreAnswers};
@@ -79,8 +80,8 @@ impl<F: FileStore + Drop> Volume<F> {
         })
     }
 
-    /// Makes a user's call: judges it by the rules on the tree that the journal leads to, does it, and enters it. Where a
-    /// Sync is served, nothing waits in the store.
+    /// Makes a user's call: judges it by the rules on the tree that the journal leads to, does it, and enters it. A served
+    /// call leaves the entries of directories in their places, and a Sync nothing waiting in the store.
     pub fn call(&mut self, session: u8, cred: &Cred, request: Request) -> Answer
         ensures full { (result ≡ Answer.Refused Resource.JournalFull)
             ↔ (length self.old.journal ≡ self.old.limit) }
@@ -94,6 +95,9 @@ impl<F: FileStore + Drop> Volume<F> {
             ++ kept_entry session cred.now request result }
         ensures legal { IsJournal (F.state self.new.store)
             self.new.level self.new.journal self.new.limit }
+        ensures entries { let old = F.state self.old.store in OnServed result
+            (LeavesEntries request old.content (F.state self.new.store).content
+            (world_of old.shape.numbers self.old.journal).rows) }
         ensures unserved { IsUnserved result
             → Stays (F.state self.old.store) (F.state self.new.store)
             self.old.level self.new.level }
@@ -120,6 +124,9 @@ impl<F: FileStore + Drop> Volume<F> {
             ++ kept_entry session cred.now request result }
         ensures legal { IsJournal (F.state self.new.store)
             self.new.level self.new.journal self.new.limit }
+        ensures entries { let old = F.state self.old.store in OnServed result
+            (LeavesEntries request old.content (F.state self.new.store).content
+            (world_of old.shape.numbers self.old.journal).rows) }
         ensures unserved { IsUnserved result
             → Stays (F.state self.old.store) (F.state self.new.store)
             self.old.level self.new.level }

@@ -3,6 +3,7 @@ use Rattle.std.proofs.lemmas.Result.{err_from_is_err_and}
 use Rattle.lfs_types.specs.Tree.{File}
 use Rattle.lfs_calls.proofs.AttributeLemmas.{attrs_set, kind_stored}
 use Rattle.lfs_calls.proofs.CallLemmas.{done, refused}
+use Rattle.lfs_calls.proofs.EntryLemmas.{attrs_keep}
 use Rattle.lfs_calls.proofs.PathLemmas.{chflags_path, barred, not_reached, serves}
 use Rattle.lfs_calls.proofs.attributes.chflags.Goals as goal
 
@@ -34,4 +35,5 @@ returns g c =
     (serves (chflags_path c.args.level c.args.cred.now c.args.path.now c.args.flags) c.in_ok-file.file c.in_ok-file.ensures.reach c.depth.result c.depth.ensures c.in_ok-may_chflags.ensures (λ w h. h) (λ w h. h))
     (λ w. refl)
     (attrs_set c.args.cred.now c.args.path.now c.find.ensures.state c.in_ok-file.file c.in_ok-file.ensures.reach (g.F.FileStore.state c.set_attrs.new.store) (record c.in_ok-file.file.attrs { flags = c.args.flags }) refl (λ (f : File). record f { flags = c.args.flags }) (λ bytes. refl) c.in_ok-set_attrs.ensures.ok)
+    (attrs_keep c.args.cred.now c.args.path.now c.find.ensures.state c.in_ok-file.file c.in_ok-file.ensures.reach (g.F.FileStore.state c.set_attrs.new.store) _ c.in_ok-set_attrs.ensures.ok)
     c.in_ok-set_attrs.ensures.follows

@@ -4,6 +4,7 @@ use Rattle.lfs_types.specs.Tree.{file_of}
 use Rattle.lfs_model.specs.Effects.{given}
 use Rattle.lfs_calls.proofs.AttributeLemmas.{attrs_set, kind_stored}
 use Rattle.lfs_calls.proofs.CallLemmas.{done, refused}
+use Rattle.lfs_calls.proofs.EntryLemmas.{attrs_keep}
 use Rattle.lfs_calls.proofs.PathLemmas.{chown_path, barred, not_reached, serves}
 use Rattle.lfs_calls.proofs.attributes.chown.Goals as goal
 
@@ -35,4 +36,5 @@ returns g c level =
     (serves (chown_path level c.args.cred.now c.args.path.now c.args.uid c.args.gid) c.in_ok-file.file c.in_ok-file.ensures.reach c.depth.result c.depth.ensures c.in_ok-may_chown.ensures (λ w h. h) (λ w h. h))
     (λ w. refl)
     (attrs_set c.args.cred.now c.args.path.now c.find.ensures.state c.in_ok-file.file c.in_ok-file.ensures.reach (g.F.FileStore.state c.set_attrs.new.store) (record c.in_ok-file.file.attrs { uid = c.args.uid; gid = c.args.gid; mode = c.mode_after-mode.result }) refl (given c.args.cred.now c.args.uid c.args.gid) (λ bytes. ap (λ m. file_of (record c.in_ok-file.file.attrs { uid = c.args.uid; gid = c.args.gid; mode = m }) bytes) c.mode_after-mode.ensures) c.in_ok-set_attrs.ensures.ok)
+    (attrs_keep c.args.cred.now c.args.path.now c.find.ensures.state c.in_ok-file.file c.in_ok-file.ensures.reach (g.F.FileStore.state c.set_attrs.new.store) _ c.in_ok-set_attrs.ensures.ok)
     c.in_ok-set_attrs.ensures.follows

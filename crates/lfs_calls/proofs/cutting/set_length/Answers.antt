@@ -8,6 +8,7 @@ use Rattle.lfs_model.proofs.Deciding.{judged_all}
 use Rattle.lfs_calls.proofs.CallLemmas.{done, refused}
 use Rattle.lfs_calls.proofs.ChangeLemmas.{change_regular, change_more}
 use Rattle.lfs_calls.proofs.CutLemmas.{cut_volume}
+use Rattle.lfs_calls.proofs.EntryLemmas.{bytes_keep}
 use Rattle.lfs_calls.proofs.PathLemmas.{length_path, barred, not_reached, serves}
 use Rattle.lfs_calls.proofs.StateLemmas.{same_content}
 use Rattle.lfs_types.specs.Stored.{shown_attrs}
@@ -52,4 +53,6 @@ returns g c level =
     (λ w. refl)
     (cut_volume (g.F.FileStore.state c.cut.new.store) c.args.cred.now c.args.path.now c.find.ensures.state file c.in_ok-file.ensures.reach c.args.len
     (change_regular c.args.cred.now false file.attrs c.depth.result (asks (nat_le c.args.len 71680) FitsFile 0 c.depth.result ∷ []) tests) (leb-true _ _ (change_more c.args.cred.now false file.attrs c.depth.result (nat_le c.args.len 71680) (record { rule = FitsFile; path = 0; at = c.depth.result }) tests)) c.in_ok-cut.ensures.ok)
+    (bytes_keep c.args.cred.now c.args.path.now c.find.ensures.state file c.in_ok-file.ensures.reach (g.F.FileStore.state c.cut.new.store)
+    (change_regular c.args.cred.now false file.attrs c.depth.result (asks (nat_le c.args.len 71680) FitsFile 0 c.depth.result ∷ []) tests) _ c.in_ok-cut.ensures.ok)
     c.in_ok-cut.ensures.follows

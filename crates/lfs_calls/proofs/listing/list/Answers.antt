@@ -56,6 +56,7 @@ returns-in-Ok-clause-call g c level =
     ap served.Names c.from.ensures
     ∙ list_answer content w v.shows v.tree c.args.path.now dir (walked-reached w.rows c.args.cred.now 0 0 root c.args.path.now dir.number r.0) r.1 directory c.sorted.result.items moved c.sorted.ensures.order)
     (λ w. refl)
+    (λ w n dir. refl)
 
 pub returns-in-Err-clause-call : goal.returns-in-Err-clause-call
 returns-in-Err-clause-call g c level =

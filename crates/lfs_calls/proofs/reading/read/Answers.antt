@@ -53,6 +53,7 @@ returns-in-Some-clause-call g c level =
     (c.from.ensures ∙ c.in-Some.ensures.bytes ∙ ap (λ x. slice_of (bytes_of x file.number) c.args.off c.min-count.result) (same_content c.find.ensures.state)
     ∙ ap (slice_of (bytes_of content file.number) c.args.off) c.min-count.ensures))
     (λ w. refl)
+    (λ w n dir. refl)
 
 pub returns-in-None-clause-call : goal.returns-in-None-clause-call
 returns-in-None-clause-call g c level =

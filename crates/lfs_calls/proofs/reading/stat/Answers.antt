@@ -20,3 +20,4 @@ returns-clause-call g c level =
     (λ w v. let r = leads w v in
     stat_answer (g.F.FileStore.state c.args.store.now).content w v.shows c.args.cred.now c.args.path.now file.number file.attrs r.0 r.1 c.shown_size-size.result c.shown_size-size.ensures.directory c.shown_size-size.ensures.file)
     (λ w. refl)
+    (λ w n dir. refl)

@@ -6,6 +6,7 @@ use Rattle.lfs_calls.specs.declared.not_served.NotServed.TheVariants.{Denied, Re
 use Rattle.lfs_calls.specs.Calls.{IsCallAt, resource_of}
 use Rattle.lfs_calls.specs.Removes.{HangsAs, TakesRow}
 use Rattle.lfs_calls.proofs.CallLemmas.{denied, done, refused, still}
+use Rattle.lfs_calls.proofs.EntryLemmas.{closes_up}
 use Rattle.lfs_calls.proofs.RowLemmas.{row_hangs, row_taken}
 use Rattle.lfs_calls.proofs.StateLemmas.{same_content}
 use Rattle.lfs_calls.proofs.removing.rmdir.Goals as goal
@@ -53,5 +54,7 @@ returns g c level =
     (λ w v at. record { allowed = (c.in_ok-removal.ensures.judge w v).0; numbered = λ h. h; roomy = λ h. h })
     (λ w. refl)
     (row_taken new names c.in_ok-removal.removal c.judge_rmdir.ensures.state (λ w v. (c.in_ok-removal.ensures.judge w v).1)
+    (subst (λ name. TakesRow (g.F.FileStore.state c.judge_rmdir.new.store).content new.content c.in_ok-removal.removal name) c.last_name.ensures.name c.in_ok-take_row.ensures.ok))
+    (closes_up new names c.in_ok-removal.removal c.judge_rmdir.ensures.state (λ w v. (c.in_ok-removal.ensures.judge w v).1)
     (subst (λ name. TakesRow (g.F.FileStore.state c.judge_rmdir.new.store).content new.content c.in_ok-removal.removal name) c.last_name.ensures.name c.in_ok-take_row.ensures.ok))
     c.in_ok-take_row.ensures.follows)

@@ -10,7 +10,7 @@ use Rattle.lfs_calls.specs.Renames.{GoesWith, IsMove, PlacesRow}
 use Rattle.lfs_calls.specs.Volumes.{IsVolume}
 use Rattle.lfs_calls.specs.declared.not_served.NotServed.{NotServed}
 use Rattle.lfs_calls.proofs.CallLemmas.{denied, done_so, still}
-use Rattle.lfs_calls.proofs.RenameOutcomes.{follows_placed, goes_with, halted_volume, halts_so, leaves_volume, no_error, not_listed, placed_none, renamed, stays_so}
+use Rattle.lfs_calls.proofs.RenameOutcomes.{follows_placed, goes_with, halted_volume, halts_so, leaves_volume, no_error, not_listed, nothing_served, placed_none, renamed, stays_so}
 use Rattle.lfs_calls.proofs.StateLemmas.{same_content}
 use Rattle.lfs_calls.proofs.renaming.rename.Goals as goal
 use Rattle.lfs_calls.proofs.renaming.rename.Goals.{After-last_name-new}
@@ -98,6 +98,7 @@ returns-in_err-place_row-clause-call g c level =
     let call : IsCallAt level (before g k) after c.args.cred.now (Rename c.args.from.now c.args.to.now) (Err c.in_err-place_row.field-0.0) = record {
       outcome = λ w v at_level. halts_so (before g k) v c.args.cred.now (move g k w v) (judged_so g k w v).0 (short g k c.as_bytes.ensures.bounded) m.target refl c.in_err-place_row.field-0.0 after put;
       leaves = λ w v. halted_volume (before g k) v c.args.cred.now (Rename c.args.from.now c.args.to.now) c.in_err-place_row.field-0.0 after none.0;
+      entries = nothing_served _ c.in_err-place_row.field-0.0;
       halted = none.0;
       looks = tt;
       listed = λ h. absurd (not_listed c.in_err-place_row.field-0.0 h);
@@ -122,15 +123,8 @@ returns-clause-call g c level =
     done_so level refl tt
     (λ w v at_level. (((judged_so g k w v).0, (λ none. none), refl), (renamed (before g k) v c.args.cred.now (move g k w v) (judged_so g k w v).0 m.target refl after put).roomy))
     (λ w v. leaves_volume (before g k) v c.args.cred.now (move g k w v) (judged_so g k w v).0 after (renamed (before g k) v c.args.cred.now (move g k w v) (judged_so g k w v).0 m.target refl after put))
+    (λ w v. (renamed (before g k) v c.args.cred.now (move g k w v) (judged_so g k w v).0 m.target refl after put).place)
     (follows_placed (before g k) m (last c.args.from.now) (last c.args.to.now) m.target after put)
-
--- the entries are left as they should be
-pub returns-clause-place : goal.returns-clause-place
-returns-clause-place g c w v =
-    let k = (goal.at.returns-clause-place g c).After-last_name-new in
-    let after = g.F.FileStore.state c.place_row.new.store in
-    let put = placed_so g k (Ok tt) after c.in_ok-place_row.ensures in
-    (renamed (before g k) v c.args.cred.now (move g k w v) (judged_so g k w v).0 c.in_ok-planned.planned.target refl after put).place
 
 -- and where the row has its place already, nothing changes
 pub returns-clause-stays : goal.returns-clause-stays

@@ -36,11 +36,11 @@ returns-in-Sync-clause-call g c =
 
 pub returns-in-Create-clause-call : goal.returns-in-Create-clause-call
 returns-in-Create-clause-call g c =
-    subst (λ r. IsCallAt c.args.level (g.F.FileStore.state c.args.store.now) (g.F.FileStore.state c.create.new.store) c.args.cred.now r c.create.result) (sym c.in-Create.is) (c.create.ensures.call c.args.level)
+    subst (λ r. IsCallAt c.args.level (g.F.FileStore.state c.args.store.now) (g.F.FileStore.state c.create.new.store) c.args.cred.now r c.create.result) (sym c.in-Create.is) (c.create.ensures c.args.level)
 
 pub returns-in-Mkdir-clause-call : goal.returns-in-Mkdir-clause-call
 returns-in-Mkdir-clause-call g c =
-    subst (λ r. IsCallAt c.args.level (g.F.FileStore.state c.args.store.now) (g.F.FileStore.state c.mkdir.new.store) c.args.cred.now r c.mkdir.result) (sym c.in-Mkdir.is) (c.mkdir.ensures.call c.args.level)
+    subst (λ r. IsCallAt c.args.level (g.F.FileStore.state c.args.store.now) (g.F.FileStore.state c.mkdir.new.store) c.args.cred.now r c.mkdir.result) (sym c.in-Mkdir.is) (c.mkdir.ensures c.args.level)
 
 pub returns-in-Unlink-clause-call : goal.returns-in-Unlink-clause-call
 returns-in-Unlink-clause-call g c =

@@ -11,6 +11,7 @@ use Rattle.lfs_model.proofs.Deciding.{judged_all}
 use Rattle.lfs_calls.specs.Volumes.{InWorld, IsVolume}
 use Rattle.lfs_calls.proofs.CallLemmas.{done, refused, shown}
 use Rattle.lfs_calls.proofs.ChangeLemmas.{change_regular, change_more, size_fits}
+use Rattle.lfs_calls.proofs.EntryLemmas.{bytes_keep}
 use Rattle.lfs_calls.proofs.PathLemmas.{write_path, barred, not_reached, serves}
 use Rattle.lfs_calls.proofs.WriteLemmas.{write_volume, write_nothing}
 use Rattle.lfs_calls.proofs.writing.write.Goals as goal
@@ -51,6 +52,7 @@ returns-then-is_empty g c level =
     (serves (write_path level c.args.cred.now c.args.path.now c.args.place c.args.bytes.now) c.in_ok-file.file c.in_ok-file.ensures.reach c.depth.result c.depth.ensures (tested g k) (λ w h. h) (λ w h. h))
     (λ w v. refl)
     (λ w. write_nothing w c.args.cred.now c.args.path.now c.args.place c.args.bytes.now none)
+    (λ w n dir. refl)
 
 pub put-requires-clause-fits : goal.put-requires-clause-fits
 put-requires-clause-fits g c =
@@ -84,4 +86,5 @@ returns g c level =
     (subst (λ (bs : List ℕ). InWorld old (λ w. IsVolume new (after_write w c.args.cred.now c.args.path.now c.args.place bs))) c.as_slice-bytes.ensures.value
     (write_volume new c.args.cred.now c.args.path.now c.args.place c.find.ensures.state c.in_ok-file.file c.in_ok-file.ensures.reach (regular g k) c.start_in.result bytes some c.start_in.ensures
     (omega (arith, leb-true _ _ (fitting g k), c.start_in.ensures)) c.in_ok-put.ensures.ok))
+    (bytes_keep c.args.cred.now c.args.path.now c.find.ensures.state c.in_ok-file.file c.in_ok-file.ensures.reach new (regular g k) _ c.in_ok-put.ensures.ok)
     c.in_ok-put.ensures.follows

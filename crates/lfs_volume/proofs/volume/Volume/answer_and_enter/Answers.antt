@@ -5,9 +5,10 @@ use Rattle.lfs_types.specs.declared.answer.Answer.TheVariants.{Refused}
 use Rattle.lfs_types.specs.declared.answer.Resource.TheVariants.{NoMemory}
 use Rattle.lfs_model.specs.declared.journal.Event.TheVariants.{User}
 use Rattle.lfs_model.specs.Steps.{world_of}
+use Rattle.lfs_calls.specs.Entries.{LeavesEntries, OnServed}
 use Rattle.lfs_calls.specs.Outcomes.{IsOutcome}
 use Rattle.lfs_volume.specs.Journals.{IsStep}
-use Rattle.lfs_volume.proofs.JournalLemmas.{IsJournal-same, IsStep-answered}
+use Rattle.lfs_volume.proofs.JournalLemmas.{entries_at, IsJournal-same, IsStep-answered}
 use Rattle.lfs_volume.proofs.volume.Volume.answer_and_enter.Goals as goal
 use Rattle.lfs_volume.proofs.volume.Volume.answer_and_enter.Goals.{After-answer_twice-answers, After-enter}
 
@@ -50,6 +51,13 @@ returns-clause-outcome g c =
     let j = c.self.invariant.0 in
     subst (λ v. IsOutcome (g.F.FileStore.state v.store) (world_of (g.F.FileStore.state v.store).shape.numbers v.journal) c.args.cred.now c.args.request c.in-Some.answer) c.self.view_is
     (c.in-Some.ensures.answered.2.outcome (world g k) j.shown j.at_level)
+
+pub returns-clause-entries : goal.returns-clause-entries
+returns-clause-entries g c =
+    let k = (goal.at.returns-clause-entries g c).After-answer_twice-answers in
+    let j = c.self.invariant.0 in
+    subst (λ v. OnServed c.in-Some.answer (LeavesEntries c.args.request (g.F.FileStore.state v.store).content (after g k).content (world_of (g.F.FileStore.state v.store).shape.numbers v.journal).rows)) c.self.view_is
+    (entries_at (λ w. LeavesEntries c.args.request (before g k).content (after g k).content w.rows) (before g k) c.in-Some.answer (world g k) j.shown c.in-Some.ensures.answered.2.entries)
 
 pub returns-clause-legal : goal.returns-clause-legal
 returns-clause-legal g c =

@@ -29,6 +29,9 @@ returns-then-len-self-clause-entered g c = search rules
 pub returns-then-len-self-clause-legal : goal.returns-then-len-self-clause-legal
 returns-then-len-self-clause-legal g c = search rules
 
+pub returns-then-len-self-clause-entries : goal.returns-then-len-self-clause-entries
+returns-then-len-self-clause-entries g c = search rules
+
 pub returns-then-len-self-clause-unserved : goal.returns-then-len-self-clause-unserved
 returns-then-len-self-clause-unserved g c = search rules
 
@@ -58,6 +61,9 @@ returns-clause-entered g c = search rules
 
 pub returns-clause-legal : goal.returns-clause-legal
 returns-clause-legal g c = search rules
+
+pub returns-clause-entries : goal.returns-clause-entries
+returns-clause-entries g c = search rules
 
 pub returns-clause-unserved : goal.returns-clause-unserved
 returns-clause-unserved g c = search rules

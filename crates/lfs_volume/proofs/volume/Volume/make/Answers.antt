@@ -14,7 +14,7 @@ returns-in-User-clause-made g c =
     let new = c.call.new.self in
     let e = c.call.ensures in
     subst (λ (act : Act). IsActMade r old.limit old.journal old.store c.args.step.cred act (User c.call.result) new.store) (sym c.in-User.is)
-    (call_made r.state r.is_settled old new c.args.step.cred c.in-User.request c.call.result e.full e.at_limit e.shown e.outcome e.unserved e.synced e.follows)
+    (call_made r.state r.is_settled old new c.args.step.cred c.in-User.request c.call.result e.full e.at_limit e.shown e.outcome e.entries e.unserved e.synced e.follows)
 
 pub returns-in-User-clause-entered : goal.returns-in-User-clause-entered
 returns-in-User-clause-entered g c = search rules
