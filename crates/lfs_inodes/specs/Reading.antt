@@ -6,7 +6,7 @@ use Rattle.lfs_types.specs.declared.attrs.Kind.TheVariants.{File, Directory}
 use Rattle.lfs_types.specs.declared.block.TheConstants.{BLOCK_SIZE}
 use Rattle.lfs_types.specs.declared.limits.TheConstants.{FILE_BYTES, MOST_INODES}
 use Rattle.lfs_inodes.specs.declared.inode.Inode.{Inode}
-use Rattle.lfs_inodes.specs.declared.inode.TheConstants.{ADDRESS_LIMIT, DIRECT_COUNT}
+use Rattle.lfs_inodes.specs.declared.inode.TheConstants.{ADDRESS_LIMIT, DIRECT_COUNT, ROOT_COUNT}
 use Rattle.lfs_inodes.specs.Bytes.{number_at}
 use Rattle.lfs_inodes.specs.Facts.{IsInodeNumber, IsSizeOf, block_count}
 use Rattle.lfs_inodes.specs.Addresses.{addresses, numbers}
@@ -27,10 +27,10 @@ pub record AreFields (f : Fields) : Type 0 where
   pub permitted : f.attributes.mode < 4096
   pub flagged : IsKnown f.attributes.flags
   pub sized : IsSizeOf f.attributes.kind f.attributes.size
-  pub whole : length f.addresses ≡ 13
-  pub in_volume : (n : ℕ) → n < 13 → slice_index f.addresses n < ADDRESS_LIMIT
+  pub whole : length f.addresses ≡ ROOT_COUNT
+  pub in_volume : (n : ℕ) → n < ROOT_COUNT → slice_index f.addresses n < ADDRESS_LIMIT
   -- only blocks below the size have an address, and an indirect block is there with more than 12
-  pub within : (n : ℕ) → n < 13 → block_count f.attributes.size ≤ n → slice_index f.addresses n ≡ 0
+  pub within : (n : ℕ) → n < ROOT_COUNT → block_count f.attributes.size ≤ n → slice_index f.addresses n ≡ 0
 
 -- The tests of the fields.
 abbrev pub is_inode_number : ℕ → Bool
@@ -85,7 +85,7 @@ read kind bytes = record {
     flags = number_at bytes 24 4;
     size = number_at bytes 28 8;
   };
-  addresses = numbers bytes 36 13;
+  addresses = numbers bytes 36 ROOT_COUNT;
 }
 
 abbrev pub fields_as : Kind → List ℕ → Option Fields

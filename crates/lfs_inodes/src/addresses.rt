@@ -8,7 +8,7 @@ ghost use Rattle.lfs_inodes.specs.Addresses.{addresses, cells, address_of};
 ghost use Rattle.lfs_inodes.specs.Attributes.{attributes};
 
 use crate::bytes::{put_u32, u32_at};
-use crate::inode::{ADDRESS_LIMIT, DIRECT_COUNT, Inode};
+use crate::inode::{ADDRESS_LIMIT, DIRECT_COUNT, Inode, ROOT_COUNT};
 use lfs_types::block::{BLOCK_SIZE, Block};
 
 /// The address of block `n`, which lies below the size; 0 where it has none. Blocks from 12 on stand
@@ -50,7 +50,36 @@ pub fn with_address(inode: &Inode, indirect: &Block, n: u32, address: u32) -> (I
     }
 }
 
+/// The address at a place of the record, 0 to 12: those of blocks 0 to 11, then that of the indirect
+/// block.
+pub fn root_address(inode: &Inode, place: usize) -> u32
+    requires { place < ROOT_COUNT }
+    ensures { result ≡ slice_index (addresses inode.now) place }
+{
+    if place < DIRECT_COUNT {
+        inode.direct[place]
+    } else {
+        inode.single
+    }
+}
+
 impl Inode {
+    /// The inode with this address at a place of the record; 0 is none. It leads to blocks below the
+    /// size.
+    pub fn with_root(&self, place: usize, address: u32) -> Inode
+        requires place { place < ROOT_COUNT }
+        requires within { place < block_count self.now.size }
+        requires in_volume { address < ADDRESS_LIMIT }
+        ensures attributes { attributes result ≡ attributes self.now }
+        ensures addresses { addresses result ≡ slice_set (addresses self.now) place address }
+    {
+        if place < DIRECT_COUNT {
+            self.with_direct(place, address)
+        } else {
+            self.with_single(address)
+        }
+    }
+
     /// The inode with this address for block `n`, 0 to 11, which lies below the size.
     pub fn with_direct(&self, n: usize, address: u32) -> Inode
         requires direct { n < DIRECT_COUNT }

@@ -5,7 +5,7 @@ ghost use Rattle.lfs_inodes.specs.Addresses.{addresses};
 ghost use Rattle.lfs_inodes.specs.Attributes.{attributes, attributes_from, stat_of};
 ghost use Rattle.lfs_inodes.specs.Facts.{IsInodeNumber};
 
-use crate::inode::{DIRECT_COUNT, Inode};
+use crate::inode::{DIRECT_COUNT, Inode, ROOT_COUNT};
 use lfs_types::attrs::Attrs;
 
 impl Inode {
@@ -15,7 +15,7 @@ impl Inode {
         requires number { IsInodeNumber number }
         requires version { 1 ≤ version }
         ensures attributes { attributes result ≡ attributes_from number version attrs.now 0 }
-        ensures addresses { addresses result ≡ replicate 13 0 }
+        ensures addresses { addresses result ≡ replicate ROOT_COUNT 0 }
     {
         // The types of these two bound their bits.
         let (_mode, _flags) = (attrs.mode.bits(), attrs.flags.bits());

@@ -13,6 +13,9 @@ use lfs_types::mode::Mode;
 /// The number of blocks whose addresses stand in the record itself (this project's profile).
 pub const DIRECT_COUNT: usize = 12;
 
+/// The number of addresses in the record: those of its first blocks, then that of the indirect block.
+pub const ROOT_COUNT: usize = DIRECT_COUNT + 1;
+
 /// Addresses lie below this number, 65,536: those of the blocks of the largest volume.
 pub const ADDRESS_LIMIT: u32 = MOST_SEGMENTS * SEGMENT_BLOCKS;
 
