@@ -1,5 +1,6 @@
 pub mod BlockLemmas
 pub mod CountingLemmas
+pub mod HolderLemmas
 pub mod LogLemmas
 pub mod MoveLemmas
 pub mod OwnerLemmas

@@ -31,6 +31,11 @@ pub read-via : (t : Tree) (way : List ℕ) → read t way ≡ bytes_via t way (a
 unfolding read
 read-via t way = refl
 
+-- the addresses that a block holds, but for the record, are its cells
+pub table-cells : (t : Tree) (way : List ℕ) → way ≢ [] → table t way ≡ cells (read t way)
+table-cells t [] some = absurd (some refl)
+table-cells t (i ∷ up) some = table-read t i up
+
 -- The bytes of a block that waits, of one in the log, and of one without address.
 pub via-waits : (t : Tree) (way : List ℕ) (a : ℕ) (bytes : List ℕ) → t.waits way ≡ Some bytes → bytes_via t way a ≡ bytes
 unfolding bytes_via

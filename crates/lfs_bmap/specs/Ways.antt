@@ -25,6 +25,11 @@ code_at (place ∷ []) = if nat_lt place DIRECT_BLOCKS then FIRST_DATA_CODE + pl
 code_at (cell ∷ place ∷ []) = if place == 12 then 143 + cell else 3 + cell
 code_at (cell ∷ child ∷ place ∷ up) = 271 + 128 * child + cell
 
+-- the codes of the blocks on a way, but for the record's
+unfoldable pub codes_on : List ℕ → List ℕ
+codes_on [] = []
+codes_on (i ∷ up) = code_at (i ∷ up) ∷ codes_on up
+
 -- the ways of blocks: 14 addresses in a record, 128 in an indirect block
 abbrev pub IsWay : List ℕ → Type 0
 IsWay [] = ⊤

@@ -1,7 +1,7 @@
 //! The blocks of a file, their codes, and where the address of each one stands.
 
 ghost use Rattle.std.specs.Prelude.{◌≡◌, ◌∷◌, ◌<◌, IfSome, MatchOption, []};
-ghost use Rattle.lfs_bmap.specs.Blocks.{IsFileBlock, code_of, logical_of, file_block_of, way_to};
+ghost use Rattle.lfs_bmap.specs.Blocks.{IsFileBlock, IsTable, code_of, file_block_of, logical_of, table_of, way_to};
 
 use lfs_inodes::inode::DIRECT_COUNT;
 use lfs_segments::entry::LogicalBlock;
@@ -94,8 +94,11 @@ impl FileBlock {
     /// Where the block's address stands; None for the record, whose place is in the inode map.
     pub fn cell(self) -> Option<Cell>
         requires { IsFileBlock self }
-        ensures { MatchOption result (way_to self ≡ [])
+        ensures way { MatchOption result (way_to self ≡ [])
             (λ cell. way_to self ≡ cell.index ∷ way_to cell.table) }
+        ensures table { IfSome result (λ cell. cell.table ≡ table_of self) }
+        ensures inside { IfSome result (λ cell. IsTable cell.table cell.index) }
+        ensures less { IfSome result (λ cell. code_of cell.table < code_of self) }
     {
         let (table, index) = match self {
             FileBlock::Record => return None,
@@ -104,5 +107,16 @@ impl FileBlock {
             FileBlock::Data(index) => (FileBlock::Single, index - DIRECT_BLOCKS),
         };
         Some(Cell { table, index })
+    }
+
+    /// The block that holds the block's address; the record itself for the record.
+    pub fn table(self) -> FileBlock
+        requires { IsFileBlock self }
+        ensures { result ≡ table_of self }
+    {
+        match self.cell() {
+            Some(cell) => cell.table,
+            None => FileBlock::Record,
+        }
     }
 }
