@@ -120,7 +120,7 @@ module _ (p : Parts) (s : ℕ) (store : IsStore p) (room : HasRoom p) (has : Has
     whole = files_same parts;
     log = cleaned_log (log_state p) (log_state q) 0 s store.log (cleans step);
     ready = store.ready;
-    parents = record { records = store.parents.records; singles = store.parents.singles };
+    parents = record { records = store.parents.records; holders = store.parents.holders };
     once = store.once;
     few = store.few;
     within = λ n block f is can locked. store.within n block f (sym (record_same n) ∙ is) can locked;

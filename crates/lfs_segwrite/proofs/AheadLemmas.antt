@@ -8,7 +8,7 @@ use Rattle.lfs_types.specs.declared.limits.TheConstants.{SEGMENT_BLOCKS}
 use Rattle.lfs_ifile.specs.declared.segment.SegState.{SegState}
 use Rattle.lfs_ifile.specs.declared.segment.SegState.TheVariants.{Clean}
 use Rattle.lfs_ifile.specs.declared.inode.InodeRow.{InodeRow}
-use Rattle.lfs_cache.specs.Contents.{Contents, IsLocked, block_in}
+use Rattle.lfs_cache.specs.Contents.{IsLocked, block_in}
 use Rattle.lfs_segments.specs.Memory.{SegmentMemory, block_at, next_address, room_of}
 use Rattle.lfs_log.specs.Parts.{state_of}
 use Rattle.lfs_bmap.specs.Counting.{seg_of}
@@ -17,7 +17,7 @@ use Rattle.lfs_bmap.specs.Moves.{DirtyIn, Moves, StaysDirty}
 use Rattle.lfs_bmap.proofs.LogLemmas.{dirty_not_active}
 use Rattle.lfs_bmap.proofs.MoveLemmas.{StaysDirty-trans, moves-same, moves-trans}
 use Rattle.lfs_staging.specs.declared.parts.Parts.{Parts}
-use Rattle.lfs_segwrite.specs.Applying.{HasRoom, HasRoomFor, versions_after, MakesChanges, MakesWay, StagesAll, WritesAhead, WritesWaiting, blocks_for, frames_of_all, needs_of, records_of_all, reserve_of, waiting_blocks}
+use Rattle.lfs_segwrite.specs.Applying.{HasRoom, HasRoomFor, versions_after, MakesChanges, MakesWay, StagesAll, WritesAhead, WritesWaiting, blocks_for, frames_of_all, needs_of, records_of_all, waiting_blocks}
 use Rattle.lfs_segwrite.specs.Collecting.{blocks_of_entries, entries_of}
 use Rattle.lfs_staging.specs.Files.{content_of}
 use Rattle.lfs_segwrite.specs.Flushing.{Flushes, Waits}

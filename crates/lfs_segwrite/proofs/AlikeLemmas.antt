@@ -23,7 +23,7 @@ use Rattle.lfs_staging.specs.declared.parts.Parts.{Parts}
 use Rattle.lfs_staging.specs.Files.{content_of}
 use Rattle.lfs_staging.specs.Keys.{log_state}
 use Rattle.lfs_staging.specs.Staging.{IsStaged}
-use Rattle.lfs_staging.specs.Store.{AreFiles, IsFile, IsPresent}
+use Rattle.lfs_staging.specs.Store.{AreFiles, HolderWaits, IsFile, IsPresent}
 use Rattle.lfs_staging.specs.View.{key_of, record_of, tree_of, version_of, waiting_in}
 use Rattle.lfs_staging.specs.Waiting.{AreOnce}
 use Rattle.lfs_staging.proofs.CleanLemmas.{mirrors_read}
@@ -93,7 +93,8 @@ module _ (p q : Parts) (h : AreAlike p q) where
     log = log;
     parents = record {
       records = λ key locked. let there = subst (IsLocked key) h.cache locked in kept key there (staged.parents.records key there);
-      singles = λ key locked past. subst (IsLocked (key_of key.ino key.version 1)) (sym h.cache) (staged.parents.singles key (subst (IsLocked key) h.cache locked) past);
+      holders = λ key locked i up way.
+          subst (λ (c : Contents). HolderWaits c key.ino key.version up) (sym h.cache) (staged.parents.holders key (subst (IsLocked key) h.cache locked) i up way);
     };
     once = once;
     few = let few = staged.few in omega arith;

@@ -1,8 +1,7 @@
 -- What staged changes leave of the log, one after another.
-use Rattle.std.proofs.Common.{◌≡◌, ℕ, ◌+◌, ◌*◌, List, length, refl, sym, ap, ◌∙◌, inl, inr, arith}
+use Rattle.std.proofs.Common.{◌≡◌, ℕ, ◌*◌, List, length, refl, sym, ap, ◌∙◌, inl, inr, arith}
 use Rattle.std.specs.Prelude.{⊤}
 use Rattle.std.proofs.lemmas.Bool.{cases_eq}
-use Rattle.lfs_types.specs.Tree.{Content}
 use Rattle.lfs_ifile.specs.Tables.{row_of}
 use Rattle.lfs_log.specs.Parts.{LogParts, record_place}
 use Rattle.lfs_bmap.specs.Log.{SameKeys}

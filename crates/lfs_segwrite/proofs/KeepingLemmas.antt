@@ -23,11 +23,10 @@ use Rattle.lfs_bmap.specs.Pieces.{IsPadded}
 use Rattle.lfs_bmap.specs.Reading.{address, data_block}
 use Rattle.lfs_bmap.specs.Ways.{code_at, data_way, way_of}
 use Rattle.lfs_bmap.proofs.WayLemmas.{data_way-direct, data_way-single, way_of-data, way_of-known}
-use Rattle.lfs_staging.specs.declared.records.TheConstants.{WAITING_LIMIT}
 use Rattle.lfs_staging.specs.declared.parts.Parts.{Parts}
 use Rattle.lfs_staging.specs.Files.{content_of}
-use Rattle.lfs_staging.specs.Addressing.{ParentWaits, StaysWaiting}
-use Rattle.lfs_staging.specs.Store.{AreFiles, IsFile, IsLogged, IsPresent, IsWithin, Mirrors}
+use Rattle.lfs_staging.specs.Addressing.{StaysWaiting}
+use Rattle.lfs_staging.specs.Store.{AreFiles, HolderWaits, IsFile, IsLogged, IsPresent, IsWithin, Mirrors}
 use Rattle.lfs_staging.specs.View.{key_of, record_of, tree_of}
 use Rattle.lfs_staging.proofs.CleanLemmas.{apart_present, coded_below, coded_block, logged_kept}
 use Rattle.lfs_staging.proofs.FileLemmas.{record_of-past}
@@ -205,16 +204,16 @@ module _ (p r s q : Parts) (v : Inode) (block : FileBlock) (a i : ℕ) (up : Lis
           ap is_some (h.kept key apart ∙ ap (λ (c : Contents). block_in key c.locked) (h.set.record_only (sym e)) ∙ ap (λ (c : Contents). block_in key c.locked) h.put.cache) ∙ was
       still (j ∷ above) e is =
           ap is_some (h.kept key apart) ∙ subst (λ k. is_some (block_in k s.cache.locked) ≡ true) (ap (λ w. key_of v.number v.version (code_at w)) e ∙ is)
-          (subst (ParentWaits s v) (sym e) h.set.still)
+          (subst (HolderWaits s.cache v.number v.version) (sym e) h.set.still)
 
   -- and nothing else is
-  pub frames_only : ParentWaits p v up → (key : Key) → IsLocked key q.cache → IsLocked key p.cache
+  pub frames_only : HolderWaits p.cache v.number v.version up → (key : Key) → IsLocked key q.cache → IsLocked key p.cache
   frames_only waits key locked =
       elim (locked_cases key locked) [
         | inl was ↦ was
         | inr parent ↦ subst (λ k. IsLocked k p.cache) parent.1 (parent_locked up parent.0 waits)
       ]
     where
-      parent_locked : (w : List ℕ) → w ≢ [] → ParentWaits p v w → IsLocked (key_of v.number v.version (code_at w)) p.cache
+      parent_locked : (w : List ℕ) → w ≢ [] → HolderWaits p.cache v.number v.version w → IsLocked (key_of v.number v.version (code_at w)) p.cache
       parent_locked [] some waits = absurd (some refl)
       parent_locked (j ∷ above) some waits = waits

@@ -1,6 +1,6 @@
 -- A block that waits was written: what else waits still does, and its key alone has another place.
-use Rattle.std.proofs.Common.{◌≡◌, ◌≢◌, ℕ, zero, suc, ◌+◌, ◌-◌, ◌*◌, ◌/◌, ◌<◌, ◌≤◌, ◌⊎◌, List, [], ◌∷◌, length, None, Some, Option, is_some, false, refl, sym, ap, ◌∙◌, subst, inl, inr, arith}
-use Rattle.std.proofs.lemmas.Bool.{cases_eq, cases_lt, false≢true}
+use Rattle.std.proofs.Common.{◌≡◌, ◌≢◌, ℕ, zero, suc, ◌*◌, ◌/◌, ◌<◌, ◌≤◌, ◌⊎◌, List, [], ◌∷◌, length, None, Some, Option, is_some, false, refl, sym, ap, ◌∙◌, subst, inl, inr, arith}
+use Rattle.std.proofs.lemmas.Bool.{cases_eq, false≢true}
 use Rattle.std.specs.Prelude.{All}
 use Rattle.std.proofs.lemmas.List.Elements.{All-head, All-tail}
 use Rattle.std.proofs.lemmas.List.{length-map}
@@ -17,26 +17,26 @@ use Rattle.lfs_cache.proofs.Entries.{same_cases, same_is}
 use Rattle.lfs_segments.specs.Memory.{next_address, room_of}
 use Rattle.lfs_bmap.specs.declared.blocks.TheConstants.{BLOCK_CODES}
 use Rattle.lfs_bmap.specs.declared.blocks.FileBlock.{FileBlock}
-use Rattle.lfs_bmap.specs.declared.blocks.FileBlock.TheVariants.{Record, Single, Data}
-use Rattle.lfs_bmap.specs.Blocks.{IsFileBlock, code_of, logical_of, way_to}
+use Rattle.lfs_bmap.specs.declared.blocks.FileBlock.TheVariants.{Single}
+use Rattle.lfs_bmap.specs.Blocks.{IsFileBlock, code_of, logical_of}
 use Rattle.lfs_bmap.specs.Log.{IsLog}
-use Rattle.lfs_bmap.specs.Ways.{data_way}
+use Rattle.lfs_bmap.specs.Ways.{code_at, way_of}
 use Rattle.lfs_bmap.proofs.BlockLemmas.{same_block}
 use Rattle.lfs_bmap.proofs.CountingLemmas.{placed-cases}
-use Rattle.lfs_bmap.proofs.WayLemmas.{data_way-direct, data_way-single}
+use Rattle.lfs_bmap.proofs.WayLemmas.{way_of-code_of}
 use Rattle.lfs_staging.specs.declared.parts.Parts.{Parts}
 use Rattle.lfs_staging.specs.Files.{content_of}
 use Rattle.lfs_segwrite.specs.Flushing.{Waits}
 use Rattle.lfs_staging.specs.Keys.{log_state}
-use Rattle.lfs_staging.specs.Addressing.{IsWaiting, ParentWaits, StaysWaiting, numbers_of}
+use Rattle.lfs_staging.specs.Addressing.{IsWaiting, StaysWaiting, numbers_of}
 use Rattle.lfs_segwrite.specs.Landing.{entry_of, LandsBlock, MayLand, TakesPlace}
 use Rattle.lfs_segwrite.specs.Recording.{Advances, entry_at_version}
 use Rattle.lfs_staging.specs.Staging.{IsStaged}
-use Rattle.lfs_staging.specs.Store.{AreFiles, IsPresent, IsWithin}
+use Rattle.lfs_staging.specs.Store.{AreFiles, HolderWaits, IsPresent, IsWithin}
 use Rattle.lfs_staging.specs.View.{key_of, record_of, version_of, waiting_in}
 use Rattle.lfs_staging.specs.Waiting.{AreOnce}
-use Rattle.lfs_staging.proofs.SettingLemmas.{at_way, waiting_record}
-use Rattle.lfs_staging.proofs.ViewLemmas.{code_at-way_to}
+use Rattle.lfs_staging.proofs.HolderLemmas.{held_code}
+use Rattle.lfs_staging.proofs.SettingLemmas.{waiting_record}
 use Rattle.lfs_staging.proofs.WaitingLemmas.{waiting-head, waiting-tail}
 
 -- the record that waits of a number has it
@@ -109,19 +109,8 @@ may_land p v block staged is can other locked = record {
   can = can;
   other = other;
   within = staged.within v.number block (fields_of v) (waiting_record p v is) can (subst (λ n. IsLocked (key_of v.number n (code_of block)) p.cache) is.at_version locked);
-  parent = parent block can other locked;
+  parent = λ i up way. staged.parents.holders (key_of v.number v.version (code_of block)) locked i up (way_of-code_of block ∙ way);
 }
-  where
-    parent : (block : FileBlock) → IsFileBlock block → code_of block ≢ 0 → IsLocked (key_of v.number v.version (code_of block)) p.cache
-        → (i : ℕ) (up : List ℕ) → way_to block ≡ i ∷ up → ParentWaits p v up
-    parent Record can other locked = absurd (other refl)
-    parent Single can other locked = at_way (λ i up. ParentWaits p v up) (12 ∷ []) 12 [] refl tt
-    parent (Data index) can other locked =
-        elim (cases_lt index 12) [
-          | inl direct ↦ at_way (λ i up. ParentWaits p v up) (data_way index) index [] (data_way-direct index direct) tt
-          | inr past ↦ at_way (λ i up. ParentWaits p v up) (data_way index) (index - 12) (12 ∷ []) (data_way-single index past can)
-              (subst (λ c. IsLocked (key_of v.number v.version c) p.cache) (sym (code_at-way_to Single)) (staged.parents.singles (key_of v.number v.version (131 + index)) locked (omega arith)))
-        ]
 
 -- ---- what it makes when it landed
 pub record LandsKey (p q : Parts) (v : Inode) (block : FileBlock) (a : ℕ) : Type 0 where
@@ -154,17 +143,20 @@ module _ (p q : Parts) (v : Inode) (block : FileBlock) (a : ℕ) (h : LandsKey p
   pub landed_gone : IsLocked (key_of v.number v.version (code_of block)) q.cache → ⊥
   landed_gone locked = false≢true (sym (ap is_some h.landed.settled) ∙ locked)
 
-  -- the single indirect block of a data block that waits still does
-  single_stays : (key : Key) → IsLocked key q.cache → 143 ≤ key.lbn → IsLocked (key_of key.ino key.version 1) q.cache
-  single_stays key locked past =
+  -- what holds the address of a block that waits still does
+  holders_stay : (key : Key) → IsLocked key q.cache → (i : ℕ) (up : List ℕ) → way_of key.lbn ≡ i ∷ up → HolderWaits q.cache key.ino key.version up
+  holders_stay key locked i [] way = tt
+  holders_stay key locked i (j ∷ above) way =
       let before = h.only key locked in
-      let single = key_of key.ino key.version 1 in
-      elim (same_cases (key_of v.number v.version (code_of block)) single) [
+      let holder = key_of key.ino key.version (code_at (j ∷ above)) in
+      elim (same_cases (key_of v.number v.version (code_of block)) holder) [
         | inl same ↦
-            let code : code_of block ≡ 1 = ap (λ (k : Key). k.lbn) (same_is (key_of v.number v.version (code_of block)) single same) in
+            let held = held_code key.lbn (h.staged.whole.coded key before) i j above way in
+            let code : code_of block ≡ 1 = ap (λ (k : Key). k.lbn) (same_is (key_of v.number v.version (code_of block)) holder same) ∙ held.1 in
             let one = h.last (same_block block Single code) key before in
+            let past = held.0 in
             absurd (omega arith)
-        | inr apart ↦ h.frames single apart (h.staged.parents.singles key before past)
+        | inr apart ↦ h.frames holder apart (h.staged.parents.holders key before i (j ∷ above) way)
       ]
 
   number_after : h.stays.after.number ≡ v.number
@@ -189,7 +181,7 @@ module _ (p q : Parts) (v : Inode) (block : FileBlock) (a : ℕ) (h : LandsKey p
   landed_staged = record {
     whole = h.files;
     log = h.log;
-    parents = record { records = λ key locked. same_waits key.ino ∙ h.staged.parents.records key (h.only key locked); singles = single_stays };
+    parents = record { records = λ key locked. same_waits key.ino ∙ h.staged.parents.records key (h.only key locked); holders = holders_stay };
     once = once_numbers p.waiting q.waiting h.stays.numbers h.staged.once;
     few = let few = h.staged.few in let count = landed_count in omega arith;
     within = within_after;

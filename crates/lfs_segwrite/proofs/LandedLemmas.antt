@@ -1,5 +1,5 @@
 -- A block that waits lands: what that makes of each file, and of the log.
-use Rattle.std.proofs.Common.{◌≡◌, ◌≢◌, ℕ, ◌+◌, ◌-◌, ◌*◌, ◌/◌, ◌<◌, ◌≤◌, ◌⊎◌, List, [], ◌∷◌, length, Option, None, Some, IsSome, false, refl, sym, ap, ◌∙◌, subst, inl, inr, arith}
+use Rattle.std.proofs.Common.{◌≡◌, ◌≢◌, ℕ, ◌+◌, ◌-◌, ◌*◌, ◌/◌, ◌<◌, ◌≤◌, ◌⊎◌, List, [], ◌∷◌, length, None, Some, IsSome, false, refl, sym, ap, ◌∙◌, subst, inl, inr, arith}
 use Rattle.std.specs.Prelude.{slice_set}
 use Rattle.std.proofs.lemmas.Bool.{cases_eq, cases_lt, cond-true, cond-false, eq-eqb, ne_eqb, lt-ltb, le-ltb}
 use Rattle.lfs_ifile.specs.declared.inode.InodeRow.{InodeRow}
@@ -27,13 +27,14 @@ use Rattle.lfs_bmap.proofs.ReadingLemmas.{kept_blocks, landed_address, landed_ad
 use Rattle.lfs_bmap.proofs.WayLemmas.{known_way_of, same_code, up_known, way_of-code_of, way_of-data, way_of-known}
 use Rattle.lfs_staging.specs.declared.parts.Parts.{Parts}
 use Rattle.lfs_staging.specs.Keys.{log_state}
-use Rattle.lfs_staging.specs.Addressing.{IsWaiting, ParentWaits, Sets}
+use Rattle.lfs_staging.specs.Addressing.{IsWaiting, Sets}
 use Rattle.lfs_segwrite.specs.Landing.{AppendsBlock}
 use Rattle.lfs_staging.specs.View.{key_of, record_of, root_in, tree_of, version_of, waiting_in}
 use Rattle.lfs_staging.proofs.KeyLemmas.{place-block, place-record}
 use Rattle.lfs_staging.proofs.TableLemmas.{apart_code, apart_number, longer, room_at, same_place, table_same}
 use Rattle.lfs_staging.proofs.ViewLemmas.{record_like}
 use Rattle.lfs_staging.proofs.ViewLemmas.{code_at-way_to}
+use Rattle.lfs_staging.specs.Store.{HolderWaits}
 
 -- The steps of a landing: the block is put, its address is set, its live bytes move, and it waits no more.
 pub record Steps (p r s q : Parts) (v : Inode) (block : FileBlock) (a i : ℕ) (up : List ℕ) : Type 0 where
@@ -137,7 +138,7 @@ module _ (p r s q : Parts) (v : Inode) (block : FileBlock) (a i : ℕ) (up : Lis
   parent_waits : up ≢ [] → IsSome ((tree_of s v.number).waits up)
   parent_waits some = still up some h.set.still
     where
-      still : (up : List ℕ) → up ≢ [] → ParentWaits s v up → IsSome ((tree_of s v.number).waits up)
+      still : (up : List ℕ) → up ≢ [] → HolderWaits s.cache v.number v.version up → IsSome ((tree_of s v.number).waits up)
       still [] some waits = absurd (some refl)
       still (j ∷ above) some waits = subst (λ n. IsSome (block_in (key_of v.number n (code_at (j ∷ above))) s.cache.locked)) at_version waits
         where
@@ -291,6 +292,5 @@ log_after p r s q v block a i up h waited named taken =
     spare_none (log_state q) (0 + 512 * 1 - 128 * units (code_of block)) (taken_log was (log_state q) (0 + 512 * 1) v.number (code_of block) (4 * a) mid may now)
 
 -- ---- what lets a block land
-pub parent_kept : (p q : Parts) (v : Inode) (up : List ℕ) → q.cache ≡ p.cache → ParentWaits p v up → ParentWaits q v up
-parent_kept p q v [] cache waits = tt
-parent_kept p q v (j ∷ above) cache waits = subst (λ (c : Contents). IsSome (block_in (key_of v.number v.version (code_at (j ∷ above))) c.locked)) (sym cache) waits
+pub parent_kept : (p q : Parts) (v : Inode) (up : List ℕ) → q.cache ≡ p.cache → HolderWaits p.cache v.number v.version up → HolderWaits q.cache v.number v.version up
+parent_kept p q v up cache waits = subst (λ (c : Contents). HolderWaits c v.number v.version up) (sym cache) waits

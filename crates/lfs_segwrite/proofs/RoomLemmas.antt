@@ -213,7 +213,7 @@ module _ (p : Parts) (s : ℕ) (store : IsStore p) (inside : s < p.log.memory.se
           whole = files_kept parts;
           log = opened_log (log_state p) (log_state q) 0 s store.log opens;
           ready = ready;
-          parents = record { records = store.parents.records; singles = store.parents.singles };
+          parents = record { records = store.parents.records; holders = store.parents.holders };
           once = store.once;
           few = store.few;
           within = λ n block f is can locked. store.within n block f (sym (record_kept n) ∙ is) can locked;

@@ -15,9 +15,9 @@ use Rattle.lfs_bmap.specs.Blocks.{IsFileBlock, code_of, logical_of, way_to}
 use Rattle.lfs_bmap.specs.declared.blocks.FileBlock.{FileBlock}
 use Rattle.lfs_staging.specs.declared.parts.Parts.{Parts}
 use Rattle.lfs_staging.specs.Keys.{log_state}
-use Rattle.lfs_staging.specs.Store.{IsWithin}
+use Rattle.lfs_staging.specs.Store.{HolderWaits, IsWithin}
 use Rattle.lfs_staging.specs.View.{key_of, record_of, tree_of}
-use Rattle.lfs_staging.specs.Addressing.{IsWaiting, ParentWaits}
+use Rattle.lfs_staging.specs.Addressing.{IsWaiting}
 
 -- the entry that names a block of a file
 abbrev pub entry_of : Inode → FileBlock → SummaryEntry
@@ -56,7 +56,7 @@ pub record MayLand (p : Parts) (v : Inode) (block : FileBlock) : Type 0 where
   pub can : IsFileBlock block
   pub other : code_of block ≢ 0
   pub within : IsWithin block v.size
-  pub parent : (i : ℕ) (up : List ℕ) → way_to block ≡ i ∷ up → ParentWaits p v up
+  pub parent : (i : ℕ) (up : List ℕ) → way_to block ≡ i ∷ up → HolderWaits p.cache v.number v.version up
 
 -- A block of a file landed at an address: the log has it there with the bytes that it meant, and no data block of any
 -- file reads otherwise.

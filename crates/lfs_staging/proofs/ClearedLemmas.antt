@@ -31,12 +31,13 @@ use Rattle.lfs_bmap.proofs.WayLemmas.{known_way_of, no_way_through, same_code, u
 use Rattle.lfs_staging.specs.declared.parts.Parts.{Parts}
 use Rattle.lfs_staging.specs.Clean.{GainsNoClean}
 use Rattle.lfs_staging.specs.Keys.{log_state}
-use Rattle.lfs_staging.specs.Addressing.{IsWaiting, ParentWaits, Sets}
+use Rattle.lfs_staging.specs.Addressing.{IsWaiting, Sets}
 use Rattle.lfs_staging.specs.View.{key_of, record_of, root_in, tree_of, version_of, waiting_in}
 use Rattle.lfs_staging.proofs.KeyLemmas.{place-block, place-record}
 use Rattle.lfs_staging.proofs.ViewLemmas.{record_like}
 use Rattle.lfs_staging.proofs.TableLemmas.{apart_code, apart_number, longer, room_at, same_place, table_same}
 use Rattle.lfs_staging.proofs.ViewLemmas.{code_at-way_to}
+use Rattle.lfs_staging.specs.Store.{HolderWaits}
 
 -- The steps: the address is set to none, the live bytes go, and the block waits no more.
 pub record Steps (p s q : Parts) (v : Inode) (block : FileBlock) (i : ℕ) (up : List ℕ) : Type 0 where
@@ -112,7 +113,7 @@ module _ (p s q : Parts) (v : Inode) (block : FileBlock) (i : ℕ) (up : List �
   parent_waits : up ≢ [] → IsSome ((tree_of s v.number).waits up)
   parent_waits some = still up some h.set.still
     where
-      still : (up : List ℕ) → up ≢ [] → ParentWaits s v up → IsSome ((tree_of s v.number).waits up)
+      still : (up : List ℕ) → up ≢ [] → HolderWaits s.cache v.number v.version up → IsSome ((tree_of s v.number).waits up)
       still [] some waits = absurd (some refl)
       still (j ∷ above) some waits = subst (λ n. IsSome (block_in (key_of v.number n (code_at (j ∷ above))) s.cache.locked)) at_version waits
         where

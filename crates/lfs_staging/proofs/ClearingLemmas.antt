@@ -1,5 +1,5 @@
 -- Blocks of a file are given back one after another.
-use Rattle.std.proofs.Common.{◌≡◌, ◌≢◌, ℕ, ◌+◌, ◌<◌, ◌≤◌, List, Option, None, Some, IsSome, true, refl, sym, ap, ◌∙◌, subst, inl, inr, arith}
+use Rattle.std.proofs.Common.{◌≡◌, ◌≢◌, ℕ, ◌+◌, ◌<◌, ◌≤◌, List, ◌∷◌, Option, None, Some, IsSome, true, refl, sym, ap, ◌∙◌, subst, inl, inr, arith}
 use Rattle.std.proofs.lemmas.Bool.{cases_eq, cond-true}
 use Rattle.std.proofs.lemmas.Option.{same_Some}
 use Rattle.lfs_ifile.specs.declared.inode.InodeRow.{InodeRow}
@@ -9,10 +9,11 @@ use Rattle.lfs_inodes.specs.Attributes.{Attributes}
 use Rattle.lfs_inodes.specs.Facts.{block_count}
 use Rattle.lfs_inodes.specs.Reading.{Fields, fields_of}
 use Rattle.lfs_cache.specs.Contents.{IsLocked}
-use Rattle.lfs_bmap.specs.declared.blocks.FileBlock.TheVariants.{Single, Data}
+use Rattle.lfs_bmap.specs.declared.blocks.FileBlock.TheVariants.{Data}
 use Rattle.lfs_bmap.specs.Reading.{data_block}
-use Rattle.lfs_bmap.specs.Ways.{IsKnown, data_way}
-use Rattle.lfs_bmap.proofs.WayLemmas.{same_code, way_of-data, way_of-known}
+use Rattle.lfs_bmap.specs.Ways.{IsKnown, IsWay, data_way}
+use Rattle.lfs_bmap.proofs.WayLemmas.{no_way_through, same_code, way_of-data, way_of-known}
+use Rattle.lfs_staging.proofs.HolderLemmas.{holder_data}
 use Rattle.lfs_staging.specs.declared.parts.Parts.{Parts}
 use Rattle.lfs_staging.specs.Cutting.{ClearsBlock, ClearsBlocks, IsGivenBack, KeepsRest, MayClear, MayClearBelow}
 use Rattle.lfs_staging.specs.Addressing.{IsWaiting}
@@ -105,10 +106,13 @@ may_clear a b number first index end may h low =
           let same = rest_attributes number a b h.rest was.0 g was.1 is in
           let inside = may.within was.0 was.1 in
           subst (λ (x : Attributes). index < block_count x.size) (sym same) (omega arith);
-      parent = λ high.
+      parent = λ i up way.
+          holder_data b.cache number (version_of b number) index (omega arith)
+          (λ past.
           let locked = may.single (omega arith) in
-          subst (λ n. IsLocked (key_of number n 1) b.cache) (sym version) (h.single locked);
-      alone = λ e. absurd (let bad : Data index ≡ Single = e in cc);
+          subst (λ n. IsLocked (key_of number n 1) b.cache) (sym version) (h.single locked))
+          i up (way_of-data index ∙ way);
+      beneath = λ j known. absurd (no_way_through (131 + index) j (omega arith) (subst (λ w. IsWay (j ∷ w)) (sym (way_of-data index)) known.leads));
     }
 
 pub clears_more : (a b c : Parts) (number first index : ℕ) → first ≤ index → index < 140 → ClearsBlocks number first index a b → ClearsBlock number (Data index) b c

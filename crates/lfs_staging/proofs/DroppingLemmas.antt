@@ -1,5 +1,5 @@
 -- The blocks of a file past a length are given back, and the single indirect block with the last that it leads to.
-use Rattle.std.proofs.Common.{◌≡◌, ◌≢◌, ℕ, ◌+◌, ◌<◌, ◌≤◌, ◌⊎◌, List, [], Some, sym, ap, ◌∙◌, subst, inl, inr, arith}
+use Rattle.std.proofs.Common.{◌≡◌, ◌≢◌, ℕ, ◌+◌, ◌-◌, ◌<◌, ◌≤◌, ◌⊎◌, List, [], ◌∷◌, Some, sym, ap, ◌∙◌, subst, inl, inr, arith}
 use Rattle.std.specs.Prelude.{slice_index}
 use Rattle.std.proofs.lemmas.Bool.{cases_lt}
 use Rattle.lfs_ifile.specs.declared.inode.InodeRow.{InodeRow}
@@ -10,12 +10,14 @@ use Rattle.lfs_inodes.specs.Reading.{Fields}
 use Rattle.lfs_cache.specs.Contents.{IsLocked}
 use Rattle.lfs_bmap.specs.declared.blocks.FileBlock.TheVariants.{Single, Data}
 use Rattle.lfs_bmap.specs.Blocks.{way_to}
-use Rattle.lfs_bmap.specs.Ways.{data_way}
+use Rattle.lfs_bmap.specs.Ways.{code_at, data_way}
+use Rattle.lfs_bmap.specs.Reading.{address}
+use Rattle.lfs_staging.proofs.HolderLemmas.{holder_single}
 use Rattle.lfs_bmap.proofs.ReadingLemmas.{address-cell, table-root}
-use Rattle.lfs_bmap.proofs.WayLemmas.{same_code, way_of-code_of, way_of-data}
+use Rattle.lfs_bmap.proofs.WayLemmas.{code_at-way_of, data_way-single, same_code, way_of-code_of, way_of-data}
 use Rattle.lfs_staging.specs.declared.parts.Parts.{Parts}
-use Rattle.lfs_staging.specs.Cutting.{ClearsBlock, ClearsBlocks, DropsBlocks, IsAlone, IsGivenBack, MayClear, MayClearBelow}
-use Rattle.lfs_staging.specs.View.{key_of, record_of, root_in, tree_of}
+use Rattle.lfs_staging.specs.Cutting.{ClearsBlock, ClearsBlocks, DropsBlocks, IsAlone, IsGivenBack, MayClear, MayClearBelow, IsGone}
+use Rattle.lfs_staging.specs.View.{key_of, record_of, root_in, tree_of, version_of}
 use Rattle.lfs_staging.proofs.ClearingLemmas.{data_known, rest_attributes, rest_trans, rest_version, some_fields}
 
 -- the way of a data block is not that of the single indirect block
@@ -59,6 +61,18 @@ module _ (a b : Parts) (number left blocks : ℕ) (may : MayClearBelow a number 
         free = λ locked. let inside = p.staged.within number Single here.0 here.1 tt locked in omega arith;
       }
 
+  -- nor any that the single indirect block leads to
+  under : left ≤ 12 → (j : ℕ) → j < 128 → IsGone b number (j ∷ 12 ∷ [])
+  under few j low =
+      let back : 12 + j - 12 ≡ j = omega arith in
+      let way : data_way (12 + j) ≡ j ∷ 12 ∷ [] = data_way-single (12 + j) (omega arith) (omega arith) ∙ ap (λ k. k ∷ 12 ∷ []) back in
+      let was = gone_all (12 + j) (omega arith) (omega arith) in
+      let code : code_at (j ∷ 12 ∷ []) ≡ 131 + (12 + j) = ap code_at (sym way) ∙ ap code_at (sym (way_of-data (12 + j))) ∙ code_at-way_of (131 + (12 + j)) in
+      record {
+        nowhere = ap (address (tree_of b number)) (sym way) ∙ was.nowhere;
+        free = λ locked. was.free (subst (λ c. IsLocked (key_of number (version_of b number) c) b.cache) code locked);
+      }
+
   pub may_single : left ≤ 12 → 12 < blocks → MayClear b number Single
   may_single few many = record {
     staged = p.staged;
@@ -67,8 +81,8 @@ module _ (a b : Parts) (number left blocks : ℕ) (may : MayClearBelow a number 
     can = tt;
     other = λ e. omega arith;
     within = λ g is. let size = count g is in omega arith;
-    parent = λ high. absurd (omega arith);
-    alone = λ e k from low. gone_all k (omega arith) low;
+    parent = λ i up way. holder_single b.cache number (version_of b number) i up (way_of-code_of Single ∙ way);
+    beneath = λ j known. under few j known.leads.0;
   }
 
   pub dropped_rest : (left ≤ 12 × blocks ≤ 12) ⊎ (12 < left) → DropsBlocks number left blocks a b

@@ -1,5 +1,5 @@
 -- Clean blocks come into the cache and go: each file, and what waits, stays.
-use Rattle.std.proofs.Common.{◌≡◌, ◌≢◌, ℕ, ◌≤◌, List, [], All, length, None, Some, IsSome, is_some, true, refl, sym, ap, ◌∙◌, subst, inl, inr}
+use Rattle.std.proofs.Common.{◌≡◌, ℕ, ◌≤◌, List, [], All, length, None, Some, IsSome, is_some, true, refl, sym, ap, ◌∙◌, subst, inl, inr}
 use Rattle.lfs_inodes.specs.declared.inode.Inode.{Inode}
 use Rattle.lfs_cache.specs.declared.key.Key.{Key}
 use Rattle.lfs_cache.specs.Changes.{GainsOnly, IsContents, KeepsBlocks}
@@ -24,6 +24,7 @@ use Rattle.lfs_staging.proofs.KeptLemmas.{files_kept, log_kept}
 use Rattle.lfs_staging.proofs.SameContentLemmas.{content_of-same, file_at-kept}
 use Rattle.lfs_staging.proofs.SettingLemmas.{present_kept}
 use Rattle.lfs_staging.proofs.StagingLemmas.{record_of-same, version-same}
+use Rattle.lfs_staging.proofs.HolderLemmas.{holder_kept}
 
 module _ (p q : Parts) (log : q.log ≡ p.log) (waiting : q.waiting ≡ p.waiting) (dirty : q.cache.locked ≡ p.cache.locked) where
   pub filled_record : (n : ℕ) → record_of q n ≡ record_of p n
@@ -62,8 +63,9 @@ module _ (p q : Parts) (log : q.log ≡ p.log) (waiting : q.waiting ≡ p.waitin
     ready = subst (λ (l : LogParts). Expects l.memory []) (sym log) store.ready;
     parents = record {
       records = λ key locked. subst (λ vs. IsSome (waiting_in vs key.ino)) (sym waiting) (store.parents.records key (still_locked key locked));
-      singles = λ key locked high.
-          subst (λ es. is_some (block_in (key_of key.ino key.version 1) es) ≡ true) (sym dirty) (store.parents.singles key (still_locked key locked) high);
+      holders = λ key locked i up way.
+          holder_kept p.cache q.cache key.ino key.version up (λ code was. subst (λ es. is_some (block_in (key_of key.ino key.version code) es) ≡ true) (sym dirty) was)
+          (store.parents.holders key (still_locked key locked) i up way);
     };
     once = subst AreOnce (sym waiting) store.once;
     few = subst (λ (vs : List Inode). length vs ≤ 64) (sym waiting) store.few;

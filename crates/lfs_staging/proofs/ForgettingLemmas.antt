@@ -1,5 +1,5 @@
 -- A block leaves what waits: what leads to it, the live bytes that it had, and what waits still.
-use Rattle.std.proofs.Common.{◌≡◌, ◌≢◌, ℕ, ◌-◌, ◌*◌, ◌/◌, ◌<◌, ◌≤◌, List, [], ◌∷◌, length, Option, None, Some, IsSome, true, refl, sym, ap, ◌∙◌, subst, inl, inr, arith}
+use Rattle.std.proofs.Common.{◌≡◌, ◌≢◌, ℕ, ◌-◌, ◌*◌, ◌/◌, ◌<◌, ◌≤◌, List, [], ◌∷◌, length, IsSome, true, refl, sym, ap, ◌∙◌, subst, inl, inr, arith}
 use Rattle.std.proofs.lemmas.Bool.{cases_lt, false≢true}
 use Rattle.std.proofs.lemmas.List.{get_or_past}
 use Rattle.std.proofs.lemmas.List.Elements.{All-weaker}
@@ -9,7 +9,6 @@ use Rattle.lfs_cache.specs.Changes.{IsContents}
 use Rattle.lfs_ifile.specs.declared.inode.InodeRow.{InodeRow}
 use Rattle.lfs_ifile.specs.Tables.{row_at, row_of}
 use Rattle.lfs_inodes.specs.declared.inode.Inode.{Inode}
-use Rattle.lfs_cache.specs.declared.key.Key.{Key}
 use Rattle.lfs_cache.specs.Contents.{block_in}
 use Rattle.lfs_log.specs.Parts.{live_of}
 use Rattle.lfs_bmap.specs.declared.blocks.TheConstants.{BLOCK_CODES}
@@ -24,8 +23,8 @@ use Rattle.lfs_bmap.proofs.CountingLemmas.{live-part, weight-here}
 use Rattle.lfs_bmap.proofs.WayLemmas.{data_way-direct, data_way-single}
 use Rattle.lfs_staging.specs.declared.parts.Parts.{Parts}
 use Rattle.lfs_staging.specs.Keys.{log_state}
-use Rattle.lfs_staging.specs.Addressing.{numbers_of, IsWaiting, ParentWaits, StaysWaiting}
-use Rattle.lfs_staging.specs.Store.{IsPresent}
+use Rattle.lfs_staging.specs.Addressing.{numbers_of, IsWaiting, StaysWaiting}
+use Rattle.lfs_staging.specs.Store.{HolderWaits, IsPresent}
 use Rattle.lfs_staging.specs.View.{key_of, tree_of, waiting_in}
 use Rattle.lfs_staging.proofs.KeyLemmas.{place-block}
 
@@ -60,7 +59,7 @@ way_some (Data index) can other =
       | inr past ↦ (index - 12, 12 ∷ [], data_way-single index past can)
     ]
 
-pub waited_parent : (p : Parts) (v : Inode) → IsWaiting p v → (up : List ℕ) → ParentWaits p v up → up ≢ [] → IsSome ((tree_of p v.number).waits up)
+pub waited_parent : (p : Parts) (v : Inode) → IsWaiting p v → (up : List ℕ) → HolderWaits p.cache v.number v.version up → up ≢ [] → IsSome ((tree_of p v.number).waits up)
 waited_parent p v is [] waits some = absurd (some refl)
 waited_parent p v is (j ∷ above) waits some = subst (λ n. IsSome (block_in (key_of v.number n (code_at (j ∷ above))) p.cache.locked)) is.at_version waits
 

@@ -48,7 +48,7 @@ lacks_apart n k (e ∷ es) lacks there = elim (same_cases e.0 k) [
 ]
 
 -- a list whose keys are apart and stand in another list is no longer
-part_most : (xs ys : List (Key × List ℕ)) → AreApart (keys_of xs) → ((k : Key) → IsSome (block_in k xs) → IsSome (block_in k ys)) → length xs ≤ length ys
+pub part_most : (xs ys : List (Key × List ℕ)) → AreApart (keys_of xs) → ((k : Key) → IsSome (block_in k xs) → IsSome (block_in k ys)) → length xs ≤ length ys
 part_most [] ys apart there = omega arith
 part_most (e ∷ es) ys apart there =
     let here : IsSome (block_in e.0 ys) = there e.0 (ap is_some (cond-true _ _ _ (same_self e.0))) in

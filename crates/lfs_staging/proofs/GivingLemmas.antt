@@ -1,7 +1,7 @@
 -- What holds of the files and of what waits holds still when a block was given back.
-use Rattle.std.proofs.Common.{◌≡◌, ◌≢◌, ℕ, ◌+◌, ◌-◌, ◌/◌, ◌%◌, ◌<◌, ◌≤◌, ◌⊎◌, List, [], ◌∷◌, length, Some, IsSome, is_some, true, false, refl, sym, ap, ◌∙◌, subst, inl, inr, arith}
+use Rattle.std.proofs.Common.{◌≡◌, ◌≢◌, ℕ, ◌+◌, ◌/◌, ◌%◌, ◌≤◌, ◌⊎◌, List, [], ◌∷◌, length, Some, IsSome, is_some, true, false, refl, sym, ap, ◌∙◌, subst, inl, inr, arith}
 use Rattle.std.specs.Prelude.{slice_index}
-use Rattle.std.proofs.lemmas.Bool.{cases_eq, cases_lt, false≢true}
+use Rattle.std.proofs.lemmas.Bool.{cases_eq, false≢true}
 use Rattle.std.proofs.lemmas.Option.{none-some, same_Some}
 use Rattle.std.proofs.lemmas.List.{length-map}
 use Rattle.lfs_types.specs.Blocks.{zero_block}
@@ -25,23 +25,21 @@ use Rattle.lfs_bmap.specs.Blocks.{IsFileBlock, code_of, way_to}
 use Rattle.lfs_bmap.specs.Log.{IsLog}
 use Rattle.lfs_bmap.specs.Pieces.{IsPadded}
 use Rattle.lfs_bmap.specs.Reading.{address, data_block}
-use Rattle.lfs_bmap.specs.Ways.{IsKnown, IsWay, code_at, data_way, way_of}
+use Rattle.lfs_bmap.specs.Ways.{IsKnown, code_at, way_of}
 use Rattle.lfs_bmap.proofs.PieceLemmas.{zero_block-at, zero_block-length}
-use Rattle.lfs_bmap.proofs.WayLemmas.{data_way-direct, data_way-single, no_way_through, way_of-data}
+use Rattle.lfs_bmap.proofs.WayLemmas.{code_at-way_of, known_way_of, up_known, way_of-code_of, way_of-data, way_of-known}
 use Rattle.lfs_staging.specs.declared.records.TheConstants.{WAITING_LIMIT}
 use Rattle.lfs_staging.specs.declared.parts.Parts.{Parts}
-use Rattle.lfs_staging.specs.Cutting.{ClearsBlock, IsGivenBack, KeepsRest, MayClear}
+use Rattle.lfs_staging.specs.Cutting.{ClearsBlock, KeepsRest, MayClear}
 use Rattle.lfs_staging.specs.Keys.{log_state}
-use Rattle.lfs_staging.specs.Addressing.{ParentWaits, StaysWaiting, numbers_of}
+use Rattle.lfs_staging.specs.Addressing.{StaysWaiting, numbers_of}
 use Rattle.lfs_staging.specs.Staging.{IsStaged}
-use Rattle.lfs_staging.specs.Store.{AreFiles, IsFile, IsPresent, IsWithin, Mirrors, ParentsWait}
+use Rattle.lfs_staging.specs.Store.{AreFiles, HolderWaits, IsFile, IsPresent, IsWithin, Mirrors, ParentsWait}
 use Rattle.lfs_staging.specs.View.{key_of, record_of, tree_of, version_of, waiting_in}
 use Rattle.lfs_staging.proofs.CleanLemmas.{apart_present, coded_below, logged_kept}
 use Rattle.lfs_staging.proofs.ClearedLemmas.{Steps, address_here, address_rest, address_same, data_same, moves, record_other, version_same, waits_key, zeros_here}
-use Rattle.lfs_staging.proofs.TableLemmas.{apart_code, apart_number}
 use Rattle.lfs_staging.proofs.FrameLemmas.{locked_less, locked_most, once_numbers}
-use Rattle.lfs_staging.proofs.SettingLemmas.{at_way, waiting_record}
-use Rattle.lfs_staging.proofs.ViewLemmas.{code_at-way_to}
+use Rattle.lfs_staging.proofs.SettingLemmas.{waiting_record}
 
 -- a block within the size is none past it
 within_apart : (block : FileBlock) (size k : ℕ) → code_of block ≢ 0 → IsWithin block size → block_count size ≤ k → 131 + k ≢ code_of block
@@ -69,33 +67,14 @@ padded_zeroed old new size each h = record {
 }
 
 -- what holds the block's address waits
-pub parent_of : (p : Parts) (v : Inode) (block : FileBlock) → MayClear p v.number block → v.version ≡ version_of p v.number → (i : ℕ) (up : List ℕ) → way_to block ≡ i ∷ up → ParentWaits p v up
-parent_of p v Record may at i up e = absurd (cc)
-parent_of p v Single may at i up e = at_way (λ i up. ParentWaits p v up) (12 ∷ []) 12 [] refl tt i up e
-parent_of p v (Data index) may at i up e =
-    elim (cases_lt index 12) [
-      | inl direct ↦ at_way (λ i up. ParentWaits p v up) (data_way index) index [] (data_way-direct index direct) tt i up e
-      | inr past ↦
-          at_way (λ i up. ParentWaits p v up) (data_way index) (index - 12) (12 ∷ []) (data_way-single index past may.can)
-          (subst (λ c. IsLocked (key_of v.number v.version c) p.cache) (sym (code_at-way_to Single))
-          (subst (λ n. IsLocked (key_of v.number n 1) p.cache) (sym at) (may.parent (omega arith)))) i up e
-    ]
+pub parent_of : (p : Parts) (v : Inode) (block : FileBlock) → MayClear p v.number block → v.version ≡ version_of p v.number → (i : ℕ) (up : List ℕ) → way_to block ≡ i ∷ up → HolderWaits p.cache v.number v.version up
+parent_of p v block may at i up e = subst (λ n. HolderWaits p.cache v.number n up) (sym at) (may.parent i up e)
 
 -- no block has its address in it
-beneath_single : (p : Parts) (number : ℕ) → ((index : ℕ) → 12 ≤ index → index < 140 → IsGivenBack p number index) → (j : ℕ) → j < 128 → address (tree_of p number) (j ∷ 12 ∷ []) ≡ 0
-beneath_single p number alone j low =
-    let back : 12 + j - 12 ≡ j = omega arith in
-    ap (λ k. address (tree_of p number) (k ∷ 12 ∷ [])) (sym back) ∙ ap (address (tree_of p number)) (sym (data_way-single (12 + j) (omega arith) (omega arith)))
-    ∙ (alone (12 + j) (omega arith) (omega arith)).nowhere
-
 pub beneath_of : (p : Parts) (number : ℕ) (block : FileBlock) → MayClear p number block → (i : ℕ) (up : List ℕ) → way_to block ≡ i ∷ up
     → (j : ℕ) → IsKnown (j ∷ i ∷ up) → address (tree_of p number) (j ∷ i ∷ up) ≡ 0
-beneath_of p number Record may i up e j known = absurd (may.other refl)
-beneath_of p number Single may i up e j known =
-    let there : IsKnown (j ∷ 12 ∷ []) = subst (λ w. IsKnown (j ∷ w)) (sym e) known in
-    ap (λ w. address (tree_of p number) (j ∷ w)) (sym e) ∙ beneath_single p number (may.alone refl) j there.leads.0
-beneath_of p number (Data index) may i up e j known =
-    absurd (no_way_through (131 + index) j (omega arith) (subst (λ w. IsWay (j ∷ w)) (sym (way_of-data index ∙ e)) known.leads))
+beneath_of p number block may i up e j known =
+    ap (λ w. address (tree_of p number) (j ∷ w)) (sym e) ∙ (may.beneath j (subst (λ w. IsKnown (j ∷ w)) (sym e) known)).nowhere
 
 module _ (p s q : Parts) (v : Inode) (block : FileBlock) (i : ℕ) (up : List ℕ) (h : Steps p s q v block i up) (may : MayClear p v.number block)
     (stays : StaysWaiting p q v) (parts : IsParts q.log) where
@@ -154,7 +133,7 @@ module _ (p s q : Parts) (v : Inode) (block : FileBlock) (i : ℕ) (up : List �
       still [] e is = ap is_some (h.kept key apart ∙ ap (λ (c : Contents). block_in key c.locked) (h.set.record_only (sym e))) ∙ was
       still (j ∷ above) e is =
           ap is_some (h.kept key apart) ∙ subst (λ k. is_some (block_in k s.cache.locked) ≡ true) (ap (λ w. key_of v.number v.version (code_at w)) e ∙ is)
-          (subst (ParentWaits s v) (sym e) h.set.still)
+          (subst (HolderWaits s.cache v.number v.version) (sym e) h.set.still)
 
   -- ---- files
   file_after : (number : ℕ) (f g : Fields) → IsFile p number f → f.attributes ≡ g.attributes
@@ -231,35 +210,33 @@ module _ (p s q : Parts) (v : Inode) (block : FileBlock) (i : ℕ) (up : List �
       | inl e ↦ ap (λ n. is_some (waiting_in q.waiting n)) e ∙ record_waits
       | inr ne ↦ ap is_some (stays.others key.ino ne) ∙ may.staged.parents.records key (frames_only key locked)
     ];
-    singles = λ key locked high.
-        let was = frames_only key locked in
-        frames_kept (key_of key.ino key.version 1) (single_apart key was high) (may.staged.parents.singles key was high);
+    holders = holders_after;
   }
     where
-      -- the single indirect block goes where no block that it leads to waits
-      single_apart : (key : Key) → IsLocked key p.cache → 143 ≤ key.lbn → same_key (key_of v.number v.version (code_of block)) (key_of key.ino key.version 1) ≡ false
-      single_apart key was high =
-          elim (cases_eq key.ino v.number) [
-            | inl e ↦ elim (cases_eq (code_of block) 1) [
-              | inl one ↦ absurd (alone key was high e (single_of block one))
-              | inr ne ↦ apart_code v.number key.ino v.version key.version (code_of block) 1 (λ same. ne (sym same))
-            ]
-            | inr ne ↦ apart_number v.number key.ino v.version key.version (code_of block) 1 ne
+      -- the block that went held the address of none that waits
+      apart : (key : Key) → IsLocked key p.cache → (k j : ℕ) (above : List ℕ) → way_of key.lbn ≡ k ∷ j ∷ above
+          → same_key (key_of v.number v.version (code_of block)) (key_of key.ino key.version (code_at (j ∷ above))) ≡ false
+      apart key was k j above way =
+          elim (same_cases (key_of v.number v.version (code_of block)) (key_of key.ino key.version (code_at (j ∷ above)))) [
+            | inr other ↦ other
+            | inl same ↦
+                let e = same_is (key_of v.number v.version (code_of block)) (key_of key.ino key.version (code_at (j ∷ above))) same in
+                let number : key.ino ≡ v.number = sym (ap (λ (x : Key). x.ino) e) in
+                let below = coded_below key.lbn (files.coded key was) in
+                let known : IsKnown (k ∷ j ∷ above) = subst IsKnown way (way_of-known key.lbn below) in
+                let up_is : way_to block ≡ j ∷ above = sym (way_of-code_of block) ∙ ap way_of (ap (λ (x : Key). x.lbn) e) ∙ known_way_of (j ∷ above) (up_known k (j ∷ above) known) in
+                let gone = may.beneath k (subst (λ w. IsKnown (k ∷ w)) (sym up_is) known) in
+                let version : key.version ≡ version_of p v.number = (files.frames key was).at_version ∙ ap (version_of p) number in
+                let code : key.lbn ≡ code_at (k ∷ way_to block) = sym (code_at-way_of key.lbn) ∙ ap code_at way ∙ ap (λ w. code_at (k ∷ w)) (sym up_is) in
+                let there : key ≡ key_of v.number (version_of p v.number) (code_at (k ∷ way_to block)) = λ n. key_of (number n) (version n) (code n) in
+                absurd (gone.free (subst (λ x. IsLocked x p.cache) there was))
           ]
-        where
-          single_of : (b : FileBlock) → code_of b ≡ 1 → b ≡ Single
-          single_of Record one = absurd (omega arith)
-          single_of Single one = refl
-          single_of (Data index) one = absurd (omega arith)
 
-          alone : (key : Key) → IsLocked key p.cache → 143 ≤ key.lbn → key.ino ≡ v.number → block ≡ Single → ⊥
-          alone key was high e is =
-              let version : key.version ≡ version_of p key.ino = (files.frames key was).at_version in
-              let below : key.lbn < 271 = elim (files.coded key was) [ inl one ↦ absurd (omega arith) | inr data_ ↦ omega arith ] in
-              let index = key.lbn - 131 in
-              let code : key.lbn ≡ 131 + index = omega arith in
-              let there : key ≡ key_of v.number (version_of p v.number) (131 + index) = λ j. key_of (e j) ((version ∙ ap (version_of p) e) j) (code j) in
-              (may.alone is index (omega arith) (omega arith)).free (subst (λ k. IsLocked k p.cache) there was)
+      holders_after : (key : Key) → IsLocked key q.cache → (k : ℕ) (above : List ℕ) → way_of key.lbn ≡ k ∷ above → HolderWaits q.cache key.ino key.version above
+      holders_after key locked k [] way = tt
+      holders_after key locked k (j ∷ above) way =
+          let was = frames_only key locked in
+          frames_kept (key_of key.ino key.version (code_at (j ∷ above))) (apart key was k j above way) (may.staged.parents.holders key was k (j ∷ above) way)
 
   few_after : length q.waiting ≤ WAITING_LIMIT
   few_after =

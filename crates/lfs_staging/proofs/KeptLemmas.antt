@@ -2,7 +2,7 @@
 use Rattle.std.proofs.Common.{◌≡◌, ◌≢◌, ◌⊎◌, ℕ, ◌+◌, ◌*◌, ◌/◌, ◌%◌, ◌<◌, ◌≤◌, List, [], ◌∷◌, All, length, Some, IsSome, is_some, true, refl, sym, ap, ◌∙◌, subst, inl, inr, arith}
 use Rattle.std.specs.Prelude.{slice_index}
 use Rattle.std.proofs.lemmas.Option.{same_Some}
-use Rattle.std.proofs.lemmas.Bool.{false≢true, cases_eq, cases_lt}
+use Rattle.std.proofs.lemmas.Bool.{cases_eq, cases_lt}
 use Rattle.std.proofs.lemmas.List.Elements.{All-cons, All-weaker}
 use Rattle.lfs_ifile.specs.Tables.{row_of}
 use Rattle.lfs_inodes.specs.declared.inode.Inode.{Inode}
@@ -32,10 +32,11 @@ use Rattle.lfs_bmap.proofs.WayLemmas.{same_code, way_of-code_of, way_of-data, wa
 use Rattle.lfs_staging.specs.declared.parts.Parts.{Parts}
 use Rattle.lfs_staging.specs.Keys.{log_state}
 use Rattle.lfs_staging.specs.Staging.{IsStaged, IsZeroPast, MayStage, SameFiles, StagesBlock, StagesData, StagesOwnRecord, StagesParents, StagesRecord}
-use Rattle.lfs_staging.specs.Store.{AreFiles, IsPresent, IsStore, IsWithin, Mirrors, ParentsWait}
+use Rattle.lfs_staging.specs.Store.{AreFiles, HolderWaits, IsPresent, IsStore, IsWithin, Mirrors, ParentsWait}
 use Rattle.lfs_staging.specs.View.{key_of, record_of, root_in, tree_of, version_of, waiting_in}
 use Rattle.lfs_staging.specs.Waiting.{AreOnce, without}
 use Rattle.lfs_staging.proofs.KeyLemmas.{place-block, place-record}
+use Rattle.lfs_staging.proofs.HolderLemmas.{holder_data, holder_kept, holder_single}
 use Rattle.lfs_staging.proofs.SettingLemmas.{some_there}
 use Rattle.lfs_staging.proofs.StagingLemmas.{record_of-same, version-same}
 use Rattle.lfs_staging.proofs.CleanLemmas.{mirrors_log}
@@ -55,9 +56,6 @@ AllWithin p = (number : ℕ) (block : FileBlock) (f : Fields) → record_of p nu
 -- the way of a data block
 data_known : (n : ℕ) → n < 140 → IsKnown (data_way n)
 data_known n low = subst IsKnown (way_of-data n) (way_of-known (131 + n) (omega arith))
-
-single_known : IsKnown (12 ∷ [])
-single_known = subst IsKnown (way_of-code_of Single) (way_of-known 1 (omega arith))
 
 -- the way of a block
 pub block_known : (block : FileBlock) → IsFileBlock block → IsKnown (way_to block)
@@ -180,7 +178,8 @@ module _ (old new : Parts) (v : Inode) (h : StagesRecord v old new) where
           ap (λ vs. is_some (waiting_in vs key.ino)) h.waiting ∙ ap is_some (waiting-staged v old.waiting key.ino other)
           ∙ parents.records key (subst (IsLocked key) h.cache locked)
     ];
-    singles = λ key locked high. subst (IsLocked (key_of key.ino key.version 1)) (sym h.cache) (parents.singles key (subst (IsLocked key) h.cache locked) high);
+    holders = λ key locked i up way.
+        subst (λ (c : Contents). HolderWaits c key.ino key.version up) (sym h.cache) (parents.holders key (subst (IsLocked key) h.cache locked) i up way);
   }
 
   pub record_room : without v.number new.waiting ≡ without v.number old.waiting
@@ -257,45 +256,46 @@ module _ (old new : Parts) (number : ℕ) (block : FileBlock) (bytes : List ℕ)
 
   -- and the parents of all that waits do
   pub block_parents : ParentsWait old → IsSome (waiting_in old.waiting number)
-      → (143 ≤ code_of block → IsLocked (key_of number (version_of old number) 1) old.cache) → ParentsWait new
-  block_parents parents record_there single = record {
+      → ((i : ℕ) (up : List ℕ) → way_of (code_of block) ≡ i ∷ up → HolderWaits old.cache number (version_of old number) up) → ParentsWait new
+  block_parents parents record_there holder = record {
     records = λ key locked. ap (λ vs. is_some (waiting_in vs key.ino)) h.waiting ∙ (elim (h.frames.only key locked) [
       | inl is ↦ subst (λ (k : Key). IsSome (waiting_in old.waiting k.ino)) (sym is) record_there
       | inr was ↦ parents.records key was
     ]);
-    singles = λ key locked high. h.frames.kept (key_of key.ino key.version 1) (elim (h.frames.only key locked) [
-      | inl is ↦
-          subst (λ (k : Key). 143 ≤ k.lbn → IsLocked (key_of k.ino k.version 1) old.cache) (sym is) single high
-      | inr was ↦ parents.singles key was high
-    ]);
+    holders = λ key locked i up way.
+        holder_kept old.cache new.cache key.ino key.version up (λ code. h.frames.kept (key_of key.ino key.version code)) (elim (h.frames.only key locked) [
+          | inl is ↦
+              subst (λ (k : Key). (i : ℕ) (up : List ℕ) → way_of k.lbn ≡ i ∷ up → HolderWaits old.cache k.ino k.version up) (sym is) holder i up way
+          | inr was ↦ parents.holders key was i up way
+        ]);
   }
 
--- ---- the single indirect block waits with what it has
-module _ (old new : Parts) (number : ℕ) (h : StagesBlock number Single (read (tree_of old number) (12 ∷ [])) old new) where
-  pub single_same : SameFiles old new
-  single_same = record {
+-- ---- a block waits with what it has
+module _ (old new : Parts) (number : ℕ) (t : FileBlock) (can : IsFileBlock t) (h : StagesBlock number t (read (tree_of old number) (way_to t)) old new) where
+  pub table_same : SameFiles old new
+  table_same = record {
     log = h.log;
-    records = block_records old new number Single (read (tree_of old number) (12 ∷ [])) h;
+    records = block_records old new number t (read (tree_of old number) (way_to t)) h;
     readings = λ n. elim (cases_eq n number) [
       | inl is ↦ subst (λ m. SameReadings (tree_of old m) (tree_of new m)) (sym is)
-          (staged_same (tree_of old number) (tree_of new number) (12 ∷ []) single_known h.staged)
+          (staged_same (tree_of old number) (tree_of new number) (way_to t) (block_known t can) h.staged)
       | inr other ↦ subst (λ t. SameReadings (tree_of old n) t) (sym (h.others n other)) (SameReadings-refl (tree_of old n))
     ];
   }
 
 -- where it waits already, nothing changes
-pub single_staged : (p : Parts) (number : ℕ) → IsContents p.cache → IsLocked (key_of number (version_of p number) 1) p.cache
-    → StagesBlock number Single (read (tree_of p number) (12 ∷ [])) p p
-single_staged p number formed locked =
-    let there = some_there (block_in (key_of number (version_of p number) 1) p.cache.locked) locked in
-    let waits : (tree_of p number).waits (12 ∷ []) ≡ Some there.0
-    = ap (λ c. block_in (key_of number (version_of p number) c) p.cache.locked) (code_at-way_to Single) ∙ there.1 in
+pub table_staged : (p : Parts) (number : ℕ) (t : FileBlock) → IsContents p.cache → IsLocked (key_of number (version_of p number) (code_of t)) p.cache
+    → StagesBlock number t (read (tree_of p number) (way_to t)) p p
+table_staged p number t formed locked =
+    let there = some_there (block_in (key_of number (version_of p number) (code_of t)) p.cache.locked) locked in
+    let waits : (tree_of p number).waits (way_to t) ≡ Some there.0
+    = ap (λ c. block_in (key_of number (version_of p number) c) p.cache.locked) (code_at-way_to t) ∙ there.1 in
     record {
       log = refl;
       waiting = refl;
       staged = record {
         root = refl;
-        waiting = waits ∙ ap Some (sym (read-waits (tree_of p number) (12 ∷ []) there.0 waits));
+        waiting = waits ∙ ap Some (sym (read-waits (tree_of p number) (way_to t) there.0 waits));
         waits = λ other known ne. refl;
         blocks = λ b. refl;
       };
@@ -407,7 +407,7 @@ pub parents_single : (old between new : Parts) (v : Inode) (index : ℕ) → May
     → StagesBlock v.number Single (read (tree_of between v.number) (12 ∷ [])) between new → 12 ≤ index → StagesParents v.number index old new
 parents_single old between new v index may h b high =
     let bytes = read (tree_of between v.number) (12 ∷ []) in
-    let second = single_same between new v.number b in
+    let second = table_same between new v.number Single tt b in
     let present = present_kept old between v.number v.version h.same.log (may_present old v may) in
     let at : IsPresent between v.number (version_of between v.number) = record { in_use = present.in_use; at_version = refl } in
     let version = version-same old between v.number h.same.log in
@@ -415,7 +415,7 @@ parents_single old between new v index may h b high =
       same = SameFiles-trans old between new h.same second;
       files = block_files between new v.number Single bytes b h.files at (inl refl)
           (λ n way known. (second.readings n).addresses way known) (same_padded between new second);
-      parents = block_parents between new v.number Single bytes b h.parents h.waits (λ high. absurd (omega arith));
+      parents = block_parents between new v.number Single bytes b h.parents h.waits (holder_single between.cache v.number (version_of between v.number));
       waits = record {
         record_waits = ap (λ vs. is_some (waiting_in vs v.number)) b.waiting ∙ h.waits;
         single_waits = λ high. subst (λ n. IsLocked (key_of v.number n 1) new.cache) (sym (version-same between new v.number b.log)) b.frames.here;
@@ -480,7 +480,7 @@ data_again old between new v index bytes low may h b whole zeros =
       files = block_files between new v.number (Data index) bytes b h.files at (inr (omega arith, omega arith))
           (data_addresses between new v.number index bytes low b)
           (data_padded between new v.number index bytes low b whole (fields_of v) (h.same.records v.number ∙ may.here) zeros);
-      parents = block_parents between new v.number (Data index) bytes b h.parents h.waits.record_waits (λ high. h.waits.single_waits (omega arith));
+      parents = block_parents between new v.number (Data index) bytes b h.parents h.waits.record_waits (holder_data between.cache v.number (version_of between v.number) index low h.waits.single_waits);
       inside = record {
         each = λ block is.
             subst (λ n. address (tree_of new v.number) (way_to block) < n) (sym (ap (λ (l : LogParts). l.memory.segments * 64) log))

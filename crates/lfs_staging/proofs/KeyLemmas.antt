@@ -1,5 +1,5 @@
 -- Where the keys of a store have their places.
-use Rattle.std.proofs.Common.{◌≡◌, ◌≢◌, ℕ, ◌+◌, ◌*◌, ◌/◌, ◌<◌, ◌≤◌, ◌⊎◌, List, [], length, None, Some, refl, sym, ap, ◌∙◌, subst, inl, inr, arith}
+use Rattle.std.proofs.Common.{◌≡◌, ◌≢◌, ℕ, ◌+◌, ◌*◌, ◌/◌, ◌<◌, ◌≤◌, ◌⊎◌, List, [], ◌∷◌, length, None, Some, refl, sym, ap, ◌∙◌, subst, inl, inr, arith}
 use Rattle.std.specs.Prelude.{slice_index, ◌==◌, ◌&&◌, nat_lt, Bool, true, false, cond}
 use Rattle.std.proofs.lemmas.Bool.{cases_Bool, cases_eq, cases_lt, cond-true, cond-false, eq-eqb, ne_eqb, lt-ltb, le-ltb, false≢true}
 use Rattle.lfs_segments.specs.Memory.{IsLaidOut}
@@ -11,18 +11,19 @@ use Rattle.lfs_ifile.specs.Tables.{Tables, place_of, row_of}
 use Rattle.lfs_bmap.specs.declared.blocks.TheConstants.{BLOCK_CODES}
 use Rattle.lfs_bmap.specs.declared.blocks.FileBlock.{FileBlock}
 use Rattle.lfs_bmap.specs.declared.blocks.FileBlock.TheVariants.{Record, Single, Data}
-use Rattle.lfs_bmap.specs.Blocks.{IsFileBlock, code_of, way_to}
+use Rattle.lfs_bmap.specs.Blocks.{IsFileBlock, IsTable, code_of, way_to}
+use Rattle.lfs_inodes.specs.Facts.{block_count}
 use Rattle.lfs_bmap.specs.Log.{LogState, IsLog}
 use Rattle.lfs_bmap.specs.Moves.{present_address}
 use Rattle.lfs_bmap.specs.Reading.{address}
 use Rattle.lfs_bmap.specs.Ways.{code_at, way_of}
 use Rattle.lfs_bmap.proofs.BlockLemmas.{code_of-below}
 use Rattle.lfs_bmap.proofs.ReadingLemmas.{address-root}
-use Rattle.lfs_bmap.proofs.WayLemmas.{way_of-code_of}
+use Rattle.lfs_bmap.proofs.WayLemmas.{data_way-direct, data_way-single, way_of-code_of}
 use Rattle.lfs_staging.specs.declared.parts.Parts.{Parts}
 use Rattle.lfs_log.specs.Parts.{record_place}
 use Rattle.lfs_staging.specs.Keys.{log_state}
-use Rattle.lfs_staging.specs.Store.{AreFiles}
+use Rattle.lfs_staging.specs.Store.{AreFiles, IsWithin}
 use Rattle.lfs_staging.specs.View.{LiesIn, blocks_of, key_of, root_in, tree_of, version_of}
 use Rattle.lfs_staging.proofs.ViewLemmas.{not_locked, nowhere, record_of-unused}
 
@@ -145,6 +146,20 @@ present-stale p number version code place is other =
 pub code-other : (block : FileBlock) → (block ≡ Single) ⊎ ((n : ℕ) × (block ≡ Data n)) → code_of block ≢ 0
 code-other block (inl single) e = let one : code_of block ≡ 1 = ap code_of single in absurd (omega arith)
 code-other block (inr found) e = let some : code_of block ≡ 131 + found.0 = ap code_of found.1 in absurd (omega arith)
+
+-- a place of a record leads to blocks below the size where its block lies within it
+pub within_root : (block : FileBlock) (size i : ℕ) → IsFileBlock block → way_to block ≡ i ∷ [] → IsWithin block size → i < block_count size
+within_root Record size i is way within = absurd (cc)
+within_root Single size i is way within = let twelve : 12 ≡ i = cc in omega arith
+within_root (Data index) size i is way within = elim (cases_lt index 12) [
+  | inl direct ↦ let same : index ≡ i = cc (data_way-direct index direct, way) in omega arith
+  | inr past ↦ absurd (cc (data_way-single index past is, way))
+]
+
+pub cell_inside : (t : FileBlock) (i : ℕ) → IsTable t i → i < 128
+cell_inside Record i is = omega arith
+cell_inside Single i is = is
+cell_inside (Data index) i is = absurd is
 
 -- ---- a number that isn't in use
 unused_row : (row : InodeRow) → place_in row ≡ None → row.used ≡ false

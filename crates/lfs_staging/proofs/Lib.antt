@@ -10,6 +10,7 @@ pub mod SettingLemmas
 pub mod ViewLemmas
 pub mod StagedLemmas
 pub mod StagingLemmas
+pub mod HolderLemmas
 pub mod WaitingLemmas
 pub mod KeptLemmas
 pub mod PuttingLemmas

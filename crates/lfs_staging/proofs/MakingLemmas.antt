@@ -29,7 +29,7 @@ use Rattle.lfs_staging.specs.Files.{file_at, file_with}
 use Rattle.lfs_staging.specs.Keys.{log_state}
 use Rattle.lfs_staging.specs.Making.{HasNoBlock, KeepsOthers}
 use Rattle.lfs_staging.specs.Staging.{IsStaged}
-use Rattle.lfs_staging.specs.Store.{AreFiles, IsFile, IsLogged, IsPresent, ParentsWait}
+use Rattle.lfs_staging.specs.Store.{AreFiles, HolderWaits, IsFile, IsLogged, IsPresent, ParentsWait}
 use Rattle.lfs_staging.specs.View.{fields_at, key_of, record_of, root_in, tree_of, version_of, waiting_in, waiting_or}
 use Rattle.lfs_staging.specs.Waiting.{AreOnce}
 use Rattle.lfs_staging.proofs.CleanLemmas.{logged_kept}
@@ -130,7 +130,8 @@ module _ (number : ℕ) (old new : Parts) (h : KeepsOthers number old new) where
       records = λ key locked.
           let was = still_locked key locked in
           ap is_some (h.waiting key.ino (none key was)) ∙ parents.records key was;
-      singles = λ key locked high. subst (IsLocked (key_of key.ino key.version 1)) (sym h.cache) (parents.singles key (still_locked key locked) high);
+      holders = λ key locked i up way.
+          subst (λ (c : Contents). HolderWaits c key.ino key.version up) (sym h.cache) (parents.holders key (still_locked key locked) i up way);
     }
 
     pub files_still : AreFiles old → IsParts new.log

@@ -268,7 +268,7 @@ module _ (segments inodes frames : ℕ) (p : Parts) (h : IsOpening segments inod
     whole = opening_files formed;
     log = opening_log;
     ready = h.memory.ready;
-    parents = record { records = λ key locked. absurd (none_locked key locked); singles = λ key locked high. absurd (none_locked key locked) };
+    parents = record { records = λ key locked. absurd (none_locked key locked); holders = λ key locked i up way. absurd (none_locked key locked) };
     once = none_once p.waiting h.no_record;
     few = let none : length p.waiting ≡ 0 = ap (λ (vs : List Inode). length vs) h.no_record in omega arith;
     within = λ number block f is can locked. absurd (none_locked _ locked);

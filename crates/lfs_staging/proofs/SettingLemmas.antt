@@ -10,15 +10,17 @@ use Rattle.lfs_inodes.specs.declared.inode.Inode.{Inode}
 use Rattle.lfs_inodes.specs.Addresses.{addresses, cells}
 use Rattle.lfs_inodes.specs.Attributes.{Attributes, attributes}
 use Rattle.lfs_inodes.specs.Reading.{fields_of}
-use Rattle.lfs_cache.specs.Contents.{Contents, block_in}
+use Rattle.lfs_cache.specs.Contents.{Contents, IsLocked, block_in}
 use Rattle.lfs_cache.specs.Keys.{same_key}
 use Rattle.lfs_log.specs.Parts.{LogParts}
 use Rattle.lfs_bmap.specs.Reading.{table}
-use Rattle.lfs_bmap.specs.declared.blocks.FileBlock.TheVariants.{Single}
-use Rattle.lfs_bmap.proofs.ReadingLemmas.{table-root, table-read, read-waits}
+use Rattle.lfs_bmap.specs.declared.blocks.FileBlock.{FileBlock}
+use Rattle.lfs_bmap.specs.Blocks.{code_of, way_to}
+use Rattle.lfs_bmap.specs.Ways.{code_at}
+use Rattle.lfs_bmap.proofs.ReadingLemmas.{table-cells, table-root, read-waits}
 use Rattle.lfs_staging.specs.declared.parts.Parts.{Parts}
 use Rattle.lfs_staging.specs.Addressing.{numbers_of, IsWaiting, Replaces, Sets, SetsEntry, StaysWaiting, replaced}
-use Rattle.lfs_staging.specs.Store.{IsPresent}
+use Rattle.lfs_staging.specs.Store.{HolderWaits, IsPresent}
 use Rattle.lfs_staging.specs.View.{fields_at, key_of, record_of, root_in, tree_of, version_of, waiting_in, waiting_or}
 use Rattle.lfs_staging.proofs.HeldLemmas.{GainsNoClean-same}
 use Rattle.lfs_staging.proofs.ViewLemmas.{code_at-way_to, record_of-waiting}
@@ -36,17 +38,29 @@ record_same p q number log waits =
 pub waiting_record : (p : Parts) (v : Inode) → IsWaiting p v → record_of p v.number ≡ Some (fields_of v)
 waiting_record p v h = record_of-waiting p v.number _ v (cond-true _ _ _ h.in_use) h.waits
 
--- what waits for the single indirect block
-pub single_waits : (p : Parts) (v : Inode) (o : Option (List ℕ)) → IsWaiting p v → block_in (key_of v.number v.version 1) p.cache.locked ≡ o
-    → (tree_of p v.number).waits (12 ∷ []) ≡ o
-single_waits p v o h waits =
-    ap (λ c. block_in (key_of v.number (version_of p v.number) c) p.cache.locked) (code_at-way_to Single)
-    ∙ ap (λ n. block_in (key_of v.number n 1) p.cache.locked) (sym h.at_version) ∙ waits
+pub not_nil : (j : ℕ) (above : List ℕ) → j ∷ above ≡ [] → ⊥
+not_nil j above e = cc
 
-pub single_table : (p : Parts) (v : Inode) (b : List ℕ) → IsWaiting p v → block_in (key_of v.number v.version 1) p.cache.locked ≡ Some b
-    → table (tree_of p v.number) (12 ∷ []) ≡ cells b
-single_table p v b h waits =
-    table-read (tree_of p v.number) 12 [] ∙ ap cells (read-waits (tree_of p v.number) (12 ∷ []) b (single_waits p v (Some b) h waits))
+-- what waits for a block that holds addresses
+pub held_waits : (p : Parts) (v : Inode) (t : FileBlock) (o : Option (List ℕ)) → IsWaiting p v → block_in (key_of v.number v.version (code_of t)) p.cache.locked ≡ o
+    → (tree_of p v.number).waits (way_to t) ≡ o
+held_waits p v t o h waits =
+    ap (λ c. block_in (key_of v.number (version_of p v.number) c) p.cache.locked) (code_at-way_to t)
+    ∙ ap (λ n. block_in (key_of v.number n (code_of t)) p.cache.locked) (sym h.at_version) ∙ waits
+
+pub held_table : (p : Parts) (v : Inode) (t : FileBlock) (b : List ℕ) → way_to t ≢ [] → IsWaiting p v → block_in (key_of v.number v.version (code_of t)) p.cache.locked ≡ Some b
+    → table (tree_of p v.number) (way_to t) ≡ cells b
+held_table p v t b some h waits =
+    table-cells (tree_of p v.number) (way_to t) some ∙ ap cells (read-waits (tree_of p v.number) (way_to t) b (held_waits p v t (Some b) h waits))
+
+-- what holds an address waits
+pub holder_waits : (c : Contents) (number version : ℕ) (up : List ℕ) → (up ≢ [] → IsLocked (key_of number version (code_at up)) c) → HolderWaits c number version up
+holder_waits c number version [] waits = tt
+holder_waits c number version (i ∷ up) waits = waits (not_nil i up)
+
+pub holder_locked : (c : Contents) (number version : ℕ) (up : List ℕ) → up ≢ [] → HolderWaits c number version up → IsLocked (key_of number version (code_at up)) c
+holder_locked c number version [] some waits = absurd (some refl)
+holder_locked c number version (i ∷ up) some waits = waits
 
 pub record_table : (p : Parts) (v : Inode) → IsWaiting p v → table (tree_of p v.number) [] ≡ addresses v
 record_table p v h = table-root (tree_of p v.number) ∙ ap root_in (waiting_record p v h)
@@ -62,9 +76,6 @@ present_kept p q number version log h = record {
 pub at_way : (P : ℕ → List ℕ → Type 0) (way : List ℕ) (j : ℕ) (above : List ℕ) → way ≡ j ∷ above → P j above → (i : ℕ) (up : List ℕ) → way ≡ i ∷ up → P i up
 at_way P way j above is h i up e =
     let first : j ≡ i = cc in let rest : above ≡ up = cc in subst (P i) rest (subst (λ k. P k above) first h)
-
-not_nil : (j : ℕ) (above : List ℕ) → j ∷ above ≡ [] → ⊥
-not_nil j above e = cc
 
 -- what is there
 pub some_there : (o : Option (List ℕ)) → IsSome o → (x : List ℕ) × (o ≡ Some x)
@@ -120,9 +131,9 @@ module _ (p q : Parts) (v w : Inode) (is : IsWaiting p v) (log : q.log ≡ p.log
           (each_replaced (λ (x : Inode). IsPresent q x.number x.version) xs w (record { in_use = here.in_use; at_version = here.at_version })
           (All-weaker (λ (x : Inode). IsPresent p x.number x.version) (λ (x : Inode). IsPresent q x.number x.version) (λ x h. present_kept p q x.number x.version log h) xs present))
 
--- an address is set in the single indirect block
-module _ (p q : Parts) (v : Inode) (i a : ℕ) (b : List ℕ) (is : IsWaiting p v) (log : q.log ≡ p.log) (waiting : q.waiting ≡ p.waiting)
-    (was : block_in (key_of v.number v.version 1) p.cache.locked ≡ Some b) (h : SetsEntry p.cache q.cache (key_of v.number v.version 1) i a b) where
+-- an address is set in an indirect block
+module _ (p q : Parts) (v : Inode) (t : FileBlock) (i a : ℕ) (b : List ℕ) (some : way_to t ≢ []) (is : IsWaiting p v) (log : q.log ≡ p.log) (waiting : q.waiting ≡ p.waiting)
+    (was : block_in (key_of v.number v.version (code_of t)) p.cache.locked ≡ Some b) (h : SetsEntry p.cache q.cache (key_of v.number v.version (code_of t)) i a b) where
   pub entry_here : IsWaiting q v
   entry_here = record {
     waits = ap (λ items. waiting_in items v.number) waiting ∙ is.waits;
@@ -130,17 +141,17 @@ module _ (p q : Parts) (v : Inode) (i a : ℕ) (b : List ℕ) (is : IsWaiting p 
     at_version = is.at_version ∙ ap (λ (l : LogParts). (row_of l.tables v.number).version) (sym log);
   }
 
-  pub sets_entry : Sets p q v i (12 ∷ []) a
+  pub sets_entry : Sets p q v i (way_to t) a
   sets_entry = record {
     log = log;
-    parent = single_table q v h.after entry_here h.rewritten.here ∙ h.changed ∙ ap (λ ys. slice_set ys i a) (sym (single_table p v b is was));
-    root = λ some. record_same p q v.number log (ap (λ items. waiting_in items v.number) waiting);
+    parent = held_table q v t h.after some entry_here h.rewritten.here ∙ h.changed ∙ ap (λ ys. slice_set ys i a) (sym (held_table p v t b some is was));
+    root = λ _. record_same p q v.number log (ap (λ items. waiting_in items v.number) waiting);
     records = λ number other. record_same p q number log (ap (λ items. waiting_in items number) waiting);
-    waits = λ key other. h.rewritten.others key (subst (λ c. same_key (key_of v.number v.version c) key ≡ false) (code_at-way_to Single) other);
-    record_only = λ e. absurd (not_nil 12 [] e);
+    waits = λ key other. h.rewritten.others key (subst (λ c. same_key (key_of v.number v.version c) key ≡ false) (code_at-way_to t) other);
+    record_only = λ e. absurd (some e);
     many = h.rewritten.many;
     clean = h.rewritten.clean;
-    still = ap (λ c. is_some (block_in (key_of v.number v.version c) q.cache.locked)) (code_at-way_to Single) ∙ ap is_some h.rewritten.here;
+    still = holder_waits q.cache v.number v.version (way_to t) (λ _. ap (λ c. is_some (block_in (key_of v.number v.version c) q.cache.locked)) (code_at-way_to t) ∙ ap is_some h.rewritten.here);
   }
 
   pub stays_entry : All (λ (x : Inode). IsPresent p x.number x.version) p.waiting → StaysWaiting p q v

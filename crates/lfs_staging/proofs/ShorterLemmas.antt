@@ -13,7 +13,7 @@ use Rattle.lfs_inodes.proofs.AddressLemmas.{length-addresses}
 use Rattle.lfs_inodes.proofs.FieldLemmas.{AreFields-fields_of}
 use Rattle.lfs_inodes.proofs.ZeroedLemmas.{zeroed_from-is}
 use Rattle.lfs_cache.specs.Changes.{IsContents}
-use Rattle.lfs_cache.specs.Contents.{Contents, IsLocked}
+use Rattle.lfs_cache.specs.Contents.{IsLocked}
 use Rattle.lfs_log.specs.Parts.{IsParts, LogParts}
 use Rattle.lfs_bmap.specs.declared.blocks.FileBlock.{FileBlock}
 use Rattle.lfs_bmap.specs.declared.blocks.FileBlock.TheVariants.{Record, Single, Data}

@@ -26,7 +26,8 @@ use Rattle.lfs_staging.specs.Staging.{IsStaged, MayStage, SameFiles, StagesBlock
 use Rattle.lfs_staging.specs.Store.{AreFiles, IsPresent, IsWithin, ParentsWait}
 use Rattle.lfs_staging.specs.View.{key_of, record_of, tree_of, version_of, waiting_in}
 use Rattle.lfs_staging.specs.Waiting.{AreOnce, without}
-use Rattle.lfs_staging.proofs.KeptLemmas.{block_files, block_known, block_parents, few_records, keys_kept, log_kept, same_padded, single_same, within_code}
+use Rattle.lfs_staging.proofs.KeptLemmas.{block_files, block_known, block_parents, few_records, keys_kept, log_kept, same_padded, table_same, within_code}
+use Rattle.lfs_staging.proofs.HolderLemmas.{holder_single}
 use Rattle.lfs_staging.proofs.KeyLemmas.{lies_in}
 use Rattle.lfs_staging.proofs.SameContentLemmas.{content_of-same, file_at-kept}
 use Rattle.lfs_staging.proofs.StagingLemmas.{version-same}
@@ -90,20 +91,20 @@ module _ (old new : Parts) (v : Inode) (may : MayStage old v) (waits : IsSome (w
     (h : StagesBlock v.number Single (read (tree_of old v.number) (12 ∷ [])) old new) where
   pub single_files : AreFiles new
   single_files =
-      let same = single_same old new v.number h in
+      let same = table_same old new v.number Single tt h in
       let at : IsPresent old v.number (version_of old v.number) = record { in_use = may.in_use; at_version = refl } in
       block_files old new v.number Single (read (tree_of old v.number) (12 ∷ [])) h may.files at (inl refl)
       (λ n way known. (same.readings n).addresses way known) (same_padded old new same)
 
   pub single_parents : ParentsWait new
-  single_parents = block_parents old new v.number Single (read (tree_of old v.number) (12 ∷ [])) h may.parents waits (λ high. absurd (omega arith))
+  single_parents = block_parents old new v.number Single (read (tree_of old v.number) (12 ∷ [])) h may.parents waits (holder_single old.cache v.number (version_of old v.number))
 
   pub single_again : MayStage new v
-  single_again = may_again old new v may (single_same old new v.number h) single_files single_parents (ap (without v.number) h.waiting)
+  single_again = may_again old new v may (table_same old new v.number Single tt h) single_files single_parents (ap (without v.number) h.waiting)
 
   pub single_kept : 12 < block_count v.size → (spare : ℕ) → IsStaged old spare → IsStaged new spare
   single_kept past spare staged =
-      let same = single_same old new v.number h in
+      let same = table_same old new v.number Single tt h in
       record {
         whole = single_files;
         log = log_kept old new spare h.log (λ n way known. (same.readings n).addresses way known) staged.log;

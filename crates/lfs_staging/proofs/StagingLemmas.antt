@@ -1,5 +1,5 @@
 -- What staging keeps.
-use Rattle.std.proofs.Common.{◌≡◌, ◌≢◌, ℕ, zero, suc, ◌+◌, ◌≤◌, List, [], ◌∷◌, length, Option, None, Some, is_some, option_and_then, true, false, refl, sym, ap, ◌∙◌, subst, inl, inr}
+use Rattle.std.proofs.Common.{◌≡◌, ◌≢◌, ℕ, ◌+◌, ◌≤◌, List, ◌∷◌, length, Some, is_some, option_and_then, true, false, refl, sym, ap, ◌∙◌, subst, inl, inr}
 use Rattle.lfs_ifile.specs.declared.inode.InodePlace.{InodePlace}
 use Rattle.lfs_ifile.specs.Tables.{place_of, row_of}
 use Rattle.lfs_inodes.specs.declared.inode.Inode.{Inode}

@@ -1,27 +1,24 @@
 -- What the record of a number is, and the bytes that wait.
-use Rattle.std.proofs.Common.{◌≡◌, ◌≢◌, ℕ, ◌-◌, ◌<◌, ◌≤◌, List, [], ◌∷◌, length, Option, None, Some, option_and_then, is_some, refl, sym, ap, ◌∙◌, arith}
+use Rattle.std.proofs.Common.{◌≡◌, ◌≢◌, ℕ, List, [], ◌∷◌, Option, None, Some, option_and_then, is_some, refl, sym, ap, ◌∙◌}
 use Rattle.std.specs.Prelude.{slice_index}
-use Rattle.std.proofs.lemmas.Option.{same_Some}
-use Rattle.std.proofs.lemmas.List.{get_or_append_left, get_or-append_right}
 use Rattle.lfs_inodes.specs.Addresses.{addresses, cells}
 use Rattle.lfs_types.specs.Blocks.{zero_block}
 use Rattle.lfs_inodes.proofs.ZeroedLemmas.{slice_index-cells_zero_block}
 use Rattle.lfs_bmap.specs.Reading.{Tree, address, bytes_via, read}
-use Rattle.lfs_bmap.specs.Ways.{data_way}
-use Rattle.lfs_bmap.proofs.ReadingLemmas.{address-cell, address-root, table-root, table-read, read-via, via-log, via-none, via-waits}
+use Rattle.lfs_bmap.proofs.ReadingLemmas.{address-cell, address-root, table-cells, table-root, table-read, read-via, via-none}
 use Rattle.lfs_ifile.specs.declared.inode.InodePlace.{InodePlace}
 use Rattle.lfs_ifile.specs.declared.inode.InodeRow.{InodeRow}
 use Rattle.lfs_ifile.specs.Inode.{place_in}
 use Rattle.lfs_ifile.specs.Tables.{place_of, row_at}
-use Rattle.lfs_segments.specs.Memory.{SegmentMemory, block_at}
+use Rattle.lfs_segments.specs.Memory.{SegmentMemory}
 use Rattle.lfs_inodes.specs.declared.inode.Inode.{Inode}
 use Rattle.lfs_inodes.specs.Reading.{fields_of}
 use Rattle.lfs_cache.specs.declared.key.Key.{Key}
-use Rattle.lfs_cache.specs.Contents.{Contents, block_in, IsLocked, block_of, or_else}
+use Rattle.lfs_cache.specs.Contents.{Contents, block_in, IsLocked}
 use Rattle.lfs_bmap.specs.Blocks.{code_of, way_to}
 use Rattle.lfs_bmap.specs.Ways.{code_at}
 use Rattle.lfs_bmap.specs.declared.blocks.FileBlock.{FileBlock}
-use Rattle.lfs_bmap.proofs.WayLemmas.{way_of-code_of, code_at-way_of, data_way-direct, data_way-single}
+use Rattle.lfs_bmap.proofs.WayLemmas.{way_of-code_of, code_at-way_of}
 use Rattle.lfs_staging.specs.declared.parts.Parts.{Parts}
 use Rattle.lfs_staging.specs.View.{record_of, fields_at, waiting_in, waiting_or, key_of, tree_from}
 
@@ -63,28 +60,24 @@ pub no_some : {A : Type 0} (o : Option A) → ((x : A) → o ≡ Some x → ⊥)
 no_some None h = refl
 no_some (Some x) h = absurd (h x refl)
 
--- the addresses of a file's blocks: in the record, or in the single indirect block
-root_cell : (p : Parts) (v : Inode) (i : ℕ) → address (tree_from p v) (i ∷ []) ≡ slice_index (addresses v) i
+-- the address of a block stands in the record
+pub root_cell : (p : Parts) (v : Inode) (i : ℕ) → address (tree_from p v) (i ∷ []) ≡ slice_index (addresses v) i
 root_cell p v i =
     address-cell (tree_from p v) i [] ∙ ap (λ ys. slice_index ys i) (table-root (tree_from p v))
 
-pub single-address : (p : Parts) (v : Inode) → address (tree_from p v) (12 ∷ []) ≡ v.single
-single-address p v =
-    root_cell p v 12 ∙ get_or-append_right v.direct (v.single ∷ []) 12 12 0 v.whole (omega arith)
+code_at-nil : code_at [] ≡ 0
+unfolding code_at
+code_at-nil = refl
 
-pub direct-address : (p : Parts) (v : Inode) (n : ℕ) → n < 12 → address (tree_from p v) (data_way n) ≡ slice_index v.direct n
-direct-address p v n low =
-    let inside : n < length v.direct = omega (arith, v.whole) in
-    ap (address (tree_from p v)) (data_way-direct n low) ∙ root_cell p v n ∙ get_or_append_left v.direct (v.single ∷ []) 0 n inside
+-- a way to another block than the record leads somewhere
+pub way_to-some : (block : FileBlock) → code_of block ≢ 0 → way_to block ≢ []
+way_to-some block other e = other (sym (code_at-way_to block) ∙ ap code_at e ∙ code_at-nil)
 
-pub indirect-address : (p : Parts) (v : Inode) (n : ℕ) → 12 ≤ n → n < 140
-    → address (tree_from p v) (data_way n) ≡ slice_index (cells (bytes_via (tree_from p v) (12 ∷ []) v.single)) (n - 12)
-indirect-address p v n high low =
-    let t = tree_from p v in
-    ap (address t) (data_way-single n high low) ∙ address-cell t (n - 12) (12 ∷ [])
-    ∙ ap (λ ys. slice_index ys (n - 12)) (table-read t 12 [])
-    ∙ ap (λ b. slice_index (cells b) (n - 12)) (read-via t (12 ∷ []))
-    ∙ ap (λ a. slice_index (cells (bytes_via t (12 ∷ []) a)) (n - 12)) (single-address p v)
+-- or in the bytes of another block
+pub held_cell : (t : Tree) (i : ℕ) (up bytes : List ℕ) (a : ℕ) → up ≢ [] → a ≡ address t up → bytes ≡ bytes_via t up a → slice_index (cells bytes) i ≡ address t (i ∷ up)
+held_cell t i up bytes a some at is =
+    ap (λ b. slice_index (cells b) i) (is ∙ ap (bytes_via t up) at ∙ sym (read-via t up))
+    ∙ ap (λ ys. slice_index ys i) (sym (table-cells t up some)) ∙ sym (address-cell t i up)
 
 -- ---- a file without blocks
 -- where the record has no address and nothing waits, no block has one

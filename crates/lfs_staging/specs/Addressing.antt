@@ -1,5 +1,5 @@
--- The address of a block is set in what holds it, which waits: the record, or the single indirect block.
-use Rattle.std.specs.Prelude.{map, ◌≡◌, ◌≢◌, ℕ, List, [], ◌∷◌, length, Some, true, false, ◌==◌, slice_set, All, ⊤}
+-- The address of a block is set in what holds it, which waits: the record, or an indirect block.
+use Rattle.std.specs.Prelude.{map, ◌≡◌, ◌≢◌, ℕ, List, [], length, Some, true, false, ◌==◌, slice_set, All}
 use Rattle.std.specs.List.{position_or_len}
 use Rattle.lfs_ifile.specs.Tables.{row_of}
 use Rattle.lfs_inodes.specs.declared.inode.Inode.{Inode}
@@ -7,13 +7,13 @@ use Rattle.lfs_inodes.specs.Addresses.{cells}
 use Rattle.lfs_inodes.specs.Attributes.{attributes}
 use Rattle.lfs_cache.specs.declared.key.Key.{Key}
 use Rattle.lfs_cache.specs.Changes.{IsContents}
-use Rattle.lfs_cache.specs.Contents.{Contents, IsLocked, block_in}
+use Rattle.lfs_cache.specs.Contents.{Contents, block_in}
 use Rattle.lfs_cache.specs.Keys.{same_key}
 use Rattle.lfs_bmap.specs.Reading.{table}
 use Rattle.lfs_bmap.specs.Ways.{code_at}
 use Rattle.lfs_staging.specs.declared.parts.Parts.{Parts}
 use Rattle.lfs_staging.specs.Clean.{GainsNoClean}
-use Rattle.lfs_staging.specs.Store.{IsPresent}
+use Rattle.lfs_staging.specs.Store.{HolderWaits, IsPresent}
 use Rattle.lfs_staging.specs.View.{key_of, record_of, tree_of, version_of, waiting_in}
 
 -- some records with another one in place of the first of its number
@@ -44,11 +44,6 @@ pub record Rewrites (old new : Contents) (key : Key) (block : List ℕ) : Type 0
   pub formed : IsContents new
   pub many : length new.locked ≡ length old.locked
 
--- what holds the address of a block waits: the record, or the single indirect block
-abbrev pub ParentWaits : Parts → Inode → List ℕ → Type 0
-ParentWaits p v [] = ⊤
-ParentWaits p v (i ∷ up) = IsLocked (key_of v.number v.version (code_at (i ∷ up))) p.cache
-
 -- An address was set in a block of a file, or in its record, at a place: what holds it waits, and nothing else of any
 -- file changed.
 pub record Sets (old new : Parts) (v : Inode) (i : ℕ) (up : List ℕ) (a : ℕ) : Type 0 where
@@ -61,7 +56,7 @@ pub record Sets (old new : Parts) (v : Inode) (i : ℕ) (up : List ℕ) (a : ℕ
   pub record_only : up ≡ [] → new.cache ≡ old.cache
   pub many : length new.cache.locked ≡ length old.cache.locked
   pub clean : GainsNoClean old.cache new.cache
-  pub still : ParentWaits new v up
+  pub still : HolderWaits new.cache v.number v.version up
 
 -- What waits is still formed: the record of the number too, which has the attributes that it had.
 pub record StaysWaiting (old new : Parts) (v : Inode) : Type 0 where

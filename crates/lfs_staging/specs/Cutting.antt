@@ -1,5 +1,5 @@
 -- The length of a file is set.
-use Rattle.std.specs.Prelude.{◌≡◌, ◌≢◌, ℕ, ◌+◌, ◌%◌, ◌<◌, ◌≤◌, ◌⊎◌, List, length, Some, IsSome, false, true, if◌then◌else◌, ◌==◌}
+use Rattle.std.specs.Prelude.{◌≡◌, ◌≢◌, ℕ, ◌+◌, ◌%◌, ◌<◌, ◌≤◌, ◌⊎◌, List, ◌∷◌, length, Some, IsSome, false, true, if◌then◌else◌, ◌==◌}
 use Rattle.std.specs.FinMap as map
 use Rattle.lfs_types.specs.Blocks.{zero_block}
 use Rattle.lfs_types.specs.Changes.{changed_at}
@@ -20,12 +20,12 @@ use Rattle.lfs_bmap.specs.declared.blocks.FileBlock.TheVariants.{Single, Data}
 use Rattle.lfs_bmap.specs.Blocks.{IsFileBlock, code_of, way_to}
 use Rattle.lfs_bmap.specs.Pieces.{IsCut, IsPadded}
 use Rattle.lfs_bmap.specs.Reading.{address, data_block}
-use Rattle.lfs_bmap.specs.Ways.{IsKnown, data_way}
+use Rattle.lfs_bmap.specs.Ways.{IsKnown, code_at, data_way}
 use Rattle.lfs_staging.specs.declared.parts.Parts.{Parts}
 use Rattle.lfs_staging.specs.Changing.{StaysInLog, frames_of_length}
 use Rattle.lfs_staging.specs.Addressing.{numbers_of}
 use Rattle.lfs_staging.specs.Staging.{IsStaged}
-use Rattle.lfs_staging.specs.Store.{IsWithin}
+use Rattle.lfs_staging.specs.Store.{HolderWaits, IsWithin}
 use Rattle.lfs_staging.specs.View.{key_of, record_of, tree_of, version_of, waiting_in}
 
 -- the content with a file cut, or with zeros added to it, to have this many bytes
@@ -42,8 +42,13 @@ pub record IsAlone (p : Parts) (number : ℕ) : Type 0 where
   pub nowhere : address (tree_of p number) (way_to Single) ≡ 0
   pub free : IsLocked (key_of number (version_of p number) 1) p.cache → ⊥
 
--- A block of a file may be given back: it lies within the file, whose record waits, and so does the single indirect block
--- where it holds the block's address; the single indirect block goes once the blocks that it leads to went.
+-- The block at the end of a way of a number has no address, and doesn't wait.
+pub record IsGone (p : Parts) (number : ℕ) (way : List ℕ) : Type 0 where
+  pub nowhere : address (tree_of p number) way ≡ 0
+  pub free : IsLocked (key_of number (version_of p number) (code_at way)) p.cache → ⊥
+
+-- A block of a file may be given back: it lies within the file, whose record waits, and so does what holds the block's
+-- address; the blocks whose addresses it holds went before.
 pub record MayClear (p : Parts) (number : ℕ) (block : FileBlock) : Type 0 where
   pub staged : IsStaged p 0
   pub in_use : (row_of p.log.tables number).used ≡ true
@@ -51,8 +56,8 @@ pub record MayClear (p : Parts) (number : ℕ) (block : FileBlock) : Type 0 wher
   pub can : IsFileBlock block
   pub other : code_of block ≢ 0
   pub within : (f : Fields) → record_of p number ≡ Some f → IsWithin block f.attributes.size
-  pub parent : FIRST_DATA_CODE + DIRECT_BLOCKS ≤ code_of block → IsLocked (key_of number (version_of p number) 1) p.cache
-  pub alone : block ≡ Single → (index : ℕ) → DIRECT_BLOCKS ≤ index → index < FILE_BLOCKS → IsGivenBack p number index
+  pub parent : (i : ℕ) (up : List ℕ) → way_to block ≡ i ∷ up → HolderWaits p.cache number (version_of p number) up
+  pub beneath : (j : ℕ) → IsKnown (j ∷ way_to block) → IsGone p number (j ∷ way_to block)
 
 -- the record of a number has these attributes
 pub record HasAttributes (p : Parts) (number : ℕ) (a : Attributes) : Type 0 where

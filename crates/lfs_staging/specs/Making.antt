@@ -13,6 +13,7 @@ use Rattle.lfs_log.specs.Parts.{IsParts}
 use Rattle.lfs_staging.specs.declared.parts.Parts.{Parts}
 use Rattle.lfs_staging.specs.View.{record_of, root_in, waiting_in}
 use Rattle.lfs_staging.specs.Waiting.{without}
+use Rattle.lfs_inodes.specs.declared.inode.TheConstants.{ROOT_COUNT}
 
 -- Nothing changed but live bytes and what is of one number: no block, no frame, no other row and no other record.
 pub record KeepsOthers (number : ℕ) (old new : Parts) : Type 0 where
@@ -39,7 +40,7 @@ pub record Makes (number version : ℕ) (attrs : Attrs) (v : Inode) (old new : P
   pub waiting : new.waiting ≡ v ∷ without v.number old.waiting
   pub here : record_of new v.number ≡ Some (fields_of v)
   pub attributes : attributes v ≡ attributes_from number version attrs 0
-  pub addresses : addresses v ≡ replicate 13 0
+  pub addresses : addresses v ≡ replicate ROOT_COUNT 0
 
 -- A number was taken back: its row is unused and has no address, its record doesn't wait, and nothing else changed but
 -- live bytes.

@@ -16,6 +16,7 @@ use Rattle.lfs_inodes.specs.Slots.{slot_of}
 use Rattle.lfs_cache.specs.Contents.{nothing_in}
 use Rattle.lfs_log.specs.Parts.{IsParts}
 use Rattle.lfs_staging.specs.declared.parts.Parts.{Parts}
+use Rattle.lfs_inodes.specs.declared.inode.TheConstants.{ROOT_COUNT}
 
 -- a number of segments, of inode numbers or of frames is the first one out of its range, and below it
 abbrev pub IsTooFew : ℕ → ℕ → ℕ → Type 0
@@ -33,7 +34,7 @@ inodes_entry = record { number = 0; version = 0; block = Inodes }
 
 -- the record of the root directory at a version
 abbrev pub root_fields : ℕ → Fields
-root_fields version = record { attributes = attributes_from ROOT_INODE version (attrs_of fresh_root) 0; addresses = replicate 13 0 }
+root_fields version = record { attributes = attributes_from ROOT_INODE version (attrs_of fresh_root) 0; addresses = replicate ROOT_COUNT 0 }
 
 -- the row of the root directory: its record stands in slot 0 of block 2
 abbrev pub root_row : InodeRow

@@ -1,5 +1,5 @@
 -- What holds of the parts of a store.
-use Rattle.std.specs.Prelude.{◌≡◌, ◌≢◌, ◌⊎◌, ℕ, ◌+◌, ◌<◌, ◌≤◌, List, [], Some, IsSome, true, false, All, length, ⊤}
+use Rattle.std.specs.Prelude.{◌≡◌, ◌≢◌, ◌⊎◌, ℕ, ◌<◌, ◌≤◌, List, [], ◌∷◌, Some, IsSome, true, false, All, length, ⊤}
 use Rattle.lfs_types.specs.declared.limits.TheConstants.{FILE_BLOCKS, FIRST_INODE, ROOT_INODE}
 use Rattle.lfs_segments.specs.Log.{Expects}
 use Rattle.lfs_segments.specs.Memory.{block_at}
@@ -9,7 +9,7 @@ use Rattle.lfs_inodes.specs.Facts.{block_count}
 use Rattle.lfs_inodes.specs.Reading.{Fields, AreFields}
 use Rattle.lfs_cache.specs.declared.key.Key.{Key}
 use Rattle.lfs_cache.specs.Changes.{IsContents}
-use Rattle.lfs_cache.specs.Contents.{IsLocked, block_in}
+use Rattle.lfs_cache.specs.Contents.{Contents, IsLocked, block_in}
 use Rattle.lfs_log.specs.Parts.{IsParts}
 use Rattle.lfs_bmap.specs.declared.blocks.TheConstants.{BLOCK_CODES, DIRECT_BLOCKS, FIRST_DATA_CODE}
 use Rattle.lfs_bmap.specs.declared.blocks.FileBlock.{FileBlock}
@@ -18,7 +18,7 @@ use Rattle.lfs_bmap.specs.Blocks.{IsFileBlock, code_of}
 use Rattle.lfs_bmap.specs.Log.{IsLog}
 use Rattle.lfs_bmap.specs.Pieces.{IsPadded}
 use Rattle.lfs_bmap.specs.Reading.{address, data_block}
-use Rattle.lfs_bmap.specs.Ways.{data_way, way_of}
+use Rattle.lfs_bmap.specs.Ways.{code_at, data_way, way_of}
 use Rattle.lfs_staging.specs.declared.records.TheConstants.{WAITING_LIMIT}
 use Rattle.lfs_staging.specs.declared.parts.Parts.{Parts}
 use Rattle.lfs_staging.specs.Keys.{log_state}
@@ -70,12 +70,15 @@ pub record AreFiles (p : Parts) : Type 0 where
   pub coded : (key : Key) → IsLocked key p.cache → (key.lbn ≡ 1) ⊎ ((FIRST_DATA_CODE ≤ key.lbn) × (key.lbn < BLOCK_CODES))
   pub mirrors : Mirrors p
 
--- Where a block waits, its parents do: the record of its number, and for a data block past the direct ones the single
--- indirect block.
+-- The block at a way of a number waits, which holds addresses. The record, at the empty way, is asked elsewhere.
+abbrev pub HolderWaits : Contents → ℕ → ℕ → List ℕ → Type 0
+HolderWaits c number version [] = ⊤
+HolderWaits c number version (i ∷ up) = IsLocked (key_of number version (code_at (i ∷ up))) c
+
+-- Where a block waits, its parents do: the record of its number, and the block that holds its address.
 pub record ParentsWait (p : Parts) : Type 0 where
   pub records : (key : Key) → IsLocked key p.cache → IsSome (waiting_in p.waiting key.ino)
-  pub singles : (key : Key) → IsLocked key p.cache → FIRST_DATA_CODE + DIRECT_BLOCKS ≤ key.lbn
-      → IsLocked (key_of key.ino key.version 1) p.cache
+  pub holders : (key : Key) → IsLocked key p.cache → (i : ℕ) (up : List ℕ) → way_of key.lbn ≡ i ∷ up → HolderWaits p.cache key.ino key.version up
 
 -- What holds between the calls of a store: of its files, of its log, which goes on with a summary, and of what waits.
 pub record IsStore (p : Parts) : Type 0 where

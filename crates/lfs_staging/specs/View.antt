@@ -1,5 +1,5 @@
 -- What the parts of a store say of a file: its record, the addresses of its blocks, their bytes.
-use Rattle.std.specs.Prelude.{◌≡◌, ℕ, ◌*◌, ◌<◌, List, [], Option, Some, None, option_and_then}
+use Rattle.std.specs.Prelude.{ℕ, ◌*◌, ◌<◌, List, [], Option, Some, None, option_and_then}
 use Rattle.lfs_types.specs.declared.limits.TheConstants.{SEGMENT_BLOCKS}
 use Rattle.lfs_segments.specs.Memory.{SegmentMemory, block_at}
 use Rattle.lfs_ifile.specs.declared.inode.InodePlace.{InodePlace}

@@ -7,11 +7,11 @@ ghost use Rattle.lfs_cache.specs.Changes.{IsContents};
 ghost use Rattle.lfs_cache.specs.declared.key.Key.{Key};
 ghost use Rattle.lfs_cache.specs.Contents.{block_in};
 ghost use Rattle.lfs_bmap.specs.Blocks.{IsFileBlock, way_to};
-ghost use Rattle.lfs_staging.specs.Addressing.{IsWaiting, ParentWaits, Sets, SetsEntry, StaysWaiting};
-ghost use Rattle.lfs_staging.specs.Store.{IsPresent, IsWithin};
+ghost use Rattle.lfs_staging.specs.Addressing.{IsWaiting, Sets, SetsEntry, StaysWaiting};
+ghost use Rattle.lfs_staging.specs.Store.{HolderWaits, IsPresent, IsWithin};
 
-use crate::parts::Parts;
-use lfs_bmap::blocks::{DIRECT_BLOCKS, FileBlock};
+use crate::parts::{Parts, key_of};
+use lfs_bmap::blocks::{Cell, FileBlock};
 use lfs_cache::{Cache, Key};
 use lfs_inodes::addresses::with_entry;
 use lfs_inodes::inode::Inode;
@@ -34,8 +34,8 @@ fn set_entry(cache: &mut Cache, key: Key, index: usize, address: u32)
 }
 
 impl Parts {
-    /// Sets the address of a block of a file in what holds it, which waits: in the record, or in the
-    /// single indirect block.
+    /// Sets the address of a block of a file in what holds it, which waits: in the record, or in an
+    /// indirect block.
     pub fn set_address(&mut self, inode: &Inode, block: FileBlock, address: u32)
         requires record { IsWaiting self.old inode.now }
         requires block { IsFileBlock block }
@@ -44,30 +44,21 @@ impl Parts {
         requires cache { IsContents self.old.cache }
         requires present { All (λ (w : Inode). IsPresent self.old w.number w.version) self.old.waiting }
         requires parent { (i : ℕ) (up : List ℕ) → way_to block ≡ i ∷ up
-            → ParentWaits self.old inode.now up }
+            → HolderWaits self.old.cache inode.now.number inode.now.version up }
         ensures set { (i : ℕ) (up : List ℕ) → way_to block ≡ i ∷ up
             → Sets self.old self.new inode.now i up address }
         ensures waiting { StaysWaiting self.old self.new inode.now }
     {
-        match block {
-            FileBlock::Record => {}
-            FileBlock::Single => self.waiting.replace(inode.with_single(address)),
-            FileBlock::Data(index) if index < DIRECT_BLOCKS => {
-                self.waiting
-                    .replace(inode.with_direct(index as usize, address));
-            }
-            FileBlock::Data(index) => {
-                let key = Key {
-                    ino: inode.number,
-                    version: inode.version,
-                    lbn: FileBlock::Single.code(),
-                };
-                set_entry(
-                    &mut self.cache,
-                    key,
-                    (index - DIRECT_BLOCKS) as usize,
-                    address,
-                );
+        let Some(Cell { table, index }) = block.cell() else {
+            return;
+        };
+        match table {
+            FileBlock::Record => self
+                .waiting
+                .replace(inode.with_root(index as usize, address)),
+            FileBlock::Single | FileBlock::Data(_) => {
+                let key = key_of(inode, table);
+                set_entry(&mut self.cache, key, index as usize, address);
             }
         }
     }

@@ -16,10 +16,10 @@ ghost use Rattle.lfs_staging.specs.Store.{AreFiles, IsPresent};
 ghost use Rattle.lfs_staging.specs.View.{LiesIn, blocks_of, record_of, tree_from, tree_of};
 
 use crate::parts::{Parts, key_of};
-use lfs_bmap::blocks::{DIRECT_BLOCKS, FileBlock};
+use lfs_bmap::blocks::{Cell, FileBlock};
 use lfs_bmap::pieces::{blocks_touched, get_piece};
 use lfs_cache::Key;
-use lfs_inodes::addresses::entry;
+use lfs_inodes::addresses::{entry, root_address};
 use lfs_inodes::inode::Inode;
 use lfs_types::block::{Block, ZERO_BLOCK};
 
@@ -49,13 +49,15 @@ impl Parts {
         requires inside { LiesIn (blocks_of self.now) (tree_from self.now inode.now) }
         ensures { result ≡ address (tree_from self.now inode.now) (way_to block) }
     {
-        match block {
-            FileBlock::Record => 0,
-            FileBlock::Single => inode.single,
-            FileBlock::Data(index) if index < DIRECT_BLOCKS => inode.direct[index as usize],
-            FileBlock::Data(index) => {
-                let indirect = self.bytes_via(inode, FileBlock::Single, inode.single);
-                entry(indirect, (index - DIRECT_BLOCKS) as usize)
+        let Some(Cell { table, index }) = block.cell() else {
+            return 0;
+        };
+        match table {
+            FileBlock::Record => root_address(inode, index as usize),
+            FileBlock::Single | FileBlock::Data(_) => {
+                let address = self.address_of(inode, table);
+                let held = self.bytes_via(inode, table, address);
+                entry(held, index as usize)
             }
         }
     }

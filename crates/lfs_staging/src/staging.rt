@@ -8,7 +8,6 @@ ghost use Rattle.lfs_inodes.specs.Reading.{fields_of};
 ghost use Rattle.lfs_cache.specs.declared.cache.TheConstants.{LOCKED_LIMIT};
 ghost use Rattle.lfs_cache.specs.Contents.{IsLocked};
 ghost use Rattle.lfs_log.specs.Parts.{IsParts};
-ghost use Rattle.lfs_bmap.specs.declared.blocks.FileBlock.TheVariants.{Single};
 ghost use Rattle.lfs_bmap.specs.declared.blocks.TheConstants.{DIRECT_BLOCKS};
 ghost use Rattle.lfs_bmap.specs.Blocks.{IsFileBlock, code_of, way_to};
 ghost use Rattle.lfs_bmap.specs.Reading.{read};
@@ -18,7 +17,7 @@ ghost use Rattle.lfs_staging.specs.Store.{AreFiles};
 ghost use Rattle.lfs_staging.specs.View.{LiesIn, blocks_of, key_of, record_of, tree_of, version_of};
 ghost use Rattle.lfs_staging.specs.Waiting.{without};
 
-use crate::parts::Parts;
+use crate::parts::{Parts, key_of};
 use lfs_bmap::blocks::{DIRECT_BLOCKS, FileBlock};
 use lfs_cache::Key;
 use lfs_inodes::inode::Inode;
@@ -79,7 +78,7 @@ impl Parts {
     {
         self.stage_own_record(inode);
         if index >= DIRECT_BLOCKS {
-            self.stage_single(inode);
+            self.stage_table(inode, FileBlock::Single);
         }
     }
 
@@ -94,33 +93,32 @@ impl Parts {
         self.stage_record(*inode);
     }
 
-    /// Whether the single indirect block of a file waits.
-    fn waits_single(&self, inode: &Inode) -> bool
-        ensures { IsTrue result ↔ IsLocked (key_of inode.now.number inode.now.version 1) self.now.cache }
+    /// Whether a block of a file waits.
+    fn waits(&self, inode: &Inode, block: FileBlock) -> bool
+        requires { IsFileBlock block }
+        ensures { IsTrue result
+            ↔ IsLocked (key_of inode.now.number inode.now.version (code_of block)) self.now.cache }
     {
-        let key = Key {
-            ino: inode.number,
-            version: inode.version,
-            lbn: FileBlock::Single.code(),
-        };
-        self.cache.dirty(key).is_some()
+        self.cache.dirty(key_of(inode, block)).is_some()
     }
 
-    /// Has the single indirect block of a file wait, with what it has. Where it waits already, nothing
-    /// is done.
-    pub(crate) fn stage_single(&mut self, inode: &Inode)
+    /// Has a block of a file that isn't its record wait, with what it has. Where it waits already,
+    /// nothing is done.
+    pub(crate) fn stage_table(&mut self, inode: &Inode, table: FileBlock)
         requires files { AreFiles self.old }
         requires inside { LiesIn (blocks_of self.old) (tree_of self.old inode.now.number) }
         requires here { record_of self.old inode.now.number ≡ Some (fields_of inode.now) }
-        requires room { IsLocked (key_of inode.now.number (version_of self.old inode.now.number) 1) self.old.cache
-            ⊎ (length self.old.cache.locked < LOCKED_LIMIT) }
-        ensures { StagesBlock inode.now.number Single
-            (read (tree_of self.old inode.now.number) (way_to Single)) self.old self.new }
+        requires block { IsFileBlock table }
+        requires other { code_of table ≢ 0 }
+        requires room { IsLocked (key_of inode.now.number (version_of self.old inode.now.number) (code_of table))
+            self.old.cache ⊎ (length self.old.cache.locked < LOCKED_LIMIT) }
+        ensures { StagesBlock inode.now.number table
+            (read (tree_of self.old inode.now.number) (way_to table)) self.old self.new }
     {
-        if self.waits_single(inode) {
+        if self.waits(inode, table) {
             return;
         }
-        let single = *self.block_of(inode, FileBlock::Single);
-        self.stage_block(inode, FileBlock::Single, &single);
+        let bytes = *self.block_of(inode, table);
+        self.stage_block(inode, table, &bytes);
     }
 }

@@ -1,5 +1,4 @@
-use Rattle.std.proofs.Common.{◌≤◌, arith}
-use Rattle.lfs_segwrite.specs.Applying.{needs_of}
+use Rattle.std.proofs.Common.{arith}
 use Rattle.lfs_segwrite.proofs.AheadLemmas.{makes_changes, waits_few}
 use Rattle.lfs_segwrite.proofs.BoundLemmas.{all_in_reach, frames_most, needs_few, peak_most, records_most}
 use Rattle.lfs_segwrite.proofs.applying.apply.Goals as goal

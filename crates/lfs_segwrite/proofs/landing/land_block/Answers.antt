@@ -1,4 +1,4 @@
-use Rattle.std.proofs.Common.{rules, ◌≡◌, ◌≤◌, ◌+◌, ◌*◌, ◌/◌, ◌∷◌, ℕ, List, length, None, false, is_some, refl, sym, ap, ◌∙◌, subst, inl, inr, arith}
+use Rattle.std.proofs.Common.{rules, ◌≡◌, ◌≤◌, ◌+◌, ◌*◌, ◌/◌, ◌∷◌, ℕ, List, length, None, false, is_some, refl, sym, ap, ◌∙◌, subst, arith}
 use Rattle.lfs_inodes.specs.Reading.{fields_of}
 use Rattle.lfs_ifile.specs.Tables.{Tables}
 use Rattle.lfs_segments.specs.Log.{Expects}

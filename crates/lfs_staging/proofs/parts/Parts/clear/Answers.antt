@@ -1,6 +1,6 @@
 use Rattle.std.proofs.Common.{rules, ◌≡◌, ◌≤◌, ◌*◌, ◌/◌, ◌∷◌, ℕ, List, None, false, refl, sym, ap, ◌∙◌, subst, arith}
 use Rattle.lfs_inodes.specs.Reading.{fields_of}
-use Rattle.lfs_cache.specs.Contents.{Contents, block_in}
+use Rattle.lfs_cache.specs.Contents.{block_in}
 use Rattle.lfs_cache.specs.Keys.{same_key}
 use Rattle.lfs_cache.proofs.CallerLemmas.{none_both}
 use Rattle.lfs_log.specs.Parts.{LogParts, live_of}

@@ -1,4 +1,4 @@
-use Rattle.std.proofs.Common.{sym, ap, ◌∙◌, subst}
+use Rattle.std.proofs.Common.{◌∙◌, subst}
 use Rattle.lfs_segments.specs.Memory.{block_at}
 use Rattle.lfs_bmap.specs.Pieces.{IsGot}
 use Rattle.lfs_staging.proofs.FilledLemmas.{held_clean}

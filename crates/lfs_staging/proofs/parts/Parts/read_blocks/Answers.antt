@@ -1,4 +1,4 @@
-use Rattle.std.proofs.Common.{ℕ, ◌+◌, ◌*◌, ◌<◌, length, ap, refl, subst, sym, ◌∙◌, arith}
+use Rattle.std.proofs.Common.{ℕ, ◌+◌, ◌*◌, ◌<◌, length, ap, subst, sym, ◌∙◌, arith}
 use Rattle.lfs_types.specs.Stored.{slice_of}
 use Rattle.lfs_inodes.specs.Reading.{fields_of}
 use Rattle.lfs_log.specs.Parts.{LogParts}
@@ -6,7 +6,7 @@ use Rattle.lfs_bmap.specs.Pieces.{Touches, file_bytes}
 use Rattle.lfs_bmap.specs.Reading.{data_block}
 use Rattle.lfs_bmap.proofs.PieceLemmas.{got_slice}
 use Rattle.lfs_staging.specs.View.{LiesIn, blocks_of, tree_of}
-use Rattle.lfs_staging.proofs.FilledLemmas.{SameButClean-refl, SameButClean-trans, same_files, same_records, same_trees}
+use Rattle.lfs_staging.proofs.FilledLemmas.{SameButClean-trans, same_files, same_records, same_trees}
 use Rattle.lfs_staging.proofs.ReadLemmas.{filled_more, filled_all}
 use Rattle.lfs_staging.proofs.SettingLemmas.{present_kept}
 use Rattle.lfs_staging.proofs.parts.Parts.read_blocks.Goals as goal

@@ -1,4 +1,4 @@
-use Rattle.std.proofs.Common.{Some, sym, ap, ◌∙◌}
+use Rattle.std.proofs.Common.{Some, ap, ◌∙◌}
 use Rattle.lfs_segments.specs.Memory.{block_at}
 use Rattle.lfs_staging.proofs.FilledLemmas.{held_filled, held_used}
 use Rattle.lfs_staging.proofs.parts.Parts.read_logged.Goals as goal

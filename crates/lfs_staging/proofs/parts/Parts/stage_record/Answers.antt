@@ -1,4 +1,4 @@
-use Rattle.std.proofs.Common.{◌<◌, length, refl, arith}
+use Rattle.std.proofs.Common.{refl, arith}
 use Rattle.lfs_staging.proofs.ForgettingLemmas.{used_low}
 use Rattle.lfs_staging.proofs.StagingLemmas.{staged_record}
 use Rattle.lfs_staging.proofs.parts.Parts.stage_record.Goals as goal

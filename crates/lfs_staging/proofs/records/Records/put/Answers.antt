@@ -1,4 +1,4 @@
-use Rattle.std.proofs.Common.{length, ap, ◌∙◌, ◌∷◌}
+use Rattle.std.proofs.Common.{ap, ◌∙◌, ◌∷◌}
 use Rattle.lfs_staging.proofs.RecordsLemmas.{put_kept}
 use Rattle.lfs_staging.proofs.records.Records.put.Goals as goal
 

@@ -1,4 +1,4 @@
-use Rattle.std.proofs.Common.{◌≡◌, ◌<◌, IsSome, is_some, true, sym, ap, ◌∙◌, arith}
+use Rattle.std.proofs.Common.{IsSome, is_some, sym, ap, ◌∙◌, arith}
 use Rattle.lfs_staging.specs.Waiting.{waiting_in}
 use Rattle.lfs_staging.proofs.RecordsLemmas.{low_told, removed_kept, without-untold}
 use Rattle.lfs_staging.proofs.records.Records.remove.Goals as goal

@@ -1,13 +1,13 @@
-use Rattle.std.proofs.Common.{◌∷◌, [], sym, ap, ◌∙◌, subst, inl, inr}
+use Rattle.std.proofs.Common.{sym, ap, ◌∙◌, subst, inl, inr}
 use Rattle.lfs_inodes.specs.Reading.{fields_of}
-use Rattle.lfs_bmap.specs.declared.blocks.FileBlock.TheVariants.{Single}
+use Rattle.lfs_bmap.specs.Blocks.{code_of, way_to}
 use Rattle.lfs_bmap.specs.Reading.{read}
 use Rattle.lfs_staging.specs.Staging.{StagesBlock}
 use Rattle.lfs_cache.specs.Contents.{IsLocked}
 use Rattle.lfs_staging.specs.View.{LiesIn, blocks_of, key_of}
 use Rattle.lfs_staging.proofs.FileLemmas.{tree_from-of}
-use Rattle.lfs_staging.proofs.KeptLemmas.{single_staged}
-use Rattle.lfs_staging.proofs.parts.Parts.stage_single.Goals as goal
+use Rattle.lfs_staging.proofs.KeptLemmas.{table_staged}
+use Rattle.lfs_staging.proofs.parts.Parts.stage_table.Goals as goal
 
 pub block_of-requires-clause-inside : goal.block_of-requires-clause-inside
 block_of-requires-clause-inside c =
@@ -16,13 +16,13 @@ block_of-requires-clause-inside c =
     let same = tree_from-of p v.number v c.requires.here (c.requires.files.files v.number (fields_of v) c.requires.here) in
     subst (LiesIn (blocks_of p)) (sym same) c.requires.inside
 
-pub returns-then-waits_single : goal.returns-then-waits_single
-returns-then-waits_single c =
+pub returns-then-waits : goal.returns-then-waits
+returns-then-waits c =
     let p = c.args.self.now in
     let v = c.args.inode.now in
     let own = (c.requires.files.files v.number (fields_of v) c.requires.here).own_version in
-    single_staged p v.number c.requires.files.cache
-    (subst (λ version. IsLocked (key_of v.number version 1) p.cache) own (c.waits_single.ensures.0 c.if-waits_single.true))
+    table_staged p v.number c.args.table c.requires.files.cache
+    (subst (λ version. IsLocked (key_of v.number version (code_of c.args.table)) p.cache) own (c.waits.ensures.0 c.if-waits.true))
 
 pub stage_block-requires-clause-version : goal.stage_block-requires-clause-version
 stage_block-requires-clause-version c =
@@ -33,7 +33,7 @@ returns c =
     let p = c.args.self.now in
     let v = c.args.inode.now in
     let same = tree_from-of p v.number v c.requires.here (c.requires.files.files v.number (fields_of v) c.requires.here) in
-    subst (λ bytes. StagesBlock v.number Single bytes p c.stage_block.new.self) (c.block_of.ensures ∙ ap (λ t. read t (12 ∷ [])) same) c.stage_block.ensures
+    subst (λ bytes. StagesBlock v.number c.args.table bytes p c.stage_block.new.self) (c.block_of.ensures ∙ ap (λ t. read t (way_to c.args.table)) same) c.stage_block.ensures
 
 pub stage_block-requires-clause-room : goal.stage_block-requires-clause-room
 stage_block-requires-clause-room c =
@@ -41,6 +41,6 @@ stage_block-requires-clause-room c =
     let v = c.args.inode.now in
     let own = (c.requires.files.files v.number (fields_of v) c.requires.here).own_version in
     elim c.requires.room [
-      | inl locked ↦ inl (subst (λ version. IsLocked (key_of v.number version 1) p.cache) (sym own) locked)
+      | inl locked ↦ inl (subst (λ version. IsLocked (key_of v.number version (code_of c.args.table)) p.cache) (sym own) locked)
       | inr few ↦ inr few
     ]
