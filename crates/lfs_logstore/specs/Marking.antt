@@ -1,5 +1,5 @@
 -- Blocks written again at the end of the log.
-use Rattle.std.specs.Prelude.{◌≡◌, ℕ, ◌≤◌, List, Result, IfOk, OnErr}
+use Rattle.std.specs.Prelude.{ℕ, ◌≤◌, List, Result, IfOk, OnErr}
 use Rattle.lfs_types.specs.declared.cleaner.BlockInfo.{BlockInfo}
 use Rattle.lfs_types.specs.declared.cleaner.CleanFault.{CleanFault}
 use Rattle.lfs_staging.specs.declared.parts.Parts.{Parts}

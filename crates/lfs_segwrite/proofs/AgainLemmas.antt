@@ -1,23 +1,20 @@
 -- A block of a file waits with what it has.
-use Rattle.std.proofs.Common.{◌≡◌, ◌≢◌, ℕ, zero, suc, ◌+◌, ◌*◌, ◌/◌, ◌%◌, ◌<◌, ◌≤◌, List, [], length, Some, IsSome, is_some, true, refl, sym, ap, ◌∙◌, subst, inl, inr, arith}
+use Rattle.std.proofs.Common.{◌≡◌, ◌≢◌, ℕ, zero, suc, ◌+◌, ◌*◌, ◌/◌, ◌%◌, ◌<◌, ◌≤◌, List, length, Some, IsSome, is_some, true, refl, sym, ap, ◌∙◌, subst, inl, inr, arith}
 use Rattle.std.specs.Prelude.{slice_index}
 use Rattle.std.proofs.lemmas.Bool.{cases_Bool, cases_eq, cases_lt}
-use Rattle.std.proofs.lemmas.Option.{same_Some}
 use Rattle.lfs_ifile.specs.Tables.{row_of}
 use Rattle.lfs_inodes.specs.declared.inode.Inode.{Inode}
 use Rattle.lfs_inodes.specs.Facts.{block_count}
-use Rattle.lfs_inodes.specs.Reading.{Fields, fields_of}
-use Rattle.lfs_cache.specs.declared.key.Key.{Key}
+use Rattle.lfs_inodes.specs.Reading.{fields_of}
 use Rattle.lfs_cache.specs.Contents.{IsLocked}
 use Rattle.lfs_bmap.specs.declared.blocks.FileBlock.{FileBlock}
 use Rattle.lfs_bmap.specs.declared.blocks.FileBlock.TheVariants.{Record, Single, Data}
-use Rattle.lfs_bmap.specs.Blocks.{IsFileBlock, code_of, way_to}
+use Rattle.lfs_bmap.specs.Blocks.{IsFileBlock, code_of, first_under, way_to}
 use Rattle.lfs_bmap.specs.Log.{HasPlace}
 use Rattle.lfs_bmap.specs.Pieces.{IsPadded}
 use Rattle.lfs_bmap.specs.Reading.{address, data_block}
-use Rattle.lfs_bmap.specs.Ways.{way_of}
+use Rattle.lfs_bmap.specs.Ways.{codes_on, way_of}
 use Rattle.lfs_bmap.proofs.PlaceLemmas.{data_block-same}
-use Rattle.lfs_bmap.proofs.ReadingLemmas.{address-cell, table-root}
 use Rattle.lfs_bmap.proofs.WayLemmas.{way_of-code_of}
 use Rattle.lfs_staging.specs.declared.parts.Parts.{Parts}
 use Rattle.lfs_staging.specs.declared.records.TheConstants.{WAITING_LIMIT}
@@ -26,14 +23,18 @@ use Rattle.lfs_staging.specs.Keys.{log_state}
 use Rattle.lfs_segwrite.specs.Marking.{SameShown, StagesAgain}
 use Rattle.lfs_staging.specs.Staging.{IsStaged, IsZeroPast, MayStage, SameFiles, StagesData, StagesParents}
 use Rattle.lfs_staging.specs.Store.{IsFile, IsWithin}
-use Rattle.lfs_staging.specs.View.{key_of, record_of, root_in, tree_of, version_of, waiting_in}
+use Rattle.lfs_staging.specs.View.{key_of, record_of, tree_of, version_of, waiting_in}
 use Rattle.lfs_staging.specs.Waiting.{without}
 use Rattle.lfs_staging.proofs.FileLemmas.{free_place}
-use Rattle.lfs_staging.proofs.KeptLemmas.{few_records, log_kept}
+use Rattle.lfs_staging.proofs.KeptLemmas.{StagesTable}
 use Rattle.lfs_staging.proofs.KeyLemmas.{lies_in, place-block, unused_nowhere}
 use Rattle.lfs_segwrite.proofs.NamedLemmas.{frames-one, frames-two}
-use Rattle.lfs_staging.proofs.StagingLemmas.{version-same}
 use Rattle.lfs_staging.proofs.WaitingLemmas.{length-rest, length-without, waiting-without}
+use Rattle.lfs_bmap.proofs.HolderLemmas.{codes_on-most, codes_on-one, codes_on-record, table_of-direct}
+use Rattle.lfs_staging.proofs.StagedLemmas.{parents_staged}
+use Rattle.lfs_staging.proofs.TakenLemmas.{taken_most}
+use Rattle.lfs_staging.proofs.FrameLemmas.{locked_most}
+use Rattle.lfs_cache.specs.Changes.{IsContents}
 
 -- a block that isn't a record waits under its key
 pub waits_block : (p : Parts) (number code : ℕ) → code ≢ 0 → IsLocked (key_of number (version_of p number) code) p.cache → Waits p number code
@@ -76,58 +77,41 @@ module _ (old new : Parts) (number : ℕ) (room : without number new.waiting ≡
       let same : length (without number new.waiting) ≡ length (without number old.waiting) = ap (λ (vs : List Inode). length vs) room in
       omega arith
 
--- ---- a record or the single indirect block, staged as a data block's parents are
-single_within : (block : FileBlock) (size : ℕ) → code_of block ≡ 1 → 12 < block_count size → IsWithin block size
-single_within Record size is more = tt
-single_within Single size is more = more
-single_within (Data m) size is more = absurd (omega arith)
+-- ---- the record
+pub record_staged : (old new : Parts) (v : Inode) → MayStage old v → StagesParents v.number Record old new → IsStaged old 0 → IsStaged new 0
+record_staged old new v may h staged = parents_staged old new v Record may h 0 staged (λ b is has. absurd (codes_on-record (code_of b) has))
 
-module _ (old new : Parts) (v : Inode) (index : ℕ) (may : MayStage old v) (h : StagesParents v.number index old new) where
-  pub parents_staged : IsStaged old 0 → (12 ≤ index → 12 < block_count v.size) → IsStaged new 0
-  parents_staged staged single = record {
-    whole = h.files;
-    log = log_kept old new 0 h.same.log (λ n way known. (h.same.readings n).addresses way known) staged.log;
-    parents = h.parents;
-    once = h.once staged.once;
-    few = few_records new v.number (without v.number old.waiting) h.room may.records;
-    within = λ n block f is can locked.
-        let is_old : record_of old n ≡ Some f = sym (h.same.records n) ∙ is in
-        let version = version-same old new n h.same.log in
-        elim (h.only (key_of n (version_of new n) (code_of block)) locked) [
-          | inl one ↦
-              let same : n ≡ v.number = ap (λ (k : Key). k.ino) one.0 in
-              let file : fields_of v ≡ f = same_Some (fields_of v) f (sym may.here ∙ ap (record_of old) (sym same) ∙ is_old) in
-              subst (λ (x : Fields). IsWithin block x.attributes.size) file (single_within block v.size (ap (λ (k : Key). k.lbn) one.0) (single one.1))
-          | inr earlier ↦ staged.within n block f is_old can (subst (λ version. IsLocked (key_of n version (code_of block)) old.cache) version earlier)
-        ];
-  }
+pub record_again : (old new : Parts) (v : Inode) → StagesParents v.number Record old new → StagesAgain v.number 0 old new
+record_again old new v h = record {
+  same = shown_files old new h.same;
+  waits = h.waits.record_waits;
+  frames_still = h.stays;
+  records_still = still_waits old new v.number h.room h.waits.record_waits;
+  frames =
+      let few = locked_most old.cache new.cache h.files.cache (λ key locked. elim (h.takes key locked) [ inl one ↦ absurd (codes_on-record one.0 one.1) | inr was ↦ was ]) in
+      omega arith;
+  records = one_more old new v.number h.room;
+}
 
-  -- the record
-  pub record_again : index < 12 → StagesAgain v.number 0 old new
-  record_again low = record {
-    same = shown_files old new h.same;
-    waits = h.waits.record_waits;
-    frames_still = h.stays;
-    records_still = still_waits old new v.number h.room h.waits.record_waits;
-    frames = let same : length new.cache.locked ≡ length old.cache.locked = ap (λ c. length c.locked) (h.direct low) in omega arith;
-    records = one_more old new v.number h.room;
-  }
-
-  -- the single indirect block
-  pub single_again : 12 ≤ index → StagesAgain v.number 1 old new
-  single_again high = record {
-    same = shown_files old new h.same;
-    waits = h.waits.single_waits high;
-    frames_still = h.stays;
-    records_still = still_waits old new v.number h.room h.waits.record_waits;
-    frames = let more = h.frames in let one = frames-one 1 (λ e. omega arith) (omega arith) in omega arith;
-    records = one_more old new v.number h.room;
-  }
+-- ---- an indirect block, staged with its parents
+pub single_again : (old new : Parts) (v : Inode) → StagesTable v.number Single old new → StagesAgain v.number 1 old new
+single_again old new v h = record {
+  same = shown_files old new h.same;
+  waits = h.takes.block_waits;
+  frames_still = h.takes.stays;
+  records_still = still_waits old new v.number h.takes.records h.takes.waits.record_waits;
+  frames =
+      let most = taken_most v.number (version_of old v.number) (codes_on (way_to Single)) old.cache new.cache h.files.cache h.takes.takes in
+      let few = codes_on-one Single tt (λ e. omega arith) refl in
+      let one = frames-one 1 (λ e. omega arith) (omega arith) in
+      omega arith;
+  records = one_more old new v.number h.takes.records;
+}
 
 -- ---- a data block
-pub data_again : (old new : Parts) (number index : ℕ) (bytes : List ℕ) → StagesData number index bytes old new → bytes ≡ data_block (tree_of old number) index
+pub data_again : (old new : Parts) (number index : ℕ) (bytes : List ℕ) → index < 140 → IsContents new.cache → StagesData number index bytes old new → bytes ≡ data_block (tree_of old number) index
     → StagesAgain number (131 + index) old new
-data_again old new number index bytes h has = record {
+data_again old new number index bytes low formed h has = record {
   same = record {
     log = h.log;
     records = h.records;
@@ -145,10 +129,15 @@ data_again old new number index bytes h has = record {
   waits = waits_block new number (131 + index) (λ e. omega arith) h.takes.block_waits;
   frames_still = h.takes.stays;
   records_still = still_waits old new number h.takes.records h.takes.waits.record_waits;
-  frames = elim (cases_lt index 12) [
-    | inl low ↦ let more = h.takes.direct low in let one = frames-one (131 + index) (λ e. omega arith) (omega arith) in omega arith
-    | inr high ↦ let more = h.takes.most in let two = frames-two (131 + index) (omega arith) in omega arith
-  ];
+  frames =
+      let most = taken_most number (version_of old number) (codes_on (way_to (Data index))) old.cache new.cache formed h.takes.takes in
+      elim (cases_lt index 12) [
+        | inl direct ↦
+            let few = codes_on-one (Data index) low (λ e. omega arith) (table_of-direct index direct) in
+            let one = frames-one (131 + index) (λ e. omega arith) (omega arith) in
+            omega arith
+        | inr high ↦ let few = codes_on-most (Data index) low (λ e. omega arith) in let two = frames-two (131 + index) (omega arith) in omega arith
+      ];
   records = one_more old new number h.takes.records;
 }
 
@@ -192,14 +181,8 @@ module _ (p : Parts) (number code : ℕ) (staged : IsStaged p 0) (there : HasPla
         ∙ ap (λ w. 4 * address (tree_of p number) w) (ap way_of (sym is) ∙ way_of-code_of block) ∙ ap (λ a. 4 * a) none)
 
     -- it lies within the size
-    pub place_within : (block : FileBlock) → IsFileBlock block → code_of block ≡ code → IsWithin block v.size
-    place_within Record can is = tt
-    place_within Single can is = elim (cases_lt 12 (block_count v.size)) [
+    pub place_within : (block : FileBlock) → IsFileBlock block → code_of block ≡ code → code_of block ≢ 0 → IsWithin block v.size
+    place_within block can is other = elim (cases_lt (first_under block) (block_count v.size)) [
       | inl more ↦ more
-      | inr none ↦ absurd (address_some Single is (λ e. omega arith)
-          (address-cell (tree_of p number) 12 [] ∙ ap (λ ys. slice_index ys 12) (table-root (tree_of p number) ∙ ap root_in here) ∙ file.formed.within 12 (omega arith) none))
-    ]
-    place_within (Data index) can is = elim (cases_lt index (block_count v.size)) [
-      | inl more ↦ more
-      | inr past ↦ absurd (address_some (Data index) is (λ e. omega arith) (file.none_past index past can))
+      | inr past ↦ absurd (address_some block is (λ e. other (is ∙ e)) (file.none_past block can past))
     ]

@@ -1,5 +1,5 @@
 -- Parts whose files are alike: each number has its record, and each block its address and its bytes.
-use Rattle.std.proofs.Common.{◌≡◌, ◌≢◌, ℕ, ◌+◌, ◌*◌, ◌<◌, ◌≤◌, List, length, Some, IsSome, is_some, sym, ap, ◌∙◌, subst, inl, inr, arith}
+use Rattle.std.proofs.Common.{◌≡◌, ◌≢◌, ℕ, ◌*◌, ◌<◌, ◌≤◌, List, length, Some, IsSome, is_some, sym, ap, ◌∙◌, subst, inl, inr, arith}
 use Rattle.std.specs.Prelude.{All}
 use Rattle.std.proofs.lemmas.Bool.{cases_lt}
 use Rattle.std.proofs.lemmas.List.Elements.{All-weaker}
@@ -12,13 +12,13 @@ use Rattle.lfs_cache.specs.Changes.{IsContents}
 use Rattle.lfs_cache.specs.Contents.{Contents, IsLocked}
 use Rattle.lfs_log.specs.Parts.{IsParts}
 use Rattle.lfs_bmap.specs.declared.blocks.TheConstants.{BLOCK_CODES}
-use Rattle.lfs_bmap.specs.Blocks.{code_of}
+use Rattle.lfs_bmap.specs.Blocks.{code_of, way_to}
 use Rattle.lfs_bmap.specs.Log.{IsLog}
 use Rattle.lfs_bmap.specs.Pieces.{IsPadded}
 use Rattle.lfs_bmap.specs.Reading.{SameReadings, data_block}
-use Rattle.lfs_bmap.specs.Ways.{IsKnown, data_way, way_of}
+use Rattle.lfs_bmap.specs.Ways.{way_of}
 use Rattle.lfs_bmap.proofs.PlaceLemmas.{data_block-same}
-use Rattle.lfs_bmap.proofs.WayLemmas.{way_of-data, way_of-known}
+use Rattle.lfs_bmap.proofs.WayLemmas.{way_of-known}
 use Rattle.lfs_staging.specs.declared.parts.Parts.{Parts}
 use Rattle.lfs_staging.specs.Files.{content_of}
 use Rattle.lfs_staging.specs.Keys.{log_state}
@@ -30,6 +30,7 @@ use Rattle.lfs_staging.proofs.CleanLemmas.{mirrors_read}
 use Rattle.lfs_staging.proofs.FileLemmas.{record_of-past}
 use Rattle.lfs_staging.proofs.KeyLemmas.{place-block}
 use Rattle.lfs_staging.proofs.SameContentLemmas.{content_of-same, file_at-kept}
+use Rattle.lfs_staging.proofs.KeptLemmas.{block_known}
 
 pub record AreAlike (p q : Parts) : Type 0 where
   pub cache : q.cache ≡ p.cache
@@ -60,8 +61,7 @@ module _ (p q : Parts) (h : AreAlike p q) where
     formed = file.formed;
     own_number = file.own_number;
     own_version = file.own_version ∙ sym (h.versions n);
-    none_past = λ m past low.
-        (h.readings n (alike_low n f is)).addresses (data_way m) (subst IsKnown (way_of-data m) (way_of-known (131 + m) (omega arith))) ∙ file.none_past m past low;
+    none_past = λ block can past. (h.readings n (alike_low n f is)).addresses (way_to block) (block_known block can) ∙ file.none_past block can past;
     padded = alike_padded n f.attributes.size (alike_low n f is) file.padded;
   }
 

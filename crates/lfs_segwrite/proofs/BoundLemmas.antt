@@ -9,12 +9,14 @@ use Rattle.lfs_types.specs.Tree.{Content}
 use Rattle.lfs_types.specs.declared.store.Change.{Change}
 use Rattle.lfs_types.specs.declared.store.Change.TheVariants.{Make, Remove, SetAttrs, Put, SetLength}
 use Rattle.lfs_segwrite.specs.Applying.{IsInReach, blocks_for, frames_of_all, gives_back, needs_of, peak_of, peak_of_all, records_of_all, reserve_of}
-use Rattle.lfs_staging.specs.Changing.{frames_of, frames_of_length, frames_of_put, frames_of_single, records_of}
+use Rattle.lfs_staging.specs.Changing.{frames_of, frames_of_length, records_of}
 use Rattle.lfs_segwrite.specs.Collecting.{inode_blocks}
 use Rattle.lfs_segwrite.proofs.AskedLemmas.{length_limit, put_limit}
+use Rattle.lfs_staging.specs.Putting.{frames_of_put}
+use Rattle.lfs_bmap.specs.Ways.{tables_below}
 
 -- ---- frames
-single_most : (end : ℕ) → frames_of_single end ≤ 1
+single_most : (end : ℕ) → tables_below end ≤ 1
 single_most end = elim (cases_lt 6144 end) [
   | inl past ↦ let is = cond-true {A = ℕ} _ 1 0 (lt-ltb 6144 end past) in omega arith
   | inr within ↦ let is = cond-false {A = ℕ} _ 1 0 (le-ltb 6144 end within) in omega arith

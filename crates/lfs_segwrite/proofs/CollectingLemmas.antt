@@ -21,6 +21,7 @@ use Rattle.lfs_staging.specs.Store.{AreFiles}
 use Rattle.lfs_staging.specs.declared.parts.Parts.{Parts}
 use Rattle.lfs_segwrite.specs.Collecting.{entries_of, entry_of, in_order, inode_blocks, is_of}
 use Rattle.lfs_staging.specs.Opening.{inodes_entry}
+use Rattle.lfs_staging.proofs.CleanLemmas.{coded_below}
 
 -- a number in use is in the inode map
 in_range : (p : Parts) (n : ℕ) → (row_of p.log.tables n).used ≡ true → n < length p.log.tables.rows
@@ -128,7 +129,7 @@ key_entry p key files locked =
       | inl low ↦ subst (λ b. IsEntry (record { number = key.ino; version = key.version; block = b })) (sym (cond-false _ _ _ (lt-leb 131 key.lbn low)))
           (record { block = tt; owner = (number, version) })
       | inr high ↦
-          let below : key.lbn < 271 = elim (files.coded key locked) [ inl one ↦ absurd (omega arith) | inr range ↦ range.1 ] in
+          let below = coded_below key.lbn (files.coded key locked) in
           subst (λ b. IsEntry (record { number = key.ino; version = key.version; block = b })) (sym (cond-true _ _ _ (le-leb 131 key.lbn high)))
           (record { block = omega arith; owner = (number, version) })
     ]

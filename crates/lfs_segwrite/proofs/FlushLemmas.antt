@@ -14,7 +14,7 @@ use Rattle.lfs_segments.specs.Log.{Expects}
 use Rattle.lfs_segments.specs.Memory.{next_address}
 use Rattle.lfs_bmap.specs.declared.blocks.FileBlock.{FileBlock}
 use Rattle.lfs_bmap.specs.declared.blocks.FileBlock.TheVariants.{Single}
-use Rattle.lfs_bmap.specs.Blocks.{IsFileBlock, code_of, file_block_of, logical_of}
+use Rattle.lfs_bmap.specs.Blocks.{IsFileBlock, code_of, file_block_of, logical_of, way_to}
 use Rattle.lfs_staging.specs.declared.parts.Parts.{Parts}
 use Rattle.lfs_segwrite.specs.Collecting.{blocks_of_entries, entries_of, entry_of, in_order, inode_blocks, is_of}
 use Rattle.lfs_segwrite.specs.Flushing.{Flushes, Waits}
@@ -29,6 +29,11 @@ use Rattle.lfs_segwrite.proofs.OrderLemmas.{entries_of-block, in_order-after, in
 use Rattle.lfs_segwrite.proofs.AdvanceLemmas.{Advances-refl, Advances-trans}
 use Rattle.lfs_staging.proofs.HeldLemmas.{locked_apart}
 use Rattle.lfs_staging.proofs.KeptLemmas.{staged_store}
+use Rattle.lfs_staging.proofs.CleanLemmas.{coded_below, coded_cases}
+use Rattle.lfs_bmap.proofs.WayLemmas.{code_at-way_of, up_code, way_of-code_of, way_of-known, way_of-zero}
+use Rattle.lfs_bmap.specs.Ways.{IsWay, code_at, way_of}
+use Rattle.lfs_staging.proofs.ViewLemmas.{code_at-way_to}
+use Rattle.lfs_bmap.specs.declared.blocks.TheConstants.{BLOCK_CODES}
 
 -- ---- the records
 -- how many blocks are to come, and one of them less
@@ -120,7 +125,7 @@ record NamesKey (key : Key) (block : FileBlock) : Type 0 where
   pub code : code_of block ≡ key.lbn
 
 names_key : (p : Parts) (key : Key) → AreFiles p → IsLocked key p.cache → NamesKey key (file_block_of (entry_of key).block)
-names_key p key files locked = elim (files.coded key locked) [
+names_key p key files locked = elim (coded_cases key.lbn (files.coded key locked)) [
   | inl one ↦
       let block : (entry_of key).block ≡ logical.Single = cond-false _ _ _ (lt-leb 131 key.lbn (omega arith)) in
       subst (λ b. NamesKey key (file_block_of b)) (sym block) (record { can = tt; other = λ e. absurd (omega arith); code = sym one })
@@ -136,17 +141,31 @@ pub record IsNext (old p : Parts) (k : ℕ) (entry : SummaryEntry) (block : File
   pub can : IsFileBlock block
   pub other : code_of block ≢ 0
   pub waits : IsLocked (key_of entry.number (version_of p entry.number) (code_of block)) p.cache
-  pub last : block ≡ Single → (key : Key) → IsLocked key p.cache → key.lbn ≡ 1
+  pub free : (key : Key) → IsLocked key p.cache → key.ino ≡ entry.number → (i : ℕ) → way_of key.lbn ≡ i ∷ way_to block → ⊥
   pub same : entry_at_version p entry.number block ≡ entry
   pub split : drop k (entries_of old) ≡ entry ∷ drop (k + 1) (entries_of old)
   pub key : (d : Key) → get_or (ordered old) k d ≡ key_of entry.number (version_of p entry.number) (code_of block)
 
 -- a key that is no data block's is of a single indirect block
 single_code : (p : Parts) (key : Key) → AreFiles p → IsLocked key p.cache → is_of false key ≡ true → key.lbn ≡ 1
-single_code p key files locked kind = elim (files.coded key locked) [
+single_code p key files locked kind = elim (coded_cases key.lbn (files.coded key locked)) [
   | inl one ↦ one
   | inr among ↦ absurd (false≢true (sym (ap not (le-leb 131 key.lbn among.0)) ∙ kind))
 ]
+
+-- a block that holds an address is none of the data blocks
+holds_low : (block : FileBlock) (lbn i : ℕ) → lbn < BLOCK_CODES → way_of lbn ≡ i ∷ way_to block → code_of block < 131
+holds_low block lbn i low way =
+    subst (λ c. c < 131) (code_at-way_to block) (up_code i (way_to block) (subst IsWay way (way_of-known lbn low).leads))
+
+-- that of a single indirect block stands in the record
+top_code : (block : FileBlock) (i : ℕ) → way_of 1 ≡ i ∷ way_to block → code_of block ≡ 0
+top_code block i way =
+    let rest : way_to block ≡ [] = same_rest (sym (way_of-code_of Single) ∙ way) in
+    sym (code_at-way_to block) ∙ ap code_at (rest ∙ sym way_of-zero) ∙ code_at-way_of 0
+  where
+    same_rest : 12 ∷ [] ≡ i ∷ way_to block → way_to block ≡ []
+    same_rest e = cc
 
 next_key : (old p : Parts) (k : ℕ) (entry : SummaryEntry) → LandsKeys old p k → k < length old.cache.locked → entry ≡ get_or (entries_of old) k entry
     → IsNext old p k entry (file_block_of entry.block)
@@ -166,12 +185,12 @@ next_key old p k entry h low at =
       can = names.can;
       other = names.other;
       waits = subst (λ x. IsLocked x p.cache) (sym here) locked;
-      last = λ single other waits.
-          let code : key.lbn ≡ 1 = sym names.code ∙ ap code_of single in
-          let kind : is_of false key ≡ true = ap not (lt-leb 131 key.lbn (omega arith)) in
+      free = λ other waits number i way.
+          let kind : is_of false key ≡ true = ap not (lt-leb 131 key.lbn (subst (λ c. c < 131) names.code (holds_low block other.lbn i (coded_below other.lbn (h.staged.whole.coded other waits)) way))) in
           let there = h.each other waits in
           let after : is_of false (get_or (ordered old) there.0 d) ≡ true = in_order-after (keys_of old.cache.locked) k there.0 d there.1 there.2 kind in
-          single_code p other h.staged.whole waits (subst (λ x. is_of false x ≡ true) (get_or_default (ordered old) there.0 d other there.2 ∙ there.3) after);
+          let one = single_code p other h.staged.whole waits (subst (λ x. is_of false x ≡ true) (get_or_default (ordered old) there.0 d other there.2 ∙ there.3) after) in
+          names.other (top_code block i (sym (ap way_of one) ∙ way));
       same = ap (λ m. record { number = key.ino; version = m; block = logical_of block }) (sym present.at_version)
           ∙ ap (λ b. record { number = key.ino; version = key.version; block = b }) (logical_of-file_block (entry_of key).block);
       split = drop_more (entries_of old) k entry (omega arith) ∙ ap (λ e. e ∷ drop (k + 1) (entries_of old)) (sym at ∙ is);

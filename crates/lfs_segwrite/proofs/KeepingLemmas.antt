@@ -1,5 +1,5 @@
 -- What holds of the files holds still when a block landed.
-use Rattle.std.proofs.Common.{true, ◌≡◌, ◌≢◌, ℕ, ◌+◌, ◌-◌, ◌/◌, ◌%◌, ◌<◌, ◌≤◌, ◌⊎◌, List, [], ◌∷◌, length, Some, IsSome, false, is_some, refl, sym, ap, ◌∙◌, subst, inl, inr, arith}
+use Rattle.std.proofs.Common.{true, ◌≡◌, ◌≢◌, ℕ, ◌/◌, ◌%◌, ◌<◌, ◌≤◌, ◌⊎◌, List, [], ◌∷◌, length, Some, IsSome, false, is_some, refl, sym, ap, ◌∙◌, subst, inl, inr}
 use Rattle.std.specs.Prelude.{slice_index}
 use Rattle.std.proofs.lemmas.Bool.{cases_eq, cases_lt, false≢true}
 use Rattle.std.proofs.lemmas.Option.{none-some, same_Some}
@@ -17,40 +17,25 @@ use Rattle.lfs_cache.proofs.Entries.{same_cases, same_is}
 use Rattle.lfs_segments.specs.Memory.{block_at}
 use Rattle.lfs_log.specs.Parts.{IsParts}
 use Rattle.lfs_bmap.specs.declared.blocks.FileBlock.{FileBlock}
-use Rattle.lfs_bmap.specs.declared.blocks.FileBlock.TheVariants.{Record, Single, Data}
-use Rattle.lfs_bmap.specs.Blocks.{IsFileBlock, code_of, way_to}
+use Rattle.lfs_bmap.specs.Blocks.{code_of, first_under}
 use Rattle.lfs_bmap.specs.Pieces.{IsPadded}
 use Rattle.lfs_bmap.specs.Reading.{address, data_block}
-use Rattle.lfs_bmap.specs.Ways.{code_at, data_way, way_of}
-use Rattle.lfs_bmap.proofs.WayLemmas.{data_way-direct, data_way-single, way_of-data, way_of-known}
+use Rattle.lfs_bmap.specs.Ways.{code_at, way_of}
+use Rattle.lfs_bmap.proofs.WayLemmas.{way_of-code_of, way_of-known}
 use Rattle.lfs_staging.specs.declared.parts.Parts.{Parts}
 use Rattle.lfs_staging.specs.Files.{content_of}
 use Rattle.lfs_staging.specs.Addressing.{StaysWaiting}
-use Rattle.lfs_staging.specs.Store.{AreFiles, HolderWaits, IsFile, IsLogged, IsPresent, IsWithin, Mirrors}
+use Rattle.lfs_staging.specs.Store.{AreFiles, HolderWaits, IsBlockCode, IsFile, IsLogged, IsPresent, IsWithin, Mirrors}
 use Rattle.lfs_staging.specs.View.{key_of, record_of, tree_of}
 use Rattle.lfs_staging.proofs.CleanLemmas.{apart_present, coded_below, coded_block, logged_kept}
 use Rattle.lfs_staging.proofs.FileLemmas.{record_of-past}
 use Rattle.lfs_staging.proofs.ForgettingLemmas.{used_low}
 use Rattle.lfs_segwrite.proofs.LandedLemmas.{Steps, address_here, address_same, block_other, data_same, lands, record_other, rows_all, version_same, waits_key}
 use Rattle.lfs_staging.proofs.SameContentLemmas.{content_of-same, file_at-kept, file_at-same}
-use Rattle.lfs_staging.proofs.SettingLemmas.{at_way, waiting_record}
-use Rattle.lfs_staging.proofs.ViewLemmas.{code_at-way_to}
-
--- a block within the size is none past it
-within_apart : (block : FileBlock) (size k : ℕ) → code_of block ≢ 0 → IsWithin block size → block_count size ≤ k → 131 + k ≢ code_of block
-within_apart Record size k other within past e = other refl
-within_apart Single size k other within past e = omega arith
-within_apart (Data index) size k other within past e = omega arith
-
--- what holds a block's address is the record or the single indirect block
-above_single : (block : FileBlock) → IsFileBlock block → code_of block ≢ 0 → (i : ℕ) (up : List ℕ) → way_to block ≡ i ∷ up → up ≢ [] → code_at up ≡ 1
-above_single Record can other = absurd (other refl)
-above_single Single can other = at_way (λ i up. up ≢ [] → code_at up ≡ 1) (12 ∷ []) 12 [] refl (λ some. absurd (some refl))
-above_single (Data index) can other =
-    elim (cases_lt index 12) [
-      | inl direct ↦ at_way (λ i up. up ≢ [] → code_at up ≡ 1) (data_way index) index [] (data_way-direct index direct) (λ some. absurd (some refl))
-      | inr past ↦ at_way (λ i up. up ≢ [] → code_at up ≡ 1) (data_way index) (index - 12) (12 ∷ []) (data_way-single index past can) (λ some. code_at-way_to Single)
-    ]
+use Rattle.lfs_staging.proofs.SettingLemmas.{waiting_record}
+use Rattle.lfs_bmap.proofs.BlockLemmas.{code_of-below}
+use Rattle.lfs_staging.proofs.GivingLemmas.{within_apart}
+use Rattle.lfs_staging.proofs.HolderLemmas.{holder_coded}
 
 -- blocks that are the same are padded alike
 padded_same : (old new : ℕ → List ℕ) (size : ℕ) → ((n : ℕ) → new n ≡ old n) → IsPadded old size → IsPadded new size
@@ -85,15 +70,15 @@ module _ (p r s q : Parts) (v : Inode) (block : FileBlock) (a i : ℕ) (up : Lis
 
   -- a file that has blocks of its own at the addresses that they had
   file_after : (number : ℕ) (f g : Fields) → number < length p.log.tables.rows → IsFile p number f → f.attributes ≡ g.attributes
-      → ((k : ℕ) → block_count f.attributes.size ≤ k → (number ≢ v.number) ⊎ (131 + k ≢ code_of block)) → AreFields g → IsFile q number g
+      → ((b : FileBlock) → block_count f.attributes.size ≤ first_under b → (number ≢ v.number) ⊎ (code_of b ≢ code_of block)) → AreFields g → IsFile q number g
   file_after number f g low was same apart formed = record {
     formed = formed;
     own_number = sym (ap (λ (x : Attributes). x.number) same) ∙ was.own_number;
     own_version = sym (ap (λ (x : Attributes). x.version) same) ∙ was.own_version ∙ sym (version_same p r s q v block a i up h number);
-    none_past = λ k past below.
-        let from : block_count f.attributes.size ≤ k = subst (λ (x : Attributes). block_count x.size ≤ k) (sym same) past in
-        ap (address (tree_of q number)) (sym (way_of-data k)) ∙ address_same p r s q v block a i up h waited number (131 + k) low (omega arith) (apart k from)
-        ∙ ap (address (tree_of p number)) (way_of-data k) ∙ was.none_past k from below;
+    none_past = λ b is past.
+        let from : block_count f.attributes.size ≤ first_under b = subst (λ (x : Attributes). block_count x.size ≤ first_under b) (sym same) past in
+        ap (address (tree_of q number)) (sym (way_of-code_of b)) ∙ address_same p r s q v block a i up h waited number (code_of b) low (code_of-below b is) (apart b from)
+        ∙ ap (address (tree_of p number)) (way_of-code_of b) ∙ was.none_past b is from;
     padded = subst (λ (x : Attributes). IsPadded (data_block (tree_of q number)) x.size) same
         (padded_same (data_block (tree_of p number)) (data_block (tree_of q number)) f.attributes.size (λ n. data_same p r s q v block a i up h waited number n low) was.padded);
   }
@@ -105,10 +90,10 @@ module _ (p r s q : Parts) (v : Inode) (block : FileBlock) (a i : ℕ) (up : Lis
             let same : fields_of stays.after ≡ f = same_Some _ f (sym record_here ∙ ap (record_of q) (sym e) ∙ is) in
             subst (IsFile q number) same (file_after number (fields_of v) (fields_of stays.after) (in_volume number f is)
             (subst (λ n. IsFile p n (fields_of v)) (sym e) (files.files v.number (fields_of v) (waiting_record p v h.is))) (sym stays.same)
-            (λ k past. inr (within_apart block v.size k h.other within past)) (AreFields-fields_of stays.after))
+            (λ b past. inr (within_apart block b v.size within past)) (AreFields-fields_of stays.after))
         | inr ne ↦
             let was = files.files number f (sym (record_other p r s q v block a i up h number ne) ∙ is) in
-            file_after number f f (in_volume number f is) was refl (λ k past. inl ne) was.formed
+            file_after number f f (in_volume number f is) was refl (λ b past. inl ne) was.formed
       ]
 
   -- what is locked was locked, or holds the address
@@ -176,7 +161,7 @@ module _ (p r s q : Parts) (v : Inode) (block : FileBlock) (a i : ℕ) (up : Lis
     coded = λ key locked. elim (locked_cases key locked) [
       | inl was ↦ files.coded key was
       | inr parent ↦
-          inl (sym (ap (λ (k : Key). k.lbn) parent.1) ∙ above_single block h.can h.other i up h.way parent.0)
+          subst (λ (k : Key). IsBlockCode k.lbn) parent.1 (holder_coded block h.can i up h.way parent.0)
     ];
     mirrors = mirrors_kept;
   }

@@ -17,13 +17,11 @@ use Rattle.lfs_cache.proofs.Entries.{same_cases, same_is}
 use Rattle.lfs_segments.specs.Memory.{next_address, room_of}
 use Rattle.lfs_bmap.specs.declared.blocks.TheConstants.{BLOCK_CODES}
 use Rattle.lfs_bmap.specs.declared.blocks.FileBlock.{FileBlock}
-use Rattle.lfs_bmap.specs.declared.blocks.FileBlock.TheVariants.{Single}
-use Rattle.lfs_bmap.specs.Blocks.{IsFileBlock, code_of, logical_of}
+use Rattle.lfs_bmap.specs.Blocks.{IsFileBlock, code_of, logical_of, way_to}
 use Rattle.lfs_bmap.specs.Log.{IsLog}
-use Rattle.lfs_bmap.specs.Ways.{code_at, way_of}
-use Rattle.lfs_bmap.proofs.BlockLemmas.{same_block}
+use Rattle.lfs_bmap.specs.Ways.{IsKnown, code_at, way_of}
 use Rattle.lfs_bmap.proofs.CountingLemmas.{placed-cases}
-use Rattle.lfs_bmap.proofs.WayLemmas.{way_of-code_of}
+use Rattle.lfs_bmap.proofs.WayLemmas.{known_way_of, up_known, way_of-code_of, way_of-known}
 use Rattle.lfs_staging.specs.declared.parts.Parts.{Parts}
 use Rattle.lfs_staging.specs.Files.{content_of}
 use Rattle.lfs_segwrite.specs.Flushing.{Waits}
@@ -35,9 +33,9 @@ use Rattle.lfs_staging.specs.Staging.{IsStaged}
 use Rattle.lfs_staging.specs.Store.{AreFiles, HolderWaits, IsPresent, IsWithin}
 use Rattle.lfs_staging.specs.View.{key_of, record_of, version_of, waiting_in}
 use Rattle.lfs_staging.specs.Waiting.{AreOnce}
-use Rattle.lfs_staging.proofs.HolderLemmas.{held_code}
 use Rattle.lfs_staging.proofs.SettingLemmas.{waiting_record}
 use Rattle.lfs_staging.proofs.WaitingLemmas.{waiting-head, waiting-tail}
+use Rattle.lfs_staging.proofs.CleanLemmas.{coded_below}
 
 -- the record that waits of a number has it
 pub waiting_number : (vs : List Inode) (n : ℕ) (v : Inode) → waiting_in vs n ≡ Some v → v.number ≡ n
@@ -118,7 +116,7 @@ pub record LandsKey (p q : Parts) (v : Inode) (block : FileBlock) (a : ℕ) : Ty
   pub is : IsWaiting p v
   pub other : code_of block ≢ 0
   pub waits : IsLocked (key_of v.number v.version (code_of block)) p.cache
-  pub last : block ≡ Single → (key : Key) → IsLocked key p.cache → key.lbn ≡ 1
+  pub free : (key : Key) → IsLocked key p.cache → key.ino ≡ v.number → (i : ℕ) → way_of key.lbn ≡ i ∷ way_to block → ⊥
   pub room : 1 ≤ room_of p.log.memory
   pub landed : LandsBlock p q v block a
   pub place : TakesPlace p q v.number (code_of block) a (4 * a)
@@ -151,11 +149,10 @@ module _ (p q : Parts) (v : Inode) (block : FileBlock) (a : ℕ) (h : LandsKey p
       let holder = key_of key.ino key.version (code_at (j ∷ above)) in
       elim (same_cases (key_of v.number v.version (code_of block)) holder) [
         | inl same ↦
-            let held = held_code key.lbn (h.staged.whole.coded key before) i j above way in
-            let code : code_of block ≡ 1 = ap (λ (k : Key). k.lbn) (same_is (key_of v.number v.version (code_of block)) holder same) ∙ held.1 in
-            let one = h.last (same_block block Single code) key before in
-            let past = held.0 in
-            absurd (omega arith)
+            let e = same_is (key_of v.number v.version (code_of block)) holder same in
+            let known = subst IsKnown way (way_of-known key.lbn (coded_below key.lbn (h.staged.whole.coded key before))) in
+            let to : way_to block ≡ j ∷ above = sym (way_of-code_of block) ∙ ap way_of (ap (λ (k : Key). k.lbn) e) ∙ known_way_of (j ∷ above) (up_known i (j ∷ above) known) in
+            absurd (h.free key before (sym (ap (λ (k : Key). k.ino) e)) i (way ∙ ap (λ w. i ∷ w) (sym to)))
         | inr apart ↦ h.frames holder apart (h.staged.parents.holders key before i (j ∷ above) way)
       ]
 

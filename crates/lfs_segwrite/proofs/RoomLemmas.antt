@@ -21,12 +21,12 @@ use Rattle.lfs_bmap.specs.declared.blocks.TheConstants.{BLOCK_CODES}
 use Rattle.lfs_bmap.specs.Log.{HasPlace, Opens, SameKeys}
 use Rattle.lfs_bmap.specs.Pieces.{IsPadded, file_bytes}
 use Rattle.lfs_bmap.specs.Reading.{SameReadings, address, data_block}
-use Rattle.lfs_bmap.specs.Ways.{IsKnown, code_at, data_way, way_of}
+use Rattle.lfs_bmap.specs.Ways.{IsKnown, code_at, way_of}
 use Rattle.lfs_bmap.proofs.MoveLemmas.{StaysDirty-opened, StaysDirty-refl}
 use Rattle.lfs_bmap.proofs.PlaceLemmas.{data_block-same}
 use Rattle.lfs_bmap.proofs.ReadingLemmas.{SameReadings-refl, address-root, kept_blocks}
 use Rattle.lfs_bmap.proofs.SegmentLemmas.{opened_log}
-use Rattle.lfs_bmap.proofs.WayLemmas.{known_way_of, way_of-data, way_of-known, way_of-zero}
+use Rattle.lfs_bmap.proofs.WayLemmas.{known_way_of, way_of-known, way_of-zero}
 use Rattle.lfs_staging.specs.declared.parts.Parts.{Parts}
 use Rattle.lfs_staging.specs.Files.{content_below, content_of, file_at, file_with, with_file}
 use Rattle.lfs_staging.specs.Keys.{log_state}
@@ -37,6 +37,8 @@ use Rattle.lfs_staging.proofs.CleanLemmas.{mirrors_read}
 use Rattle.lfs_staging.proofs.FileLemmas.{file_at-record, record_of-past}
 use Rattle.lfs_staging.proofs.KeyLemmas.{place-block, place-record, unused_waits}
 use Rattle.lfs_staging.proofs.ViewLemmas.{nowhere, record_of-logged, record_of-unused, record_of-waiting}
+use Rattle.lfs_bmap.specs.Blocks.{way_to}
+use Rattle.lfs_staging.proofs.KeptLemmas.{block_known}
 
 -- ---- parts whose files read the same
 below_same : (old new : ℕ → Option File) → ((n : ℕ) → new n ≡ old n) → (n : ℕ) → content_below new n ≡ content_below old n
@@ -170,8 +172,7 @@ module _ (p : Parts) (s : ℕ) (store : IsStore p) (inside : s < p.log.memory.se
         formed = file.formed;
         own_number = file.own_number;
         own_version = file.own_version;
-        none_past = λ m past low.
-            (readings_kept n).addresses (data_way m) (subst IsKnown (way_of-data m) (way_of-known (131 + m) (omega arith))) ∙ file.none_past m past low;
+        none_past = λ block can past. (readings_kept n).addresses (way_to block) (block_known block can) ∙ file.none_past block can past;
         padded = subst (λ (g : ℕ → List ℕ). IsPadded g f.attributes.size) (sym (blocks_alike p q record_kept readings_kept n)) file.padded;
       }
 

@@ -12,7 +12,7 @@ use Rattle.lfs_log.specs.Parts.{state_of}
 use Rattle.lfs_segments.specs.Memory.{block_at, next_address, room_of}
 use Rattle.lfs_bmap.specs.Moves.{DirtyIn, Moves, StaysDirty}
 use Rattle.lfs_staging.specs.declared.parts.Parts.{Parts}
-use Rattle.lfs_staging.specs.Changing.{StaysInLog, frames_of, frames_of_put, records_of, version_after}
+use Rattle.lfs_staging.specs.Changing.{StaysInLog, frames_of, records_of, version_after}
 use Rattle.lfs_segwrite.specs.Collecting.{blocks_of_entries, entries_of, inode_blocks}
 use Rattle.lfs_segwrite.specs.Flushing.{Waits}
 use Rattle.lfs_ifile.specs.Tables.{row_of}
@@ -24,6 +24,7 @@ use Rattle.lfs_staging.specs.Files.{content_of}
 use Rattle.lfs_staging.specs.Keys.{log_state}
 use Rattle.lfs_staging.specs.Staging.{IsStaged}
 use Rattle.lfs_staging.specs.Store.{IsSettled, IsStore}
+use Rattle.lfs_staging.specs.Putting.{frames_of_put}
 
 -- a change ends within the limit of a file, and puts no more bytes than one call brings
 abbrev pub IsInReach : Change → Type 0

@@ -8,7 +8,9 @@ ghost use Rattle.lfs_types.specs.declared.limits.TheConstants.{FILE_BYTES};
 ghost use Rattle.lfs_segwrite.specs.Applying.{HasRoom, HasRoomFor, IsInReach, LacksRoom, MakesChanges, MakesWay, StagesAll, StagesChange, frames_of_all, gives_back, needs_of, passes_limits, peak_of, peak_of_all, records_of_all, reserve_of};
 ghost use Rattle.lfs_cache.specs.declared.cache.TheConstants.{LOCKED_LIMIT};
 ghost use Rattle.lfs_staging.specs.declared.records.TheConstants.{WAITING_LIMIT};
-ghost use Rattle.lfs_staging.specs.Changing.{frames_of, frames_of_length, frames_of_put, frames_of_single, records_of};
+ghost use Rattle.lfs_bmap.specs.Ways.{tables_below};
+ghost use Rattle.lfs_staging.specs.Changing.{frames_of, frames_of_length, records_of};
+ghost use Rattle.lfs_staging.specs.Putting.{frames_of_put};
 ghost use Rattle.lfs_staging.specs.Files.{content_of};
 ghost use Rattle.lfs_staging.specs.Staging.{IsStaged};
 ghost use Rattle.lfs_staging.specs.Store.{IsStore};
@@ -34,10 +36,10 @@ pub const APPLIED_RECORDS: usize = 4;
 /// How many stay clean when another call opens one.
 const RESERVE: u32 = 2;
 
-/// How many frames the single indirect block takes of a file that is changed up to before this byte:
-/// one where that lies past the direct blocks.
-fn frames_of_single(end: u64) -> usize
-    ensures { result ≡ frames_of_single end }
+/// How many frames the indirect blocks take of a file that is changed up to before this byte: one
+/// where that lies past the direct blocks.
+fn frames_of_tables(end: u64) -> usize
+    ensures { result ≡ tables_below end }
 {
     let direct = u64::from(DIRECT_BLOCKS) * BLOCK_SIZE as u64;
     if direct < end { 1 } else { 0 }
@@ -51,7 +53,7 @@ fn frames_of_put(off: u64, count: usize) -> usize
 {
     let end = off + count as u64;
     let touched = blocks_touched(off, end);
-    (touched.end - touched.start) as usize + frames_of_single(end)
+    (touched.end - touched.start) as usize + frames_of_tables(end)
 }
 
 /// How many frames a length of a file takes at most.
@@ -59,7 +61,7 @@ fn frames_of_length(len: u64) -> usize
     ensures { result ≡ frames_of_length len }
 {
     let last = if len % BLOCK_SIZE as u64 == 0 { 0 } else { 1 };
-    last + frames_of_single(len)
+    last + frames_of_tables(len)
 }
 
 /// How many frames a change takes at most.

@@ -9,8 +9,8 @@ ghost use Rattle.lfs_segments.specs.declared.summary.TheConstants.{ENTRY_LIMIT};
 ghost use Rattle.lfs_segments.specs.Entry.{IsEntry};
 ghost use Rattle.lfs_segments.specs.Log.{Expects};
 ghost use Rattle.lfs_segments.specs.Memory.{next_address, room_of};
-ghost use Rattle.lfs_bmap.specs.Blocks.{IsFileBlock, code_of};
-ghost use Rattle.lfs_bmap.specs.declared.blocks.FileBlock.TheVariants.{Single};
+ghost use Rattle.lfs_bmap.specs.Blocks.{IsFileBlock, code_of, way_to};
+ghost use Rattle.lfs_bmap.specs.Ways.{way_of};
 ghost use Rattle.lfs_segwrite.specs.Collecting.{blocks_of_entries, entries_of, inode_blocks};
 ghost use Rattle.lfs_segwrite.specs.Flushing.{Flushes};
 ghost use Rattle.lfs_segwrite.specs.Landing.{ExpectsBlock};
@@ -87,14 +87,15 @@ fn land_blocks(parts: &mut Parts, entries: &[SummaryEntry])
     }
 }
 
-/// Writes a block of a file that waits at the log's end, which expects it. A single indirect block
-/// is written when no data block waits any more.
+/// Writes a block of a file that waits at the log's end, which expects it. A block that holds
+/// addresses is written when none of the blocks waits any more that have them.
 fn land_waiting(parts: &mut Parts, number: u32, block: FileBlock)
     requires staged { IsStaged parts.old 0 }
     requires block { IsFileBlock block }
     requires other { code_of block ≢ 0 }
     requires waits { IsLocked (key_of number (version_of parts.old number) (code_of block)) parts.old.cache }
-    requires last { block ≡ Single → (key : Key) → IsLocked key parts.old.cache → key.lbn ≡ 1 }
+    requires free { (key : Key) → IsLocked key parts.old.cache → key.ino ≡ number
+        → (i : ℕ) → way_of key.lbn ≡ i ∷ way_to block → ⊥ }
     requires expected { ExpectsBlock parts.old.log.memory (entry_at_version parts.old number block) }
     ensures staged { IsStaged parts.new 0 }
     ensures advances { (from : ℕ) → from ≤ next_address parts.old.log.memory

@@ -1,6 +1,6 @@
 //! Blocks that are written again at the log's end, as a cleaner asks.
 
-ghost use Rattle.std.specs.Prelude.{◌≡◌, ◌+◌, ◌<◌, ◌≤◌, ◌↔◌, All, Contains, IfOk, IsTrue, OnErr, Some, length, sum_by};
+ghost use Rattle.std.specs.Prelude.{◌≡◌, ◌≢◌, ◌+◌, ◌<◌, ◌≤◌, ◌↔◌, All, Contains, IfOk, IsTrue, OnErr, Some, length, sum_by};
 ghost use Rattle.lfs_types.specs.declared.cleaner.TheConstants.{MARK_LIMIT};
 ghost use Rattle.lfs_cache.specs.declared.cache.TheConstants.{LOCKED_LIMIT};
 ghost use Rattle.lfs_bmap.specs.Blocks.{IsFileBlock, code_of, way_to};
@@ -184,14 +184,17 @@ fn stage_again(parts: &mut Parts, inode: &Inode, block: FileBlock)
     requires staged { IsStaged parts.old 0 }
     requires may { MayStage parts.old inode.now }
     requires block { IsFileBlock block }
-    requires within { IsWithin block inode.now.size }
+    requires within { code_of block ≢ 0 → IsWithin block inode.now.size }
     requires frames { length parts.old.cache.locked + 2 ≤ LOCKED_LIMIT }
     ensures staged { IsStaged parts.new 0 }
     ensures again { StagesAgain inode.now.number (code_of block) parts.old parts.new }
 {
     match block {
-        FileBlock::Record => parts.stage_parents(inode, 0),
-        FileBlock::Single => parts.stage_parents(inode, DIRECT_BLOCKS),
+        FileBlock::Record => parts.stage_parents(inode, block),
+        FileBlock::Single => {
+            parts.stage_parents(inode, block);
+            parts.stage_table(inode, block);
+        }
         FileBlock::Data(index) => {
             let bytes = bytes_to_move(parts, inode, block);
             parts.stage_data(inode, index, &bytes);

@@ -9,30 +9,38 @@ use Rattle.lfs_cache.specs.Contents.{Contents, block_in}
 use Rattle.lfs_cache.proofs.Entries.{same_self}
 use Rattle.lfs_segments.specs.Memory.{block_at}
 use Rattle.lfs_log.specs.Parts.{LogParts}
-use Rattle.lfs_bmap.specs.declared.blocks.TheConstants.{BLOCK_CODES, FIRST_DATA_CODE}
+use Rattle.lfs_bmap.specs.declared.blocks.TheConstants.{BLOCK_CODES}
 use Rattle.lfs_bmap.specs.declared.blocks.FileBlock.{FileBlock}
 use Rattle.lfs_bmap.specs.declared.blocks.FileBlock.TheVariants.{Record, Single, Data}
 use Rattle.lfs_bmap.specs.Blocks.{IsFileBlock, code_of}
 use Rattle.lfs_bmap.specs.Reading.{SameReadings, address, read}
 use Rattle.lfs_bmap.specs.Ways.{IsKnown, way_of}
+use Rattle.lfs_bmap.proofs.BlockLemmas.{code_of-below}
 use Rattle.lfs_bmap.proofs.ReadingLemmas.{read-via, via-log}
 use Rattle.lfs_bmap.proofs.WayLemmas.{code_at-way_of, way_of-known}
 use Rattle.lfs_staging.specs.declared.parts.Parts.{Parts}
 use Rattle.lfs_staging.specs.Clean.{GainsNoClean}
-use Rattle.lfs_staging.specs.Store.{IsLogged, IsPresent, Mirrors}
+use Rattle.lfs_staging.specs.Store.{IsBlockCode, IsLogged, IsPresent, Mirrors}
 use Rattle.lfs_staging.specs.View.{key_of, tree_of, version_of}
 use Rattle.lfs_staging.proofs.ForgettingLemmas.{used_low}
 use Rattle.lfs_staging.proofs.HeldLemmas.{clean_waits}
 use Rattle.lfs_staging.proofs.SettingLemmas.{present_kept}
 
 -- a code of a block that a cache may hold
-pub coded_below : (code : ℕ) → (code ≡ 1) ⊎ ((FIRST_DATA_CODE ≤ code) × (code < BLOCK_CODES)) → code < BLOCK_CODES
-coded_below code coded = elim coded [ inl one ↦ omega arith | inr among ↦ among.1 ]
+pub coded_below : (code : ℕ) → IsBlockCode code → code < BLOCK_CODES
+coded_below code h = subst (λ c. c < BLOCK_CODES) h.coded (code_of-below h.block h.is)
 
-pub coded_block : (block : FileBlock) → IsFileBlock block → code_of block ≢ 0 → (code_of block ≡ 1) ⊎ ((FIRST_DATA_CODE ≤ code_of block) × (code_of block < BLOCK_CODES))
-coded_block Record can other = absurd (other refl)
-coded_block Single can other = inl refl
-coded_block (Data index) can other = inr (omega arith, omega arith)
+pub coded_block : (block : FileBlock) → IsFileBlock block → code_of block ≢ 0 → IsBlockCode (code_of block)
+coded_block block can other = record { block = block; is = can; coded = refl; other = other }
+
+-- that is the single indirect block's code, or a data block's
+code_cases : (block : FileBlock) → IsFileBlock block → code_of block ≢ 0 → (code_of block ≡ 1) ⊎ ((131 ≤ code_of block) × (code_of block < BLOCK_CODES))
+code_cases Record can other = absurd (other refl)
+code_cases Single can other = inl refl
+code_cases (Data index) can other = inr (omega arith, omega arith)
+
+pub coded_cases : (code : ℕ) → IsBlockCode code → (code ≡ 1) ⊎ ((131 ≤ code) × (code < BLOCK_CODES))
+coded_cases code h = subst (λ c. (c ≡ 1) ⊎ ((131 ≤ c) × (c < BLOCK_CODES))) h.coded (code_cases h.block h.is (λ e. h.other (sym h.coded ∙ e)))
 
 -- where a cache holds nothing clean, there is nothing to show
 pub mirrors_none : (p : Parts) → p.cache.lru ≡ [] → Mirrors p

@@ -13,15 +13,18 @@ use Rattle.lfs_bmap.specs.declared.blocks.FileBlock.TheVariants.{Data}
 use Rattle.lfs_bmap.specs.Reading.{data_block}
 use Rattle.lfs_bmap.specs.Ways.{IsKnown, IsWay, data_way}
 use Rattle.lfs_bmap.proofs.WayLemmas.{no_way_through, same_code, way_of-data, way_of-known}
-use Rattle.lfs_staging.proofs.HolderLemmas.{holder_data}
+use Rattle.lfs_staging.proofs.HolderLemmas.{block_gone, gone_free, holder_at, holder_code}
 use Rattle.lfs_staging.specs.declared.parts.Parts.{Parts}
-use Rattle.lfs_staging.specs.Cutting.{ClearsBlock, ClearsBlocks, IsGivenBack, KeepsRest, MayClear, MayClearBelow}
+use Rattle.lfs_staging.specs.Cutting.{ClearsBlock, ClearsBlocks, IsGone, KeepsRest, MayClear, MayClearBelow}
 use Rattle.lfs_staging.specs.Addressing.{IsWaiting}
 use Rattle.lfs_staging.specs.View.{key_of, record_of, tree_of, version_of, waiting_in}
 use Rattle.lfs_staging.proofs.TableLemmas.{apart_code}
 use Rattle.lfs_staging.proofs.FrameLemmas.{waiting_number}
 use Rattle.lfs_staging.proofs.StagedLemmas.{stays-refl, stays-trans}
 use Rattle.lfs_staging.proofs.ViewLemmas.{record_of-waiting}
+use Rattle.lfs_bmap.specs.Blocks.{code_of, table_of}
+use Rattle.lfs_bmap.proofs.HolderLemmas.{table_of-code, table_of-way}
+use Rattle.lfs_staging.specs.Store.{HolderWaits}
 
 -- the ways of data blocks
 pub data_known : (n : ℕ) → n < 140 → IsKnown (data_way n)
@@ -82,7 +85,7 @@ clears_none p number first end may = record {
   staged = may.staged;
   rest = rest_refl number p may.waits;
   gone = λ index from low. absurd (omega arith);
-  single = λ locked. locked;
+  tables = λ code low locked. locked;
   zeros = λ index from low. absurd (omega arith);
   data_same = λ n index apart. refl;
 }
@@ -107,11 +110,11 @@ may_clear a b number first index end may h low =
           let inside = may.within was.0 was.1 in
           subst (λ (x : Attributes). index < block_count x.size) (sym same) (omega arith);
       parent = λ i up way.
-          holder_data b.cache number (version_of b number) index (omega arith)
-          (λ past.
-          let locked = may.single (omega arith) in
-          subst (λ n. IsLocked (key_of number n 1) b.cache) (sym version) (h.single locked))
-          i up (way_of-data index ∙ way);
+          let t = table_of (Data index) in
+          subst (HolderWaits b.cache number (version_of b number)) (table_of-way (Data index) (omega arith) i up way)
+          (holder_at b.cache number (version_of b number) t (λ some.
+          subst (λ n. IsLocked (key_of number n (code_of t)) b.cache) (sym version)
+          (h.tables (code_of t) (table_of-code (Data index)) (holder_code a.cache number (version_of a number) t some (may.holders index low)))));
       beneath = λ j known. absurd (no_way_through (131 + index) j (omega arith) (subst (λ w. IsWay (j ∷ w)) (sym (way_of-data index)) known.leads));
     }
 
@@ -123,19 +126,15 @@ clears_more a b c number first index from low p q =
       staged = q.staged;
       rest = rest_trans number a b c p.rest q.rest;
       gone = λ k start end. elim (cases_eq k index) [
-        | inl is ↦ subst (IsGivenBack c number) (sym is) (record {
-          nowhere = q.nowhere;
-          free = λ locked. q.free (subst (λ n. IsLocked (key_of number n (131 + index)) c.cache) version locked);
-        })
+        | inl is ↦ subst (λ m. IsGone c number (data_way m)) (sym is)
+            (block_gone c number (Data index) q.nowhere (λ locked. q.free (subst (λ n. IsLocked (key_of number n (131 + index)) c.cache) version locked)))
         | inr other ↦
             let was = p.gone k start (omega arith) in
-            record {
-              nowhere = q.addresses (data_way k) (data_known k (omega arith)) (data_apart k index other) ∙ was.nowhere;
-              free = λ locked. was.free (subst (λ n. IsLocked (key_of number n (131 + k)) b.cache) version (q.rest.only _ locked));
-            }
+            block_gone c number (Data k) (q.addresses (data_way k) (data_known k (omega arith)) (data_apart k index other) ∙ was.nowhere)
+            (λ locked. gone_free b number (Data k) was (subst (λ n. IsLocked (key_of number n (131 + k)) b.cache) version (q.rest.only _ locked)))
       ];
-      single = λ locked.
-          q.kept _ (apart_code number number (version_of b number) (version_of a number) (131 + index) 1 (λ e. omega arith)) (p.single locked);
+      tables = λ code few locked.
+          q.kept _ (apart_code number number (version_of b number) (version_of a number) (131 + index) code (λ e. omega arith)) (p.tables code few locked);
       zeros = λ k start end. elim (cases_eq k index) [
         | inl is ↦ ap (data_block (tree_of c number)) is ∙ q.zeros index refl
         | inr other ↦ q.data_same number k (inr (λ e. other (omega arith))) ∙ p.zeros k start (omega arith)

@@ -1,115 +1,68 @@
 -- What a block of a file has past a length is zeroed.
-use Rattle.std.proofs.Common.{◌≡◌, ◌≢◌, ℕ, ◌+◌, ◌*◌, ◌/◌, ◌%◌, ◌<◌, ◌≤◌, List, length, Some, refl, sym, ap, ◌∙◌, subst, inl, inr, arith}
+use Rattle.std.proofs.Common.{◌≡◌, ◌≢◌, ℕ, ◌+◌, ◌*◌, ◌/◌, ◌%◌, ◌<◌, ◌≤◌, List, length, refl, sym, ◌∙◌, subst, inl, inr, arith}
 use Rattle.std.specs.Prelude.{if◌then◌else◌, ◌==◌}
 use Rattle.std.proofs.lemmas.Bool.{cases_eq, cond-false, ne_eqb, le-ltb}
-use Rattle.std.proofs.lemmas.Option.{same_Some}
-use Rattle.lfs_ifile.specs.Tables.{row_of}
 use Rattle.lfs_inodes.specs.declared.inode.Inode.{Inode}
 use Rattle.lfs_inodes.specs.Facts.{block_count}
-use Rattle.lfs_inodes.specs.Reading.{Fields, fields_of}
-use Rattle.lfs_cache.specs.declared.key.Key.{Key}
-use Rattle.lfs_cache.specs.Contents.{IsLocked}
-use Rattle.lfs_log.specs.Parts.{LogParts}
+use Rattle.lfs_inodes.specs.Reading.{fields_of}
+use Rattle.lfs_cache.specs.Contents.{Contents}
 use Rattle.lfs_bmap.specs.declared.blocks.FileBlock.{FileBlock}
-use Rattle.lfs_bmap.specs.declared.blocks.FileBlock.TheVariants.{Record, Single, Data}
-use Rattle.lfs_bmap.specs.Blocks.{IsFileBlock, code_of, way_to}
+use Rattle.lfs_bmap.specs.declared.blocks.FileBlock.TheVariants.{Data}
+use Rattle.lfs_bmap.specs.Blocks.{table_of, way_to}
 use Rattle.lfs_bmap.specs.Pieces.{IsCut}
-use Rattle.lfs_bmap.specs.Reading.{address, data_block}
-use Rattle.lfs_bmap.specs.Ways.{IsKnown}
-use Rattle.lfs_bmap.proofs.BlockLemmas.{code_of-below}
+use Rattle.lfs_bmap.specs.Reading.{data_block}
+use Rattle.lfs_bmap.specs.Ways.{codes_on}
 use Rattle.lfs_bmap.proofs.PieceLemmas.{below_cut}
-use Rattle.lfs_bmap.proofs.WayLemmas.{way_of-code_of, way_of-known}
 use Rattle.lfs_staging.specs.declared.parts.Parts.{Parts}
 use Rattle.lfs_staging.specs.Cutting.{CutsBlock, CutsLast}
 use Rattle.lfs_staging.specs.Staging.{HasParents, IsStaged, IsZeroPast, MayStage, StagesBlock, StagesParents}
-use Rattle.lfs_staging.specs.Store.{IsWithin}
-use Rattle.lfs_staging.specs.View.{key_of, record_of, tree_of, version_of}
-use Rattle.lfs_staging.specs.Waiting.{without}
-use Rattle.lfs_staging.proofs.KeptLemmas.{data_again, data_kept, few_records, log_kept, staged_data}
-use Rattle.lfs_staging.proofs.StagingLemmas.{version-same}
+use Rattle.lfs_staging.specs.Store.{HolderWaits}
+use Rattle.lfs_staging.specs.View.{tree_of, version_of}
+use Rattle.lfs_staging.proofs.KeptLemmas.{data_again, data_kept, staged_data}
+use Rattle.lfs_bmap.proofs.HolderLemmas.{table_of-below}
+use Rattle.lfs_staging.proofs.TakenLemmas.{takes_none}
 
 -- ---- the parents of a data block wait
--- a block that a file can have is known
-block_known : (block : FileBlock) → IsFileBlock block → IsKnown (way_to block)
-block_known block is = subst IsKnown (way_of-code_of block) (way_of-known (code_of block) (code_of-below block is))
-
--- the single indirect block lies within the size of a file with more than 12 blocks
-within_single : (block : FileBlock) (size index : ℕ) → code_of block ≡ 1 → 12 ≤ index → index < block_count size → IsWithin block size
-within_single Record size index one many inside = tt
-within_single Single size index one many inside = omega arith
-within_single (Data k) size index one many inside = absurd (omega arith)
-
-module _ (old new : Parts) (v : Inode) (index : ℕ) (may : MayStage old v) (h : StagesParents v.number index old new) where
-  addresses : (n : ℕ) (way : List ℕ) → IsKnown way → address (tree_of new n) way ≡ address (tree_of old n) way
-  addresses n way known = (h.same.readings n).addresses way known
-
-  pub parents_again : MayStage new v
-  parents_again = record {
-    files = h.files;
-    parents = h.parents;
-    inside = record {
-      each = λ block is.
-          subst (λ n. address (tree_of new v.number) (way_to block) < n) (sym (ap (λ (l : LogParts). l.memory.segments * 64) h.same.log))
-          (subst (λ a. a < old.log.memory.segments * 64) (sym (addresses v.number (way_to block) (block_known block is))) (may.inside.each block is));
-    };
-    in_range = subst (λ n. v.number < n) (sym (ap (λ (l : LogParts). length l.tables.rows) h.same.log)) may.in_range;
-    in_use = ap (λ (l : LogParts). (row_of l.tables v.number).used) h.same.log ∙ may.in_use;
-    here = h.same.records v.number ∙ may.here;
-    records = subst (λ (vs : List Inode). length vs < 64) (sym h.room) may.records;
-  }
-
-  pub parents_staged : IsStaged old 0 → index < block_count v.size → IsStaged new 0
-  parents_staged staged inside = record {
-    whole = h.files;
-    log = log_kept old new 0 h.same.log addresses staged.log;
-    parents = h.parents;
-    once = h.once staged.once;
-    few = few_records new v.number (without v.number old.waiting) h.room may.records;
-    within = λ n block f is can locked.
-        let was : record_of old n ≡ Some f = sym (h.same.records n) ∙ is in
-        let version : version_of new n ≡ version_of old n = version-same old new n h.same.log in
-        elim (h.only (key_of n (version_of new n) (code_of block)) locked) [
-          | inl single ↦
-              let own : n ≡ v.number = ap (λ (k : Key). k.ino) single.0 in
-              let file : fields_of v ≡ f = same_Some (fields_of v) f (sym may.here ∙ ap (record_of old) (sym own) ∙ was) in
-              subst (λ (x : Fields). IsWithin block x.attributes.size) file (within_single block v.size index (ap (λ (k : Key). k.lbn) single.0) single.1 inside)
-          | inr before ↦ staged.within n block f was can (subst (λ m. IsLocked (key_of n m (code_of block)) old.cache) version before)
-        ];
-  }
-
 -- where they wait already, that is so with nothing changed
-pub parents_wait : (p : Parts) (v : Inode) (index : ℕ) → MayStage p v → HasParents p v.number index → StagesParents v.number index p p
-parents_wait p v index may waits = record {
+pub parents_wait : (p : Parts) (v : Inode) (block : FileBlock) → MayStage p v → HasParents p v.number block → StagesParents v.number block p p
+parents_wait p v block may waits = record {
   same = record { log = refl; records = λ n. refl; readings = λ n. record { addresses = λ way known. refl; bytes = λ way known. refl } };
   files = may.files;
   parents = may.parents;
   waits = waits;
   room = refl;
   once = λ once. once;
-  frames = omega arith;
-  direct = λ low. refl;
-  again = λ locked. refl;
   stays = λ key locked. locked;
-  only = λ key locked. inr locked;
+  takes = takes_none v.number (version_of p v.number) (codes_on (way_to (table_of block))) p.cache p.cache refl;
 }
 
--- a block has the parents of one before it
-pub parents_below : (p : Parts) (number index other : ℕ) → HasParents p number other → index ≤ other → HasParents p number index
-parents_below p number index other h less = record { record_waits = h.record_waits; single_waits = λ many. h.single_waits (omega arith) }
+-- what holds the address of a data block before one waits too
+pub holder_below : (c : Contents) (number version index other : ℕ) → index ≤ other → HolderWaits c number version (way_to (table_of (Data other)))
+    → HolderWaits c number version (way_to (table_of (Data index)))
+holder_below c number version index other less waits = elim (table_of-below index other less) [
+  | inl top ↦ subst (λ t. HolderWaits c number version (way_to t)) (sym top) tt
+  | inr same ↦ subst (λ t. HolderWaits c number version (way_to t)) (sym same) waits
+]
+
+pub parents_below : (p : Parts) (number index other : ℕ) → HasParents p number (Data other) → index ≤ other → HasParents p number (Data index)
+parents_below p number index other h less = record {
+  record_waits = h.record_waits;
+  holder_waits = holder_below p.cache number (version_of p number) index other less h.holder_waits;
+}
 
 -- ---- a block is cut
 -- a block that is zero past a length is zero past a greater size
 cut_zeros : (index len size : ℕ) (before after : List ℕ) → IsCut index len before after → len ≤ size → IsZeroPast size index after
 cut_zeros index len size before after cut less k low past = cut.each k low ∙ cond-false _ _ _ (le-ltb (512 * index + k) len (omega arith))
 
-pub cut_one : (old new : Parts) (v : Inode) (index len : ℕ) (before after : List ℕ) → MayStage old v → IsStaged old 0 → HasParents old v.number index
+pub cut_one : (old new : Parts) (v : Inode) (index len : ℕ) (before after : List ℕ) → MayStage old v → IsStaged old 0 → HasParents old v.number (Data index)
     → StagesBlock v.number (Data index) after old new → index < block_count v.size → before ≡ data_block (tree_of old v.number) index → IsCut index len before after
     → len ≤ v.size → CutsBlock v.number index len old new
 cut_one old new v index len before after may staged waits h inside is cut less =
     let sized = ((may.files.files v.number (fields_of v) may.here).formed).sized in
     let most = sized.0 in
     let low : index < 140 = omega arith in
-    let parents = parents_wait old v index may waits in
+    let parents = parents_wait old v (Data index) may waits in
     let moved = staged_data old old new v.number index after low parents h in
     let again = data_again old old new v index after low may parents h cut.whole (cut_zeros index len v.size before after cut less) in
     record {

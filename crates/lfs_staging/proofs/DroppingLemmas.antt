@@ -1,28 +1,26 @@
 -- The blocks of a file past a length are given back, and the single indirect block with the last that it leads to.
-use Rattle.std.proofs.Common.{◌≡◌, ◌≢◌, ℕ, ◌+◌, ◌-◌, ◌<◌, ◌≤◌, ◌⊎◌, List, [], ◌∷◌, Some, sym, ap, ◌∙◌, subst, inl, inr, arith}
-use Rattle.std.specs.Prelude.{slice_index}
-use Rattle.std.proofs.lemmas.Bool.{cases_lt}
+use Rattle.std.proofs.Common.{List, Some, [], ap, arith, inl, inr, refl, subst, sym, ℕ, ◌+◌, ◌-◌, ◌<◌, ◌∙◌, ◌∷◌, ◌≡◌, ◌≢◌, ◌≤◌, ◌⊎◌}
+use Rattle.std.proofs.lemmas.Bool.{cases_eq, cases_lt}
 use Rattle.lfs_ifile.specs.declared.inode.InodeRow.{InodeRow}
 use Rattle.lfs_ifile.specs.Tables.{row_at}
 use Rattle.lfs_inodes.specs.Attributes.{Attributes}
 use Rattle.lfs_inodes.specs.Facts.{block_count}
 use Rattle.lfs_inodes.specs.Reading.{Fields}
 use Rattle.lfs_cache.specs.Contents.{IsLocked}
-use Rattle.lfs_bmap.specs.declared.blocks.FileBlock.TheVariants.{Single, Data}
-use Rattle.lfs_bmap.specs.Blocks.{way_to}
-use Rattle.lfs_bmap.specs.Ways.{code_at, data_way}
-use Rattle.lfs_bmap.specs.Reading.{address}
-use Rattle.lfs_staging.proofs.HolderLemmas.{holder_single}
-use Rattle.lfs_bmap.proofs.ReadingLemmas.{address-cell, table-root}
-use Rattle.lfs_bmap.proofs.WayLemmas.{code_at-way_of, data_way-single, same_code, way_of-code_of, way_of-data}
+use Rattle.lfs_bmap.specs.declared.blocks.FileBlock.TheVariants.{Record, Single, Data}
+use Rattle.lfs_bmap.specs.Blocks.{IsFileBlock, code_of, first_under, way_to}
+use Rattle.lfs_bmap.specs.Ways.{data_way}
+use Rattle.lfs_staging.proofs.HolderLemmas.{block_gone, gone_free, holder_code, holder_single}
+use Rattle.lfs_bmap.proofs.WayLemmas.{data_way-single, same_code, way_of-code_of}
 use Rattle.lfs_staging.specs.declared.parts.Parts.{Parts}
-use Rattle.lfs_staging.specs.Cutting.{ClearsBlock, ClearsBlocks, DropsBlocks, IsAlone, IsGivenBack, MayClear, MayClearBelow, IsGone}
-use Rattle.lfs_staging.specs.View.{key_of, record_of, root_in, tree_of, version_of}
-use Rattle.lfs_staging.proofs.ClearingLemmas.{data_known, rest_attributes, rest_trans, rest_version, some_fields}
-
--- the way of a data block is not that of the single indirect block
-data_single : (n : ℕ) → data_way n ≢ way_to Single
-data_single n e = let same = same_code (131 + n) 1 (way_of-data n ∙ e ∙ sym (way_of-code_of Single)) in omega arith
+use Rattle.lfs_staging.specs.Cutting.{ClearsBlock, ClearsBlocks, DropsBlocks, GoneFrom, IsGone, MayClear, MayClearBelow}
+use Rattle.lfs_staging.specs.View.{key_of, record_of, version_of}
+use Rattle.lfs_staging.proofs.ClearingLemmas.{rest_attributes, rest_trans, rest_version, some_fields}
+use Rattle.lfs_bmap.proofs.BlockLemmas.{same_block}
+use Rattle.lfs_bmap.proofs.HolderLemmas.{table_of-single}
+use Rattle.lfs_bmap.specs.declared.blocks.FileBlock.{FileBlock}
+use Rattle.lfs_staging.proofs.KeptLemmas.{block_known}
+use Rattle.lfs_staging.specs.Store.{HolderWaits}
 
 module _ (a b : Parts) (number left blocks : ℕ) (may : MayClearBelow a number blocks) (ordered : left ≤ blocks)
     (all : (f : Fields) → record_of a number ≡ Some f → blocks ≡ block_count f.attributes.size) (p : ClearsBlocks number left blocks a b) where
@@ -37,41 +35,27 @@ module _ (a b : Parts) (number left blocks : ℕ) (may : MayClearBelow a number 
       let was = some_fields (record_of a number) (may.staged.whole.recorded number may.in_use) in
       all was.0 was.1 ∙ ap (λ (x : Attributes). block_count x.size) (sym (rest_attributes number a b p.rest was.0 g was.1 is))
 
-  -- no block from `left` on has an address, and none waits
-  gone_all : (k : ℕ) → left ≤ k → k < 140 → IsGivenBack b number k
+  -- no block past the size has an address, and none waits
+  past_gone : (block : FileBlock) → IsFileBlock block → blocks ≤ first_under block → IsGone b number (way_to block)
+  past_gone block is past =
+      let size = count here.0 here.1 in
+      block_gone b number block ((p.staged.whole.files number here.0 here.1).none_past block is (omega arith))
+      (λ locked. let inside = p.staged.within number block here.0 here.1 is locked in omega arith)
+
+  -- nor does a data block from `left` on
+  gone_all : (k : ℕ) → left ≤ k → k < 140 → IsGone b number (data_way k)
   gone_all k from low =
       elim (cases_lt k blocks) [
         | inl inside ↦ p.gone k from inside
-        | inr past ↦
-            let size = count here.0 here.1 in
-            record {
-              nowhere = (p.staged.whole.files number here.0 here.1).none_past k (omega arith) low;
-              free = λ locked. let inside = p.staged.within number (Data k) here.0 here.1 low locked in omega arith;
-            }
+        | inr past ↦ past_gone (Data k) low (omega arith)
       ]
-
-  -- a file of few blocks has no single indirect block
-  alone_none : blocks ≤ 12 → IsAlone b number
-  alone_none few =
-      let size = count here.0 here.1 in
-      record {
-        nowhere =
-            address-cell (tree_of b number) 12 [] ∙ ap (λ ys. slice_index ys 12) (table-root (tree_of b number) ∙ ap root_in here.1)
-            ∙ (p.staged.whole.files number here.0 here.1).formed.within 12 (omega arith) (omega arith);
-        free = λ locked. let inside = p.staged.within number Single here.0 here.1 tt locked in omega arith;
-      }
 
   -- nor any that the single indirect block leads to
   under : left ≤ 12 → (j : ℕ) → j < 128 → IsGone b number (j ∷ 12 ∷ [])
   under few j low =
       let back : 12 + j - 12 ≡ j = omega arith in
       let way : data_way (12 + j) ≡ j ∷ 12 ∷ [] = data_way-single (12 + j) (omega arith) (omega arith) ∙ ap (λ k. k ∷ 12 ∷ []) back in
-      let was = gone_all (12 + j) (omega arith) (omega arith) in
-      let code : code_at (j ∷ 12 ∷ []) ≡ 131 + (12 + j) = ap code_at (sym way) ∙ ap code_at (sym (way_of-data (12 + j))) ∙ code_at-way_of (131 + (12 + j)) in
-      record {
-        nowhere = ap (address (tree_of b number)) (sym way) ∙ was.nowhere;
-        free = λ locked. was.free (subst (λ c. IsLocked (key_of number (version_of b number) c) b.cache) code locked);
-      }
+      subst (IsGone b number) way (gone_all (12 + j) (omega arith) (omega arith))
 
   pub may_single : left ≤ 12 → 12 < blocks → MayClear b number Single
   may_single few many = record {
@@ -85,16 +69,45 @@ module _ (a b : Parts) (number left blocks : ℕ) (may : MayClearBelow a number 
     beneath = λ j known. under few j known.leads.0;
   }
 
+  gone_from : (left ≤ 12 × blocks ≤ 12) ⊎ (12 < left) → GoneFrom b number left
+  gone_from few Record is other past = absurd (other refl)
+  gone_from few Single is other past = elim few [ inl none ↦ past_gone Single tt none.1 | inr more ↦ absurd (omega arith) ]
+  gone_from few (Data k) is other past = gone_all k past is
+
   pub dropped_rest : (left ≤ 12 × blocks ≤ 12) ⊎ (12 < left) → DropsBlocks number left blocks a b
   dropped_rest few = record {
     staged = p.staged;
     rest = p.rest;
-    gone = gone_all;
-    single = λ low. elim few [ inl none ↦ alone_none none.1 | inr more ↦ absurd (omega arith) ];
+    gone = gone_from few;
     zeros = p.zeros;
     data_same = p.data_same;
     less = λ low many. elim few [ inl none ↦ let at_most = none.1 in absurd (omega arith) | inr more ↦ absurd (omega arith) ];
   }
+
+  -- with the single indirect block all that leads to data blocks from `left` on alone is gone
+  data_gone : (block : FileBlock) → IsFileBlock block → code_of block ≢ 0 → code_of block ≢ 1 → left ≤ first_under block → IsGone b number (way_to block)
+  data_gone Record is other ne from = absurd (other refl)
+  data_gone Single is other ne from = absurd (ne refl)
+  data_gone (Data k) is other ne from = gone_all k from is
+
+  all_gone : (c : Parts) → ClearsBlock number Single b c → GoneFrom c number left
+  all_gone c q block is other from =
+      let version = rest_version number b c q.rest number in
+      elim (cases_eq (code_of block) 1) [
+        | inl one ↦
+            subst (λ x. IsGone c number (way_to x)) (sym (same_block block Single one))
+            (block_gone c number Single q.nowhere (λ locked. q.free (subst (λ n. IsLocked (key_of number n 1) c.cache) version locked)))
+        | inr ne ↦
+            let was = data_gone block is other ne from in
+            block_gone c number block
+            (q.addresses (way_to block) (block_known block is) (λ e. ne (same_code (code_of block) 1 (way_of-code_of block ∙ e ∙ sym (way_of-code_of Single)))) ∙ was.nowhere)
+            (λ locked. gone_free b number block was (subst (λ n. IsLocked (key_of number n (code_of block)) b.cache) version (q.rest.only _ locked)))
+      ]
+
+  single_waited : 12 < blocks → IsLocked (key_of number (version_of a number) 1) a.cache
+  single_waited many =
+      holder_code a.cache number (version_of a number) Single (λ e. omega arith)
+      (subst (λ t. HolderWaits a.cache number (version_of a number) (way_to t)) (table_of-single 12 (omega arith)) (may.holders 12 many))
 
   pub dropped_all : (c : Parts) → left ≤ 12 → 12 < blocks → ClearsBlock number Single b c → DropsBlocks number left blocks a c
   dropped_all c few many q =
@@ -103,20 +116,11 @@ module _ (a b : Parts) (number left blocks : ℕ) (may : MayClearBelow a number 
       record {
         staged = q.staged;
         rest = rest_trans number a b c p.rest q.rest;
-        gone = λ k from low.
-            let was = gone_all k from low in
-            record {
-              nowhere = q.addresses (data_way k) (data_known k low) (data_single k) ∙ was.nowhere;
-              free = λ locked. was.free (subst (λ n. IsLocked (key_of number n (131 + k)) b.cache) version (q.rest.only _ locked));
-            };
-        single = λ low. record {
-          nowhere = q.nowhere;
-          free = λ locked. q.free (subst (λ n. IsLocked (key_of number n 1) c.cache) version locked);
-        };
+        gone = all_gone c q;
         zeros = λ k from inside. q.data_same number k (inr (λ e. omega arith)) ∙ p.zeros k from inside;
         data_same = λ n k apart. q.data_same n k (inr (λ e. omega arith)) ∙ p.data_same n k apart;
         less = λ low more.
-            let locked = subst (λ n. IsLocked (key_of number n 1) b.cache) (sym before) (p.single (may.single many)) in
+            let locked = subst (λ n. IsLocked (key_of number n 1) b.cache) (sym before) (p.tables 1 (omega arith) (single_waited more)) in
             let fewer = q.less locked in
             let first = p.rest.fewer in
             omega arith;

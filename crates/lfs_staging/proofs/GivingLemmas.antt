@@ -21,13 +21,13 @@ use Rattle.lfs_segments.specs.Memory.{SegmentMemory, block_at}
 use Rattle.lfs_log.specs.Parts.{IsParts}
 use Rattle.lfs_bmap.specs.declared.blocks.FileBlock.{FileBlock}
 use Rattle.lfs_bmap.specs.declared.blocks.FileBlock.TheVariants.{Record, Single, Data}
-use Rattle.lfs_bmap.specs.Blocks.{IsFileBlock, code_of, way_to}
+use Rattle.lfs_bmap.specs.Blocks.{IsFileBlock, code_of, first_under, way_to}
 use Rattle.lfs_bmap.specs.Log.{IsLog}
 use Rattle.lfs_bmap.specs.Pieces.{IsPadded}
 use Rattle.lfs_bmap.specs.Reading.{address, data_block}
 use Rattle.lfs_bmap.specs.Ways.{IsKnown, code_at, way_of}
 use Rattle.lfs_bmap.proofs.PieceLemmas.{zero_block-at, zero_block-length}
-use Rattle.lfs_bmap.proofs.WayLemmas.{code_at-way_of, known_way_of, up_known, way_of-code_of, way_of-data, way_of-known}
+use Rattle.lfs_bmap.proofs.WayLemmas.{code_at-way_of, known_way_of, up_known, way_of-code_of, way_of-known}
 use Rattle.lfs_staging.specs.declared.records.TheConstants.{WAITING_LIMIT}
 use Rattle.lfs_staging.specs.declared.parts.Parts.{Parts}
 use Rattle.lfs_staging.specs.Cutting.{ClearsBlock, KeepsRest, MayClear}
@@ -40,12 +40,11 @@ use Rattle.lfs_staging.proofs.CleanLemmas.{apart_present, coded_below, logged_ke
 use Rattle.lfs_staging.proofs.ClearedLemmas.{Steps, address_here, address_rest, address_same, data_same, moves, record_other, version_same, waits_key, zeros_here}
 use Rattle.lfs_staging.proofs.FrameLemmas.{locked_less, locked_most, once_numbers}
 use Rattle.lfs_staging.proofs.SettingLemmas.{waiting_record}
+use Rattle.lfs_bmap.proofs.BlockLemmas.{code_of-below, same_block}
 
 -- a block within the size is none past it
-within_apart : (block : FileBlock) (size k : ℕ) → code_of block ≢ 0 → IsWithin block size → block_count size ≤ k → 131 + k ≢ code_of block
-within_apart Record size k other within past e = other refl
-within_apart Single size k other within past e = omega arith
-within_apart (Data index) size k other within past e = omega arith
+pub within_apart : (block b : FileBlock) (size : ℕ) → IsWithin block size → block_count size ≤ first_under b → code_of b ≢ code_of block
+within_apart block b size within past e = let same = ap first_under (same_block b block e) in omega arith
 
 -- the data block with a code
 data_of_code : (block : FileBlock) (k : ℕ) → 131 + k ≡ code_of block → block ≡ Data k
@@ -137,15 +136,15 @@ module _ (p s q : Parts) (v : Inode) (block : FileBlock) (i : ℕ) (up : List �
 
   -- ---- files
   file_after : (number : ℕ) (f g : Fields) → IsFile p number f → f.attributes ≡ g.attributes
-      → ((k : ℕ) → block_count f.attributes.size ≤ k → (number ≢ v.number) ⊎ (131 + k ≢ code_of block)) → AreFields g → IsFile q number g
+      → ((b : FileBlock) → block_count f.attributes.size ≤ first_under b → (number ≢ v.number) ⊎ (code_of b ≢ code_of block)) → AreFields g → IsFile q number g
   file_after number f g was same apart formed = record {
     formed = formed;
     own_number = sym (ap (λ (x : Attributes). x.number) same) ∙ was.own_number;
     own_version = sym (ap (λ (x : Attributes). x.version) same) ∙ was.own_version ∙ sym (version_same p s q v block i up h number);
-    none_past = λ k past below.
-        let from : block_count f.attributes.size ≤ k = subst (λ (x : Attributes). block_count x.size ≤ k) (sym same) past in
-        ap (address (tree_of q number)) (sym (way_of-data k)) ∙ address_same p s q v block i up h number (131 + k) (omega arith) (apart k from)
-        ∙ ap (address (tree_of p number)) (way_of-data k) ∙ was.none_past k from below;
+    none_past = λ b is past.
+        let from : block_count f.attributes.size ≤ first_under b = subst (λ (x : Attributes). block_count x.size ≤ first_under b) (sym same) past in
+        ap (address (tree_of q number)) (sym (way_of-code_of b)) ∙ address_same p s q v block i up h number (code_of b) (code_of-below b is) (apart b from)
+        ∙ ap (address (tree_of p number)) (way_of-code_of b) ∙ was.none_past b is from;
     padded = subst (λ (x : Attributes). IsPadded (data_block (tree_of q number)) x.size) same
         (padded_zeroed (data_block (tree_of p number)) (data_block (tree_of q number)) f.attributes.size (λ n. elim (cases_eq number v.number) [
           | inl e ↦ elim (cases_eq (131 + n) (code_of block)) [
@@ -163,10 +162,10 @@ module _ (p s q : Parts) (v : Inode) (block : FileBlock) (i : ℕ) (up : List �
             let same : fields_of stays.after ≡ f = same_Some _ f (sym record_here ∙ ap (record_of q) (sym e) ∙ is) in
             subst (IsFile q number) same (file_after number (fields_of v) (fields_of stays.after)
             (subst (λ n. IsFile p n (fields_of v)) (sym e) (files.files v.number (fields_of v) record_before)) (sym stays.same)
-            (λ k past. inr (within_apart block v.size k h.other within past)) (AreFields-fields_of stays.after))
+            (λ b past. inr (within_apart block b v.size within past)) (AreFields-fields_of stays.after))
         | inr ne ↦
             let was = files.files number f (sym (record_other p s q v block i up h number ne) ∙ is) in
-            file_after number f f was refl (λ k past. inl ne) was.formed
+            file_after number f f was refl (λ b past. inl ne) was.formed
       ]
 
   -- what is clean was, and is no block that was given back

@@ -1,9 +1,9 @@
 -- A file whose record waits with a greater size, and one into which bytes were put.
-use Rattle.std.proofs.Common.{◌≡◌, ◌≢◌, ◌⊎◌, ℕ, ◌+◌, ◌*◌, ◌<◌, ◌≤◌, max, List, length, Some, option_map, is_some, sym, ap, ◌∙◌, subst, inl, inr, arith}
+use Rattle.std.proofs.Common.{◌≡◌, ◌≢◌, ℕ, ◌+◌, ◌*◌, ◌<◌, ◌≤◌, max, List, length, Some, option_map, is_some, sym, ap, ◌∙◌, subst, inl, inr, arith}
 use Rattle.std.specs.Cmp.{nat_cmp_total}
 use Rattle.std.specs.FinMap as map
 use Rattle.std.specs.FinMap.{same_map, nat_cmp-IsAntisymmetric}
-use Rattle.std.proofs.lemmas.Bool.{cases_eq, cond-true, lt-ltb}
+use Rattle.std.proofs.lemmas.Bool.{cases_eq}
 use Rattle.std.proofs.lemmas.Option.{same_Some}
 use Rattle.lfs_types.specs.declared.attrs.Attrs.{Attrs}
 use Rattle.lfs_types.specs.Changes.{changed_at}
@@ -20,16 +20,13 @@ use Rattle.lfs_cache.specs.Changes.{IsContents}
 use Rattle.lfs_cache.specs.Contents.{IsLocked}
 use Rattle.lfs_log.specs.Parts.{IsParts, LogParts}
 use Rattle.lfs_bmap.specs.declared.blocks.FileBlock.{FileBlock}
-use Rattle.lfs_bmap.specs.declared.blocks.FileBlock.TheVariants.{Record, Single, Data}
-use Rattle.lfs_bmap.specs.Blocks.{code_of}
+use Rattle.lfs_bmap.specs.Blocks.{code_of, way_to}
 use Rattle.lfs_bmap.specs.Pieces.{IsPadded, IsPut, file_bytes}
 use Rattle.lfs_bmap.specs.Reading.{address, data_block}
-use Rattle.lfs_bmap.specs.Ways.{data_way}
 use Rattle.lfs_bmap.proofs.PieceLemmas.{put_splice}
 use Rattle.lfs_staging.specs.declared.parts.Parts.{Parts}
 use Rattle.lfs_staging.specs.Files.{content_of, file_at, file_with}
-use Rattle.lfs_staging.specs.Changing.{frames_of_put, frames_of_single}
-use Rattle.lfs_staging.specs.Putting.{ChangesRecord, GrowsTo, MayChange, PutsBytes, blocks_of_put, with_attrs, with_put}
+use Rattle.lfs_staging.specs.Putting.{ChangesRecord, GrowsTo, MayChange, PutsBytes, with_attrs, with_put}
 use Rattle.lfs_staging.specs.Staging.{IsStaged, MayStage, StagesRecord}
 use Rattle.lfs_staging.specs.Store.{AreFiles, IsFile, IsPresent, IsWithin}
 use Rattle.lfs_staging.specs.View.{LiesIn, blocks_of, key_of, record_of, root_in, tree_of, version_of}
@@ -43,9 +40,7 @@ use Rattle.lfs_staging.proofs.WaitingLemmas.{length-rest, length-without}
 
 -- a block that lies within a size lies within a greater one
 pub within_more : (block : FileBlock) (size other : ℕ) → size ≤ other → IsWithin block size → IsWithin block other
-within_more Record size other more within = tt
-within_more Single size other more within = omega arith
-within_more (Data index) size other more within = omega arith
+within_more block size other more within = omega arith
 
 padded_longer : (blocks : ℕ → List ℕ) (size other : ℕ) → IsPadded blocks size → size ≤ other → IsPadded blocks other
 padded_longer blocks size other h more = record { whole = h.whole; zeros = λ i past. h.zeros i (omega arith) }
@@ -79,8 +74,7 @@ module _ (old new : Parts) (v w : Inode) (may : MayStage old v) (h : StagesRecor
     formed = AreFields-fields_of w;
     own_number = same_number;
     own_version = same_version ∙ old_file.own_version ∙ sym (version-same old new v.number h.log);
-    none_past = λ n past low.
-        ap (λ t. address t (data_way n)) (grown_trees v.number) ∙ old_file.none_past n (omega arith) low;
+    none_past = λ block is past. ap (λ t. address t (way_to block)) (grown_trees v.number) ∙ old_file.none_past block is (omega arith);
     padded = subst (λ t. IsPadded (data_block t) w.size) (sym (grown_trees v.number))
         (padded_longer (data_block (tree_of old v.number)) v.size w.size old_file.padded (omega arith));
   }
@@ -90,7 +84,7 @@ module _ (old new : Parts) (v w : Inode) (may : MayStage old v) (h : StagesRecor
     formed = was.formed;
     own_number = was.own_number;
     own_version = was.own_version ∙ sym (version-same old new n h.log);
-    none_past = λ m past low. ap (λ t. address t (data_way m)) (grown_trees n) ∙ was.none_past m past low;
+    none_past = λ block is past. ap (λ t. address t (way_to block)) (grown_trees n) ∙ was.none_past block is past;
     padded = subst (λ t. IsPadded (data_block t) f.attributes.size) (sym (grown_trees n)) was.padded;
   }
 
@@ -256,18 +250,6 @@ one_record old new number same =
     let less = length-without old.waiting number in
     let is : length (without number new.waiting) ≡ length (without number old.waiting) = ap (λ (vs : List Inode). length vs) same in
     omega arith
-
--- the frames that bytes take
-pub put_frames : (old new : Parts) (start count : ℕ) → (length new.cache.locked ≤ length old.cache.locked + blocks_of_put start count)
-    ⊎ ((6144 < start + count) × (length new.cache.locked ≤ length old.cache.locked + blocks_of_put start count + 1))
-    → length new.cache.locked ≤ length old.cache.locked + frames_of_put start count
-put_frames old new start count cases = elim cases [
-  | inl few ↦ omega arith
-  | inr single ↦
-      let one : frames_of_single (start + count) ≡ 1 = cond-true _ _ _ (lt-ltb 6144 (start + count) single.0) in
-      let few = single.1 in
-      omega (arith, one, few)
-]
 
 pub put_shown : (old between new : Parts) (v w : Inode) (number start : ℕ) (bytes : List ℕ) → MayChange old number → 0 < length bytes → record_of old number ≡ Some (fields_of v)
     → GrowsTo v w (start + length bytes) old between → PutsBytes w start bytes between new → content_of new ≡ with_put number start bytes (content_of old)

@@ -1,14 +1,20 @@
 -- What holds the address of a block that waits.
-use Rattle.std.proofs.Common.{◌≡◌, ◌⊎◌, ℕ, ◌+◌, ◌-◌, ◌<◌, ◌≤◌, List, [], ◌∷◌, refl, sym, ap, ◌∙◌, subst, inl, inr, arith}
+use Rattle.std.proofs.Common.{List, [], ap, inl, inr, refl, subst, sym, ℕ, ◌+◌, ◌-◌, ◌<◌, ◌∙◌, ◌∷◌, ◌≡◌, ◌≢◌, ◌≤◌}
 use Rattle.std.proofs.lemmas.Bool.{cases_lt}
 use Rattle.lfs_cache.specs.Contents.{Contents, IsLocked}
 use Rattle.lfs_bmap.specs.declared.blocks.FileBlock.TheVariants.{Single}
 use Rattle.lfs_bmap.specs.Ways.{code_at, data_way, way_of}
-use Rattle.lfs_bmap.proofs.WayLemmas.{data_way-direct, data_way-single, way_of-code_of, way_of-data}
-use Rattle.lfs_staging.specs.Store.{HolderWaits}
-use Rattle.lfs_staging.specs.View.{key_of}
-use Rattle.lfs_staging.proofs.SettingLemmas.{at_way}
-use Rattle.lfs_staging.proofs.ViewLemmas.{code_at-way_to}
+use Rattle.lfs_bmap.proofs.WayLemmas.{data_way-direct, data_way-single, way_of-code_of, way_of-data, way_of-zero}
+use Rattle.lfs_staging.specs.Store.{HolderWaits, IsBlockCode}
+use Rattle.lfs_staging.specs.View.{key_of, tree_of, version_of}
+use Rattle.lfs_staging.proofs.SettingLemmas.{at_way, holder_locked, holder_waits}
+use Rattle.lfs_staging.proofs.ViewLemmas.{code_at-way_to, way_to-some}
+use Rattle.lfs_bmap.specs.declared.blocks.FileBlock.{FileBlock}
+use Rattle.lfs_bmap.specs.Blocks.{IsFileBlock, code_of, table_of, way_to}
+use Rattle.lfs_bmap.proofs.HolderLemmas.{table_of-is, table_of-way}
+use Rattle.lfs_staging.specs.declared.parts.Parts.{Parts}
+use Rattle.lfs_staging.specs.Cutting.{IsGone}
+use Rattle.lfs_bmap.specs.Reading.{address}
 
 -- where more waits, it does
 pub holder_kept : (c d : Contents) (number version : ℕ) (up : List ℕ) → ((code : ℕ) → IsLocked (key_of number version code) c → IsLocked (key_of number version code) d)
@@ -30,21 +36,35 @@ holder_data c number version index low single i up e =
           (subst (λ code. IsLocked (key_of number version code) c) (sym (code_at-way_to Single)) (single past)) i up (sym (way_of-data index) ∙ e)
     ]
 
--- a block that waits and whose address another one holds is a data block under the single indirect block
-pub held_code : (lbn : ℕ) → (lbn ≡ 1) ⊎ ((131 ≤ lbn) × (lbn < 271)) → (i j : ℕ) (above : List ℕ) → way_of lbn ≡ i ∷ j ∷ above
-    → (143 ≤ lbn) × (code_at (j ∷ above) ≡ 1)
-held_code lbn coded i j above e = elim coded [
-  | inl one ↦ absurd (let bad : 12 ∷ [] ≡ i ∷ j ∷ above = sym (way_of-code_of Single) ∙ ap way_of (sym one) ∙ e in cc)
-  | inr data_ ↦
-      let index = lbn - 131 in
-      let low = data_.1 in
-      let is : lbn ≡ 131 + index = omega (arith, data_.0) in
-      let way : data_way index ≡ i ∷ j ∷ above = sym (way_of-data index) ∙ ap way_of (sym is) ∙ e in
-      elim (cases_lt index 12) [
-        | inl direct ↦ absurd (let bad : index ∷ [] ≡ i ∷ j ∷ above = sym (data_way-direct index direct) ∙ way in cc)
-        | inr past ↦
-            let at : (index - 12) ∷ 12 ∷ [] ≡ i ∷ j ∷ above = sym (data_way-single index past (omega arith)) ∙ way in
-            let tail : 12 ∷ [] ≡ j ∷ above = cc in
-            (omega arith, ap code_at (sym tail) ∙ code_at-way_to Single)
-      ]
-]
+-- what holds the address of a block, where it isn't the record, has a code of its own
+pub holder_coded : (block : FileBlock) → IsFileBlock block → (i : ℕ) (up : List ℕ) → way_to block ≡ i ∷ up → up ≢ [] → IsBlockCode (code_at up)
+holder_coded block can i up way some =
+    let t = table_of block in
+    let to : way_to t ≡ up = table_of-way block can i up way in
+    record {
+      block = t;
+      is = table_of-is block;
+      coded = sym (code_at-way_to t) ∙ ap code_at to;
+      other = λ e. some (sym to ∙ sym (way_of-code_of t) ∙ ap way_of (sym (code_at-way_to t) ∙ ap code_at to ∙ e) ∙ way_of-zero);
+    }
+
+-- what holds the address of a block, by its code
+pub holder_at : (c : Contents) (number version : ℕ) (t : FileBlock) → (code_of t ≢ 0 → IsLocked (key_of number version (code_of t)) c) → HolderWaits c number version (way_to t)
+holder_at c number version t locked =
+    holder_waits c number version (way_to t) (λ some. subst (λ code. IsLocked (key_of number version code) c) (sym (code_at-way_to t))
+    (locked (λ e. some (sym (way_of-code_of t) ∙ ap way_of e ∙ way_of-zero))))
+
+pub holder_code : (c : Contents) (number version : ℕ) (t : FileBlock) → code_of t ≢ 0 → HolderWaits c number version (way_to t) → IsLocked (key_of number version (code_of t)) c
+holder_code c number version t other waits =
+    subst (λ code. IsLocked (key_of number version code) c) (code_at-way_to t) (holder_locked c number version (way_to t) (way_to-some t other) waits)
+
+-- ---- what is gone
+pub block_gone : (p : Parts) (number : ℕ) (b : FileBlock) → address (tree_of p number) (way_to b) ≡ 0 → (IsLocked (key_of number (version_of p number) (code_of b)) p.cache → ⊥)
+    → IsGone p number (way_to b)
+block_gone p number b nowhere free = record {
+  nowhere = nowhere;
+  free = λ locked. free (subst (λ code. IsLocked (key_of number (version_of p number) code) p.cache) (code_at-way_to b) locked);
+}
+
+pub gone_free : (p : Parts) (number : ℕ) (b : FileBlock) → IsGone p number (way_to b) → IsLocked (key_of number (version_of p number) (code_of b)) p.cache → ⊥
+gone_free p number b gone locked = gone.free (subst (λ code. IsLocked (key_of number (version_of p number) code) p.cache) (sym (code_at-way_to b)) locked)

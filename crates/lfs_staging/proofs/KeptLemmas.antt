@@ -15,14 +15,13 @@ use Rattle.lfs_segments.specs.Log.{Expects}
 use Rattle.lfs_segments.specs.Memory.{block_at, next_address}
 use Rattle.lfs_log.specs.Names.{named_at}
 use Rattle.lfs_log.specs.Parts.{IsParts, LogParts, live_of, record_place, state_of}
-use Rattle.lfs_bmap.specs.declared.blocks.TheConstants.{BLOCK_CODES, FIRST_DATA_CODE}
 use Rattle.lfs_bmap.specs.declared.blocks.FileBlock.{FileBlock}
-use Rattle.lfs_bmap.specs.declared.blocks.FileBlock.TheVariants.{Record, Single, Data}
-use Rattle.lfs_bmap.specs.Blocks.{code_of, way_to}
+use Rattle.lfs_bmap.specs.declared.blocks.FileBlock.TheVariants.{Record, Data}
+use Rattle.lfs_bmap.specs.Blocks.{code_of, table_of, way_to}
 use Rattle.lfs_bmap.specs.Log.{IsLog, SameKeys}
 use Rattle.lfs_bmap.specs.Pieces.{IsPadded}
 use Rattle.lfs_bmap.specs.Reading.{SameReadings, Stages, address, data_block, read}
-use Rattle.lfs_bmap.specs.Ways.{IsKnown, code_at, data_way, way_of}
+use Rattle.lfs_bmap.specs.Ways.{IsKnown, code_at, codes_on, way_of}
 use Rattle.lfs_bmap.specs.Blocks.{IsFileBlock}
 use Rattle.lfs_bmap.proofs.BlockLemmas.{code_of-below}
 use Rattle.lfs_bmap.proofs.LogLemmas.{written_log}
@@ -31,31 +30,27 @@ use Rattle.lfs_bmap.proofs.ReadingLemmas.{SameReadings-refl, SameReadings-trans,
 use Rattle.lfs_bmap.proofs.WayLemmas.{same_code, way_of-code_of, way_of-data, way_of-known}
 use Rattle.lfs_staging.specs.declared.parts.Parts.{Parts}
 use Rattle.lfs_staging.specs.Keys.{log_state}
-use Rattle.lfs_staging.specs.Staging.{IsStaged, IsZeroPast, MayStage, SameFiles, StagesBlock, StagesData, StagesOwnRecord, StagesParents, StagesRecord}
-use Rattle.lfs_staging.specs.Store.{AreFiles, HolderWaits, IsPresent, IsStore, IsWithin, Mirrors, ParentsWait}
+use Rattle.lfs_staging.specs.Staging.{HasFrames, HasParents, IsStaged, IsZeroPast, MayStage, SameFiles, StagesBlock, StagesData, StagesOwnRecord, StagesParents, StagesRecord, TakesFrames, TakesOnly}
+use Rattle.lfs_staging.specs.Store.{AreFiles, HolderWaits, IsBlockCode, IsPresent, IsStore, IsWithin, Mirrors, ParentsWait}
 use Rattle.lfs_staging.specs.View.{key_of, record_of, root_in, tree_of, version_of, waiting_in}
 use Rattle.lfs_staging.specs.Waiting.{AreOnce, without}
 use Rattle.lfs_staging.proofs.KeyLemmas.{place-block, place-record}
-use Rattle.lfs_staging.proofs.HolderLemmas.{holder_data, holder_kept, holder_single}
-use Rattle.lfs_staging.proofs.SettingLemmas.{some_there}
+use Rattle.lfs_staging.proofs.HolderLemmas.{holder_kept}
+use Rattle.lfs_staging.proofs.SettingLemmas.{holder_waits, some_there}
 use Rattle.lfs_staging.proofs.StagingLemmas.{record_of-same, version-same}
-use Rattle.lfs_staging.proofs.CleanLemmas.{mirrors_log}
+use Rattle.lfs_staging.proofs.CleanLemmas.{coded_block, mirrors_log}
 use Rattle.lfs_staging.proofs.HeldLemmas.{GainsNoClean-refl, GainsNoClean-same}
 use Rattle.lfs_staging.proofs.ViewLemmas.{code_at-way_to}
 use Rattle.lfs_staging.proofs.WaitingLemmas.{all_without, length-rest, once_staged, without-staged, waiting-head, waiting-staged}
-
--- the code of a block that may wait
-abbrev pub IsWaitingCode : ℕ → Type 0
-IsWaitingCode code = (code ≡ 1) ⊎ ((FIRST_DATA_CODE ≤ code) × (code < BLOCK_CODES))
+use Rattle.lfs_staging.proofs.TakenLemmas.{block_room, block_takes, takes_none}
+use Rattle.lfs_bmap.proofs.HolderLemmas.{codes_on-below, table_of-under, table_of-way}
+use Rattle.std.specs.List.{Contains}
+use Rattle.lfs_cache.specs.declared.cache.TheConstants.{LOCKED_LIMIT}
 
 -- each block that waits lies within the size of its file
 abbrev pub AllWithin : Parts → Type 0
 AllWithin p = (number : ℕ) (block : FileBlock) (f : Fields) → record_of p number ≡ Some f → IsFileBlock block
     → IsLocked (key_of number (version_of p number) (code_of block)) p.cache → IsWithin block f.attributes.size
-
--- the way of a data block
-data_known : (n : ℕ) → n < 140 → IsKnown (data_way n)
-data_known n low = subst IsKnown (way_of-data n) (way_of-known (131 + n) (omega arith))
 
 -- the way of a block
 pub block_known : (block : FileBlock) → IsFileBlock block → IsKnown (way_to block)
@@ -128,7 +123,7 @@ pub files_kept : (old new : Parts) → AreFiles old → new.log ≡ old.log → 
     → IsContents new.cache → Mirrors new
     → All (λ (v : Inode). IsPresent old v.number v.version) new.waiting
     → ((key : Key) → IsLocked key new.cache → IsPresent old key.ino key.version)
-    → ((key : Key) → IsLocked key new.cache → IsWaitingCode key.lbn) → AreFiles new
+    → ((key : Key) → IsLocked key new.cache → IsBlockCode key.lbn) → AreFiles new
 files_kept old new h log records addresses padded formed mirrors waiting frames coded = record {
   parts = subst IsParts (sym log) h.parts;
   cache = formed;
@@ -141,7 +136,7 @@ files_kept old new h log records addresses padded formed mirrors waiting frames 
         formed = was.formed;
         own_number = was.own_number;
         own_version = was.own_version ∙ sym (version-same old new n log);
-        none_past = λ m past low. addresses n (data_way m) (data_known m low) ∙ was.none_past m past low;
+        none_past = λ block is past. addresses n (way_to block) (block_known block is) ∙ was.none_past block is past;
         padded = padded n f is_old was.padded;
       };
   records = All-weaker (λ (v : Inode). IsPresent old v.number v.version) (λ (v : Inode). IsPresent new v.number v.version)
@@ -237,7 +232,7 @@ module _ (old new : Parts) (number : ℕ) (block : FileBlock) (bytes : List ℕ)
   block_records n = record_of-same old new n h.log (ap (λ vs. waiting_in vs n) h.waiting)
 
   -- where the files are well formed still, so is the rest
-  pub block_files : AreFiles old → IsPresent old number (version_of old number) → IsWaitingCode (code_of block)
+  pub block_files : AreFiles old → IsPresent old number (version_of old number) → IsBlockCode (code_of block)
       → ((n : ℕ) (way : List ℕ) → IsKnown way → address (tree_of new n) way ≡ address (tree_of old n) way)
       → ((n : ℕ) (f : Fields) → record_of old n ≡ Some f → IsPadded (data_block (tree_of old n)) f.attributes.size → IsPadded (data_block (tree_of new n)) f.attributes.size)
       → AreFiles new
@@ -250,7 +245,7 @@ module _ (old new : Parts) (number : ℕ) (block : FileBlock) (bytes : List ℕ)
         | inr was ↦ files.frames key was
       ])
       (λ key locked. elim (h.frames.only key locked) [
-        | inl is ↦ subst (λ (k : Key). IsWaitingCode k.lbn) (sym is) coded
+        | inl is ↦ subst (λ (k : Key). IsBlockCode k.lbn) (sym is) coded
         | inr was ↦ files.coded key was
       ])
 
@@ -388,58 +383,101 @@ own_waits p v may waits = record {
   once = λ once. once;
 }
 
-pub parents_direct : (old new : Parts) (number index : ℕ) → StagesOwnRecord number old new → index < 12 → StagesParents number index old new
-parents_direct old new number index h low = record {
+-- a block whose address stands in the record has no other parent
+pub parents_own : (old new : Parts) (number : ℕ) (block : FileBlock) → StagesOwnRecord number old new → table_of block ≡ Record → StagesParents number block old new
+parents_own old new number block h top = record {
   same = h.same;
   files = h.files;
   parents = h.parents;
-  waits = record { record_waits = h.waits; single_waits = λ high. absurd (omega arith) };
+  waits = record { record_waits = h.waits; holder_waits = subst (λ t. HolderWaits new.cache number (version_of new number) (way_to t)) (sym top) tt };
   room = h.room;
   once = h.once;
-  frames = let same : length new.cache.locked ≡ length old.cache.locked = ap (λ (s : Contents). length s.locked) h.cache in omega arith;
-  direct = λ _. h.cache;
-  again = λ _. ap (λ (s : Contents). length s.locked) h.cache;
   stays = λ key locked. subst (IsLocked key) (sym h.cache) locked;
-  only = λ key locked. inr (subst (IsLocked key) h.cache locked);
+  takes = takes_none number (version_of old number) (codes_on (way_to (table_of block))) old.cache new.cache h.cache;
 }
 
-pub parents_single : (old between new : Parts) (v : Inode) (index : ℕ) → MayStage old v → StagesOwnRecord v.number old between
-    → StagesBlock v.number Single (read (tree_of between v.number) (12 ∷ [])) between new → 12 ≤ index → StagesParents v.number index old new
-parents_single old between new v index may h b high =
-    let bytes = read (tree_of between v.number) (12 ∷ []) in
-    let second = table_same between new v.number Single tt b in
-    let present = present_kept old between v.number v.version h.same.log (may_present old v may) in
-    let at : IsPresent between v.number (version_of between v.number) = record { in_use = present.in_use; at_version = refl } in
-    let version = version-same old between v.number h.same.log in
-    record {
-      same = SameFiles-trans old between new h.same second;
-      files = block_files between new v.number Single bytes b h.files at (inl refl)
-          (λ n way known. (second.readings n).addresses way known) (same_padded between new second);
-      parents = block_parents between new v.number Single bytes b h.parents h.waits (holder_single between.cache v.number (version_of between v.number));
-      waits = record {
-        record_waits = ap (λ vs. is_some (waiting_in vs v.number)) b.waiting ∙ h.waits;
-        single_waits = λ high. subst (λ n. IsLocked (key_of v.number n 1) new.cache) (sym (version-same between new v.number b.log)) b.frames.here;
-      };
-      room = ap (without v.number) b.waiting ∙ h.room;
-      once = λ once. subst AreOnce (sym b.waiting) (h.once once);
-      frames =
-          let same : length between.cache.locked ≡ length old.cache.locked = ap (λ (s : Contents). length s.locked) h.cache in
-          let more = b.frames.one_more in
-          omega arith;
-      direct = λ low. absurd (omega arith);
-      again = λ locked.
-          b.frames.none_more (subst (λ version. IsLocked (key_of v.number version 1) between.cache) (sym version)
-          (subst (IsLocked (key_of v.number (version_of old v.number) 1)) (sym h.cache) locked))
-          ∙ ap (λ (s : Contents). length s.locked) h.cache;
-      stays = λ key locked. b.frames.kept key (subst (IsLocked key) (sym h.cache) locked);
-      only = λ key locked. elim (b.frames.only key locked) [
-        | inl is ↦ inl (is ∙ ap (λ version. key_of v.number version 1) version, high)
-        | inr was ↦ inr (subst (IsLocked key) h.cache was)
-      ];
-    }
+-- where a block waits, so does what a way that goes on from it asks for
+holder_of : (c : Contents) (number version : ℕ) (t : FileBlock) → IsLocked (key_of number version (code_of t)) c → HolderWaits c number version (way_to t)
+holder_of c number version t locked =
+    holder_waits c number version (way_to t) (λ _. subst (λ code. IsLocked (key_of number version code) c) (sym (code_at-way_to t)) locked)
+
+-- a block and its parents wait
+taken_block : (old between new : Parts) (number : ℕ) (block : FileBlock) (bytes : List ℕ) → IsFileBlock block → code_of block ≢ 0 → StagesParents number block old between
+    → StagesBlock number block bytes between new → TakesFrames number block old new
+taken_block old between new number block bytes can other h b = record {
+  waits = record {
+    record_waits = ap (λ vs. is_some (waiting_in vs number)) b.waiting ∙ h.waits.record_waits;
+    holder_waits =
+        let up = way_to (table_of block) in
+        subst (λ n. HolderWaits new.cache number n up) (sym (version-same between new number b.log))
+        (holder_kept between.cache new.cache number (version_of between number) up (λ code. b.frames.kept (key_of number (version_of between number) code)) h.waits.holder_waits);
+  };
+  stays = λ key locked. b.frames.kept key (h.stays key locked);
+  takes = block_takes old between number block can other (version-same old between number h.same.log) h.takes new b.frames;
+  records = ap (without number) b.waiting ∙ h.room;
+  block_waits = subst (λ version. IsLocked (key_of number version (code_of block)) new.cache) (sym (version-same between new number b.log)) b.frames.here;
+}
+
+-- what a way to a block asks for, where its parents wait
+pub parents_hold : (p : Parts) (number : ℕ) (block : FileBlock) → IsFileBlock block → HasParents p number block → (i : ℕ) (up : List ℕ) → way_of (code_of block) ≡ i ∷ up
+    → HolderWaits p.cache number (version_of p number) up
+parents_hold p number block can h i up way =
+    subst (HolderWaits p.cache number (version_of p number)) (table_of-way block can i up (sym (way_of-code_of block) ∙ way)) h.holder_waits
+
+-- A block of a number waits with what it has, and so do its parents; each file is what it was.
+pub record StagesTable (number : ℕ) (block : FileBlock) (old new : Parts) : Type 0 where
+  pub same : SameFiles old new
+  pub files : AreFiles new
+  pub parents : ParentsWait new
+  pub once : AreOnce old.waiting → AreOnce new.waiting
+  pub takes : TakesFrames number block old new
+
+-- so it is where it waits after its parents
+module _ (old between new : Parts) (v : Inode) (t : FileBlock) (may : MayStage old v) (can : IsFileBlock t) (other : code_of t ≢ 0) (h : StagesParents v.number t old between)
+    (b : StagesBlock v.number t (read (tree_of between v.number) (way_to t)) between new) where
+  second : SameFiles between new
+  second = table_same between new v.number t can b
+
+  again_present : IsPresent between v.number (version_of between v.number)
+  again_present =
+      let present = present_kept old between v.number v.version h.same.log (may_present old v may) in
+      record { in_use = present.in_use; at_version = refl }
+
+  pub table_again : StagesTable v.number t old new
+  table_again =
+      let bytes = read (tree_of between v.number) (way_to t) in
+      record {
+        same = SameFiles-trans old between new h.same second;
+        files = block_files between new v.number t bytes b h.files again_present (coded_block t can other)
+            (λ n way known. (second.readings n).addresses way known) (same_padded between new second);
+        parents = block_parents between new v.number t bytes b h.parents h.waits.record_waits (parents_hold between v.number t can h.waits);
+        once = λ once. subst AreOnce (sym b.waiting) (h.once once);
+        takes = taken_block old between new v.number t bytes can other h b;
+      }
+
+-- there is a frame for it where its record waits, and the record holds its address
+pub table_room : (old between : Parts) (number : ℕ) (t table : FileBlock) → t ≡ table → IsFileBlock t → code_of t ≢ 0 → StagesOwnRecord number old between
+    → HasFrames old number (codes_on (way_to t)) → IsLocked (key_of number (version_of between number) (code_of table)) between.cache ⊎ (length between.cache.locked < LOCKED_LIMIT)
+table_room old between number t table same can other h frames =
+    subst (λ x. IsLocked (key_of number (version_of between number) (code_of x)) between.cache ⊎ (length between.cache.locked < LOCKED_LIMIT)) same
+    (block_room old between number t can other (version-same old between number h.same.log)
+    (takes_none number (version_of old number) (codes_on (way_to (table_of t))) old.cache between.cache h.cache) h.files.cache frames)
+
+-- then the parents wait of each block whose address it holds
+pub table_parents : (old new : Parts) (number : ℕ) (block : FileBlock) → StagesTable number (table_of block) old new → StagesParents number block old new
+table_parents old new number block h = record {
+  same = h.same;
+  files = h.files;
+  parents = h.parents;
+  waits = record { record_waits = h.takes.waits.record_waits; holder_waits = holder_of new.cache number (version_of new number) (table_of block) h.takes.block_waits };
+  room = h.takes.records;
+  once = h.once;
+  stays = h.takes.stays;
+  takes = h.takes.takes;
+}
 
 -- ---- and the data block
-pub staged_data : (old between new : Parts) (number index : ℕ) (bytes : List ℕ) → index < 140 → StagesParents number index old between
+pub staged_data : (old between new : Parts) (number index : ℕ) (bytes : List ℕ) → index < 140 → StagesParents number (Data index) old between
     → StagesBlock number (Data index) bytes between new → StagesData number index bytes old new
 staged_data old between new number index bytes low h b = record {
   log = b.log ∙ h.same.log;
@@ -449,27 +487,11 @@ staged_data old between new number index bytes low h b = record {
       data_others between new number index bytes low b n m apart ∙ data_block-same (tree_of old n) (tree_of between n) (h.same.readings n) m;
   addresses = λ n way known.
       data_addresses between new number index bytes low b n way known ∙ (h.same.readings n).addresses way known;
-  frames = let more = b.frames.one_more in let first = h.frames in omega arith;
-  takes = record {
-    waits = record {
-      record_waits = ap (λ vs. is_some (waiting_in vs number)) b.waiting ∙ h.waits.record_waits;
-      single_waits = λ high. b.frames.kept (key_of number (version_of new number) 1)
-          (subst (λ version. IsLocked (key_of number version 1) between.cache) (sym (version-same between new number b.log)) (h.waits.single_waits high));
-    };
-    stays = λ key locked. b.frames.kept key (h.stays key locked);
-    most = let more = b.frames.one_more in let first = h.frames in omega arith;
-    direct = λ direct.
-        let more = b.frames.one_more in
-        let same : length between.cache.locked ≡ length old.cache.locked = ap (λ (s : Contents). length s.locked) (h.direct direct) in
-        omega arith;
-    again = λ locked. let more = b.frames.one_more in let same = h.again locked in omega arith;
-    records = ap (without number) b.waiting ∙ h.room;
-    block_waits = subst (λ version. IsLocked (key_of number version (131 + index)) new.cache) (sym (version-same between new number b.log)) b.frames.here;
-  };
+  takes = taken_block old between new number (Data index) bytes low (λ e. omega arith) h b;
 }
 
 -- another block of the file may wait
-pub data_again : (old between new : Parts) (v : Inode) (index : ℕ) (bytes : List ℕ) → index < 140 → MayStage old v → StagesParents v.number index old between
+pub data_again : (old between new : Parts) (v : Inode) (index : ℕ) (bytes : List ℕ) → index < 140 → MayStage old v → StagesParents v.number (Data index) old between
     → StagesBlock v.number (Data index) bytes between new → length bytes ≡ 512 → IsZeroPast v.size index bytes → MayStage new v
 data_again old between new v index bytes low may h b whole zeros =
     let present = present_kept old between v.number v.version h.same.log (may_present old v may) in
@@ -477,10 +499,10 @@ data_again old between new v index bytes low may h b whole zeros =
     let log = b.log ∙ h.same.log in
     let moved = staged_data old between new v.number index bytes low h b in
     record {
-      files = block_files between new v.number (Data index) bytes b h.files at (inr (omega arith, omega arith))
+      files = block_files between new v.number (Data index) bytes b h.files at (coded_block (Data index) low (λ e. omega arith))
           (data_addresses between new v.number index bytes low b)
           (data_padded between new v.number index bytes low b whole (fields_of v) (h.same.records v.number ∙ may.here) zeros);
-      parents = block_parents between new v.number (Data index) bytes b h.parents h.waits.record_waits (holder_data between.cache v.number (version_of between v.number) index low h.waits.single_waits);
+      parents = block_parents between new v.number (Data index) bytes b h.parents h.waits.record_waits (parents_hold between v.number (Data index) low h.waits);
       inside = record {
         each = λ block is.
             subst (λ n. address (tree_of new v.number) (way_to block) < n) (sym (ap (λ (l : LogParts). l.memory.segments * 64) log))
@@ -492,30 +514,34 @@ data_again old between new v index bytes low may h b whole zeros =
       records = subst (λ (vs : List Inode). length vs < 64) (sym (ap (without v.number) b.waiting ∙ h.room)) may.records;
     }
 
--- the block that waits, or the indirect block that leads to it, lies within the size
-pub within_code : (block : FileBlock) (size index code : ℕ) → index < block_count size → code_of block ≡ code → (code ≡ 131 + index) ⊎ ((code ≡ 1) × (12 ≤ index)) → IsWithin block size
-within_code Record size index code within is cases = tt
-within_code Single size index code within is cases = elim cases [ inl data_ ↦ absurd (omega arith) | inr single ↦ let high = single.1 in omega arith ]
-within_code (Data m) size index code within is cases = elim cases [ inl data_ ↦ omega arith | inr single ↦ let one = single.0 in absurd (omega arith) ]
+-- a block on the way of one that lies within the size does so too
+pub table_within : (block : FileBlock) (size : ℕ) → IsWithin block size → IsWithin (table_of block) size
+table_within block size within = let least = table_of-under block in omega arith
 
-pub data_within : (old between new : Parts) (v : Inode) (index : ℕ) (bytes : List ℕ) → record_of old v.number ≡ Some (fields_of v) → index < block_count v.size
-    → StagesParents v.number index old between → StagesBlock v.number (Data index) bytes between new → AllWithin old → AllWithin new
-data_within old between new v index bytes has within h b was n block f is can locked =
-    let is_old : record_of old n ≡ Some f = sym (block_records between new v.number (Data index) bytes b n ∙ h.same.records n) ∙ is in
-    let version : version_of new n ≡ version_of old n = version-same between new n b.log ∙ version-same old between n h.same.log in
-    let key = key_of n (version_of new n) (code_of block) in
-    let here : (number code : ℕ) (version : ℕ) → key ≡ key_of number version code → number ≡ v.number → (code ≡ 131 + index) ⊎ ((code ≡ 1) × (12 ≤ index)) → IsWithin block f.attributes.size
-    = λ number code version e own cases.
-    let same : n ≡ v.number = ap (λ (k : Key). k.ino) e ∙ own in
-    let file : fields_of v ≡ f = same_Some (fields_of v) f (sym has ∙ ap (record_of old) (sym same) ∙ is_old) in
-    subst (λ (x : Fields). IsWithin block x.attributes.size) file (within_code block v.size index code within (ap (λ (k : Key). k.lbn) e) cases) in
-    elim (b.frames.only key locked) [
-      | inl data_ ↦ here v.number (131 + index) (version_of between v.number) data_ refl (inl refl)
-      | inr before ↦ elim (h.only key before) [
-        | inl single ↦ here v.number 1 (version_of old v.number) single.0 refl (inr (refl, single.1))
-        | inr earlier ↦ was n block f is_old can (subst (λ version. IsLocked (key_of n version (code_of block)) old.cache) version earlier)
-      ]
+pub way_within : (block : FileBlock) (size : ℕ) → IsFileBlock block → IsWithin block size → (b : FileBlock) → IsFileBlock b → Contains (codes_on (way_to block)) (code_of b) → IsWithin b size
+way_within block size can within b is has = let least = codes_on-below block can b has in omega arith
+
+-- what a change of one number takes on the way of a block lies within its size
+pub taken_within : (old new : Parts) (v : Inode) (codes : List ℕ) → ((n : ℕ) → record_of new n ≡ record_of old n) → ((n : ℕ) → version_of new n ≡ version_of old n)
+    → record_of old v.number ≡ Some (fields_of v) → ((b : FileBlock) → IsFileBlock b → Contains codes (code_of b) → IsWithin b v.size)
+    → TakesOnly v.number (version_of old v.number) codes old.cache new.cache → AllWithin old → AllWithin new
+taken_within old new v codes records version has inside takes was n block f is can locked =
+    let is_old : record_of old n ≡ Some f = sym (records n) ∙ is in
+    elim (takes (key_of n (version_of new n) (code_of block)) locked) [
+      | inl one ↦
+          let same : n ≡ v.number = ap (λ (k : Key). k.ino) one.2 in
+          let code : code_of block ≡ one.0 = ap (λ (k : Key). k.lbn) one.2 in
+          let file : fields_of v ≡ f = same_Some (fields_of v) f (sym has ∙ ap (record_of old) (sym same) ∙ is_old) in
+          subst (λ (x : Fields). IsWithin block x.attributes.size) file (inside block can (subst (Contains codes) (sym code) one.1))
+      | inr before ↦ was n block f is_old can (subst (λ m. IsLocked (key_of n m (code_of block)) old.cache) (version n) before)
     ]
+
+pub data_within : (old between new : Parts) (v : Inode) (index : ℕ) (bytes : List ℕ) → index < 140 → record_of old v.number ≡ Some (fields_of v) → index < block_count v.size
+    → StagesParents v.number (Data index) old between → StagesBlock v.number (Data index) bytes between new → AllWithin old → AllWithin new
+data_within old between new v index bytes low has within h b =
+    let moved = staged_data old between new v.number index bytes low h b in
+    taken_within old new v (codes_on (way_to (Data index))) moved.records (λ n. version-same old new n moved.log) has
+    (way_within (Data index) v.size low within) moved.takes.takes
 
 -- at most one record more waits than those of other numbers
 pub few_records : (new : Parts) (number : ℕ) (others : List Inode) → without number new.waiting ≡ others → length others < 64 → length new.waiting ≤ 64
@@ -525,7 +551,7 @@ few_records new number others is few =
     omega arith
 
 pub data_kept : (old between new : Parts) (v : Inode) (index : ℕ) (bytes : List ℕ) → index < 140 → index < block_count v.size → MayStage old v
-    → StagesParents v.number index old between → StagesBlock v.number (Data index) bytes between new → MayStage new v
+    → StagesParents v.number (Data index) old between → StagesBlock v.number (Data index) bytes between new → MayStage new v
     → (spare : ℕ) → IsStaged old spare → IsStaged new spare
 data_kept old between new v index bytes low within may h b again spare staged =
     let moved = staged_data old between new v.number index bytes low h b in
@@ -535,7 +561,7 @@ data_kept old between new v index bytes low within may h b again spare staged =
       parents = again.parents;
       once = subst AreOnce (sym b.waiting) (h.once staged.once);
       few = few_records new v.number (without v.number old.waiting) moved.takes.records may.records;
-      within = data_within old between new v index bytes may.here within h b staged.within;
+      within = data_within old between new v index bytes low may.here within h b staged.within;
     }
 
 -- ---- between calls

@@ -11,6 +11,7 @@ pub mod ViewLemmas
 pub mod StagedLemmas
 pub mod StagingLemmas
 pub mod HolderLemmas
+pub mod TakenLemmas
 pub mod WaitingLemmas
 pub mod KeptLemmas
 pub mod PuttingLemmas

@@ -16,11 +16,11 @@ use Rattle.lfs_log.specs.Parts as log
 use Rattle.lfs_log.specs.Parts.{IsParts, LogParts, record_place}
 use Rattle.lfs_types.specs.declared.limits.TheConstants.{FIRST_INODE, ROOT_INODE}
 use Rattle.lfs_bmap.specs.declared.blocks.TheConstants.{BLOCK_CODES}
-use Rattle.lfs_bmap.specs.Blocks.{code_of}
+use Rattle.lfs_bmap.specs.Blocks.{code_of, way_to}
 use Rattle.lfs_bmap.specs.Log.{IsLog}
 use Rattle.lfs_bmap.specs.Pieces.{IsPadded}
 use Rattle.lfs_bmap.specs.Reading.{address, data_block}
-use Rattle.lfs_bmap.specs.Ways.{code_at, data_way, way_of}
+use Rattle.lfs_bmap.specs.Ways.{code_at, way_of}
 use Rattle.lfs_bmap.proofs.LogLemmas.{written_log}
 use Rattle.lfs_staging.specs.declared.records.TheConstants.{WAITING_LIMIT}
 use Rattle.lfs_staging.specs.declared.parts.Parts.{Parts}
@@ -116,7 +116,7 @@ module _ (number : ℕ) (old new : Parts) (h : KeepsOthers number old new) where
     formed = was.formed;
     own_number = was.own_number;
     own_version = was.own_version ∙ sym (other_version n other);
-    none_past = λ m past low. ap (λ t. address t (data_way m)) (other_tree n other) ∙ was.none_past m past low;
+    none_past = λ block is past. ap (λ t. address t (way_to block)) (other_tree n other) ∙ was.none_past block is past;
     padded = subst (λ t. IsPadded (data_block t) f.attributes.size) (sym (other_tree n other)) was.padded;
   }
 

@@ -47,6 +47,7 @@ use Rattle.lfs_staging.proofs.MakingLemmas.{all_nowhere, files_still, log_still,
 use Rattle.lfs_staging.proofs.ReadLemmas.{data_block-read, no_bytes}
 use Rattle.lfs_staging.proofs.ViewLemmas.{all_zeros}
 use Rattle.lfs_staging.proofs.WaitingLemmas.{all_without, length-without, once_staged, waiting-staged}
+use Rattle.lfs_bmap.specs.Blocks.{way_to}
 
 module _ (number version : ℕ) (attrs : Attrs) (v : Inode) (old new : Parts) (h : Makes number version attrs v old new)
     (least : FIRST_INODE ≤ number) (low : number < length old.log.tables.rows) (free : (row_of old.log.tables number).used ≡ false) (files : AreFiles old) where
@@ -100,7 +101,7 @@ module _ (number version : ℕ) (attrs : Attrs) (v : Inode) (old new : Parts) (h
     formed = AreFields-fields_of v;
     own_number = own;
     own_version = ap (λ (a : Attributes). a.version) h.attributes ∙ sym new_version;
-    none_past = λ n past inside. none_addressed new number no_block (data_way n);
+    none_past = λ block is past. none_addressed new number no_block (way_to block);
     padded = padded v.size;
   }
 

@@ -50,6 +50,7 @@ use Rattle.lfs_staging.proofs.KeyLemmas.{place-block, place-record}
 use Rattle.lfs_staging.proofs.ReadLemmas.{data_block-read, no_bytes}
 use Rattle.lfs_staging.proofs.ViewLemmas.{all_zeros, nowhere, record_of-logged, record_of-unused}
 use Rattle.lfs_staging.proofs.WaitingLemmas.{none_once}
+use Rattle.lfs_bmap.specs.Blocks.{way_to}
 
 -- one of a list of the same ones, or past it
 all_clean : (n k : ℕ) → slice_index_or (replicate n Clean) k Clean ≡ Clean
@@ -238,7 +239,7 @@ module _ (segments inodes frames : ℕ) (p : Parts) (h : IsOpening segments inod
     formed = root_formed;
     own_number = refl;
     own_version = sym root_version;
-    none_past = λ n past low. no_address 2 (data_way n);
+    none_past = λ block is past. no_address 2 (way_to block);
     padded = all_padded 2;
   }
 

@@ -1,18 +1,23 @@
 -- Bytes put into a file, block by block.
-use Rattle.std.proofs.Common.{◌≡◌, ℕ, ◌+◌, ◌*◌, ◌/◌, ◌%◌, ◌-◌, ◌<◌, ◌≤◌, List, length, refl, sym, ap, ◌∙◌, subst, inl, inr, arith}
-use Rattle.std.specs.Prelude.{slice_index}
-use Rattle.std.proofs.lemmas.Bool.{cases_eq, cases_lt, cond-true, lt-ltb}
+use Rattle.std.proofs.Common.{◌≡◌, ℕ, zero, suc, ◌+◌, ◌*◌, ◌/◌, ◌%◌, ◌-◌, ◌<◌, ◌≤◌, List, [], ◌∷◌, ◌++◌, length, length-append, refl, sym, ap, ◌∙◌, subst, inl, inr, arith}
+use Rattle.std.specs.Prelude.{if◌then◌else◌, nat_lt, slice_index}
+use Rattle.std.specs.List.{Contains}
+use Rattle.std.proofs.lemmas.List.Elements.{Contains-append_left, Contains-append_right}
+use Rattle.std.proofs.lemmas.Bool.{cases_eq, cases_lt, cond-false, cond-true, le-ltb, lt-ltb}
 use Rattle.lfs_inodes.specs.declared.inode.Inode.{Inode}
 use Rattle.lfs_inodes.specs.Reading.{fields_of}
-use Rattle.lfs_cache.specs.Contents.{IsLocked}
 use Rattle.lfs_bmap.specs.Pieces.{IsPadded, IsPut, Touches}
 use Rattle.lfs_bmap.specs.Reading.{data_block}
+use Rattle.lfs_bmap.specs.declared.blocks.FileBlock.TheVariants.{Data}
+use Rattle.lfs_bmap.specs.Blocks.{table_of, way_to}
+use Rattle.lfs_bmap.specs.Ways.{codes_on, tables_below}
+use Rattle.lfs_bmap.proofs.HolderLemmas.{code_cases, codes_on-block, codes_on-table}
+use Rattle.lfs_staging.proofs.TakenLemmas.{first_code, frames_after, frames_enough, frames_part, more_codes, taken_most, takes_both, takes_none, takes_part, takes_version}
 use Rattle.lfs_bmap.proofs.PieceLemmas.{byte_put-after, untouched_put}
 use Rattle.lfs_staging.specs.declared.parts.Parts.{Parts}
-use Rattle.lfs_staging.specs.Changing.{frames_of_put, frames_of_single}
-use Rattle.lfs_staging.specs.Putting.{PutsBelow, PutsBlock, PutsBytes, TakesBelow}
+use Rattle.lfs_staging.specs.Putting.{PutsBelow, PutsBlock, PutsBytes, TakesBelow, blocks_of_put, frames_of_put}
 use Rattle.lfs_staging.specs.Staging.{HasFrames, IsStaged, IsZeroPast, MayStage, StagesData, TakesFrames}
-use Rattle.lfs_staging.specs.View.{key_of, tree_of}
+use Rattle.lfs_staging.specs.View.{tree_of, version_of}
 use Rattle.lfs_staging.proofs.StagingLemmas.{version-same}
 
 -- a data block is zero past the size, and so it is with bytes put below it
@@ -76,56 +81,93 @@ put_more a b c v start bytes index p q = record {
   kept = λ spare staged. q.kept spare (p.kept spare staged);
 }
 
--- the frames that wait: none more yet
-pub takes_none : (p : Parts) (number first : ℕ) → TakesBelow number first first p p
-takes_none p number first = record { frames = inl (omega arith); records = refl }
+-- ---- the frames that wait
+-- the codes of the data blocks from one on, so many of them
+unfoldable data_codes : ℕ → ℕ → List ℕ
+data_codes first zero = []
+data_codes first (suc n) = (131 + (first + n)) ∷ data_codes first n
 
--- and for one more block
-pub takes_more : (a b c : Parts) (number first index : ℕ) → TakesBelow number first index a b → c.log ≡ b.log → TakesFrames number index b c
-    → TakesBelow number first (index + 1) a c
-takes_more a b c number first index p log q = record {
-  frames = elim p.frames [
-    | inl few ↦ elim (cases_lt index 12) [
-      | inl low ↦ let more = q.direct low in inl (omega arith)
-      | inr high ↦ let more = q.most in inr (omega arith, omega arith, q.waits.single_waits high)
+data_codes-length : (first n : ℕ) → length (data_codes first n) ≡ n
+unfolding data_codes
+data_codes-length first zero = refl
+data_codes-length first (suc n) = ap suc (data_codes-length first n)
+
+data_codes-has : (first n index : ℕ) → first ≤ index → index < first + n → Contains (data_codes first n) (131 + index)
+unfolding data_codes
+data_codes-has first zero index from low = absurd (omega arith)
+data_codes-has first (suc n) index from low = elim (cases_eq index (first + n)) [
+  | inl is ↦ subst (λ m. Contains ((131 + (first + n)) ∷ data_codes first n) (131 + m)) (sym is) (first_code (131 + (first + n)) (data_codes first n))
+  | inr other ↦ more_codes (131 + index) (131 + (first + n)) (data_codes first n) (data_codes-has first n index from (omega arith))
+]
+
+-- and those of the indirect blocks that lead to them, where their bytes end before this one
+table_codes : ℕ → List ℕ
+table_codes end = if nat_lt 6144 end then 1 ∷ [] else []
+
+table_codes-length : (end : ℕ) → length (table_codes end) ≡ tables_below end
+unfolding table_codes
+table_codes-length end = elim (cases_lt 6144 end) [
+  | inl past ↦ ap length (cond-true _ (1 ∷ []) [] (lt-ltb 6144 end past)) ∙ sym (cond-true {A = ℕ} _ 1 0 (lt-ltb 6144 end past))
+  | inr few ↦ ap length (cond-false _ (1 ∷ []) [] (le-ltb 6144 end few)) ∙ sym (cond-false {A = ℕ} _ 1 0 (le-ltb 6144 end few))
+]
+
+table_codes-has : (end : ℕ) → 6144 < end → Contains (table_codes end) 1
+unfolding table_codes
+table_codes-has end past = subst (λ cs. Contains cs 1) (sym (cond-true _ (1 ∷ []) [] (lt-ltb 6144 end past))) (first_code 1 [])
+
+-- the codes of the blocks that bytes put into a file take
+pub put_codes : ℕ → ℕ → List ℕ
+put_codes start count = data_codes (start / 512) (blocks_of_put start count) ++ table_codes (start + count)
+
+pub put_codes-length : (start count : ℕ) → length (put_codes start count) ≡ frames_of_put start count
+unfolding put_codes
+put_codes-length start count =
+    let long = length-append (data_codes (start / 512) (blocks_of_put start count)) (table_codes (start + count)) in
+    let first = data_codes-length (start / 512) (blocks_of_put start count) in
+    let second = table_codes-length (start + count) in
+    omega arith
+
+put_codes-has : (start count index c : ℕ) → index < 140 → start / 512 ≤ index → index < (start + count - 1) / 512 + 1 → 0 < count → Contains (codes_on (way_to (Data index))) c
+    → Contains (put_codes start count) c
+unfolding put_codes
+put_codes-has start count index c inside from to some has =
+    let xs = data_codes (start / 512) (blocks_of_put start count) in
+    let ys = table_codes (start + count) in
+    elim (code_cases c (131 + index) (codes_on (way_to (table_of (Data index)))) (subst (λ cs. Contains cs c) (codes_on-block (Data index) inside (λ e. omega arith)) has)) [
+      | inl own ↦ subst (Contains (xs ++ ys)) own (Contains-append_left xs ys (131 + index) (data_codes-has (start / 512) (blocks_of_put start count) index from (omega arith)))
+      | inr more ↦
+          let table = codes_on-table index inside c more in
+          let past = table.0 in
+          subst (Contains (xs ++ ys)) (sym table.1) (Contains-append_right xs ys 1 (table_codes-has (start + count) (omega arith)))
     ]
-    | inr single ↦
-        let more = q.again single.2 in
-        let past = single.0 in
-        let few = single.1 in
-        inr (omega arith, omega arith, subst (λ version. IsLocked (key_of number version 1) c.cache) (sym (version-same b c number log)) (q.stays _ single.2))
-  ];
+
+-- none wait more yet
+pub takes_first : (p : Parts) (number : ℕ) (codes : List ℕ) → TakesBelow number codes p p
+takes_first p number codes = record { takes = takes_none number (version_of p number) codes p.cache p.cache refl; records = refl }
+
+-- and one more block
+pub takes_more : (a b c : Parts) (number start count index : ℕ) → TakesBelow number (put_codes start count) a b → b.log ≡ a.log → TakesFrames number (Data index) b c
+    → index < 140 → start / 512 ≤ index → index < (start + count - 1) / 512 + 1 → 0 < count → TakesBelow number (put_codes start count) a c
+takes_more a b c number start count index p log q inside from to some = record {
+  takes = takes_both number (version_of a number) (put_codes start count) a.cache b.cache c.cache p.takes
+      (takes_version number (version_of b number) (version_of a number) (put_codes start count) b.cache c.cache (version-same a b number log)
+      (takes_part number (version_of b number) (codes_on (way_to (Data index))) (put_codes start count) b.cache c.cache (λ code has. put_codes-has start count index code inside from to some has) q.takes));
   records = q.records ∙ p.records;
 }
 
 -- there are frames for one more where there are for all
-single_past : (end : ℕ) → 6144 < end → frames_of_single end ≡ 1
-single_past end past = cond-true {A = ℕ} _ 1 0 (lt-ltb 6144 end past)
-
-pub takes_room : (old p : Parts) (number start count index : ℕ) → start / 512 ≤ index → index < (start + count - 1) / 512 + 1 → 0 < count
-    → length old.cache.locked + frames_of_put start count ≤ 24 → TakesBelow number (start / 512) index old p → HasFrames p number index
-takes_room old p number start count index from to some room takes = record {
-  one = elim takes.frames [
-    | inl few ↦ omega arith
-    | inr single ↦
-        let past = single.0 in
-        let few = single.1 in
-        let one = single_past (start + count) (omega arith) in
-        omega arith
-  ];
-  two = λ high.
-      let one = single_past (start + count) (omega arith) in
-      elim takes.frames [
-        | inl few ↦ inr (omega arith)
-        | inr single ↦ inl single.2
-      ];
-}
+pub takes_room : (old p : Parts) (number start count index : ℕ) → index < 140 → start / 512 ≤ index → index < (start + count - 1) / 512 + 1 → 0 < count
+    → length old.cache.locked + frames_of_put start count ≤ 24 → p.log ≡ old.log → TakesBelow number (put_codes start count) old p → HasFrames p number (codes_on (way_to (Data index)))
+takes_room old p number start count index inside from to some room log takes =
+    let many = put_codes-length start count in
+    frames_part p number (codes_on (way_to (Data index))) (put_codes start count) (λ code has. put_codes-has start count index code inside from to some has)
+    (frames_after old p number (put_codes start count) (version-same old p number log) takes.takes (frames_enough old number (put_codes start count) (omega arith)))
 
 -- all
 pub put_all : (old new : Parts) (v : Inode) (start : ℕ) (bytes : List ℕ) (end : ℕ) → MayStage old v → PutsBelow v start bytes end old new
-    → ((n : ℕ) → Touches start (start + length bytes) n → n < end) → 0 < length bytes → end ≡ (start + length bytes - 1) / 512 + 1 → TakesBelow v.number (start / 512) end old new
+    → ((n : ℕ) → Touches start (start + length bytes) n → n < end) → TakesBelow v.number (put_codes start (length bytes)) old new
     → PutsBytes v start bytes old new
-put_all old new v start bytes end may h last some is takes =
+put_all old new v start bytes end may h last takes =
     let padded = (may.files.files v.number (fields_of v) may.here).padded in
     record {
       log = h.log;
@@ -140,9 +182,9 @@ put_all old new v start bytes end may h last some is takes =
       addresses = h.addresses;
       again = h.again;
       kept = h.kept;
-      frames = elim takes.frames [
-        | inl few ↦ inl (omega arith)
-        | inr single ↦ let past = single.0 in let few = single.1 in inr (omega arith, omega arith)
-      ];
+      frames =
+          let many = put_codes-length start (length bytes) in
+          let most = taken_most v.number (version_of old v.number) (put_codes start (length bytes)) old.cache new.cache h.again.files.cache takes.takes in
+          omega arith;
       waiting = takes.records;
     }

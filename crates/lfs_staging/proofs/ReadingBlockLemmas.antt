@@ -1,5 +1,5 @@
 -- A data block of a file, read through the cache.
-use Rattle.std.proofs.Common.{◌≡◌, ◌≢◌, ℕ, ◌+◌, ◌<◌, List, None, Some, refl, sym, ap, ◌∙◌, subst, inr, arith}
+use Rattle.std.proofs.Common.{◌≡◌, ◌≢◌, ℕ, ◌+◌, ◌<◌, List, None, Some, refl, sym, ap, ◌∙◌, subst, arith}
 use Rattle.lfs_types.specs.declared.limits.TheConstants.{FILE_BLOCKS}
 use Rattle.lfs_inodes.specs.declared.inode.Inode.{Inode}
 use Rattle.lfs_inodes.specs.Reading.{fields_of}
@@ -18,6 +18,7 @@ use Rattle.lfs_staging.specs.View.{LiesIn, blocks_of, key_of, record_of, tree_fr
 use Rattle.lfs_staging.proofs.FileLemmas.{tree_from-of}
 use Rattle.lfs_staging.proofs.ReadLemmas.{data_block-read}
 use Rattle.lfs_staging.proofs.ViewLemmas.{tree_dirty}
+use Rattle.lfs_staging.proofs.CleanLemmas.{coded_block}
 
 module _ (p : Parts) (v : Inode) (index a : ℕ) (key : Key) (files : AreFiles p) (here : record_of p v.number ≡ Some (fields_of v)) (low : index < FILE_BLOCKS)
     (at : a ≡ address (tree_from p v) (way_to (Data index))) (is : key ≡ key_of v.number v.version (code_of (Data index))) where
@@ -42,7 +43,7 @@ module _ (p : Parts) (v : Inode) (index a : ℕ) (key : Key) (files : AreFiles p
       let same : address (tree_of p v.number) (way_of (code_of (Data index))) ≡ a = ap (address (tree_of p v.number)) (way_of-code_of (Data index)) ∙ sym at_tree in
       subst (λ k. IsLogged p k (block_at p.log.memory a)) (sym is) (record {
         present = present;
-        coded = inr (omega arith, omega arith);
+        coded = coded_block (Data index) low (λ e. omega arith);
         somewhere = λ none. some (sym same ∙ none);
         same = ap (block_at p.log.memory) (sym same);
       })

@@ -1,5 +1,5 @@
 -- The record of a file waits with a smaller size.
-use Rattle.std.proofs.Common.{◌≡◌, ◌≢◌, ℕ, ◌+◌, ◌<◌, ◌≤◌, List, [], ◌∷◌, length, Some, is_some, refl, sym, ap, ◌∙◌, subst, inl, inr, arith}
+use Rattle.std.proofs.Common.{◌≡◌, ◌≢◌, ℕ, ◌+◌, ◌≤◌, List, [], ◌∷◌, length, Some, is_some, refl, sym, ap, ◌∙◌, subst, inl, inr, arith}
 use Rattle.std.specs.Prelude.{slice_index}
 use Rattle.std.proofs.lemmas.Bool.{cases_eq, cases_lt}
 use Rattle.std.proofs.lemmas.Option.{same_Some}
@@ -16,15 +16,14 @@ use Rattle.lfs_cache.specs.Changes.{IsContents}
 use Rattle.lfs_cache.specs.Contents.{IsLocked}
 use Rattle.lfs_log.specs.Parts.{IsParts, LogParts}
 use Rattle.lfs_bmap.specs.declared.blocks.FileBlock.{FileBlock}
-use Rattle.lfs_bmap.specs.declared.blocks.FileBlock.TheVariants.{Record, Single, Data}
-use Rattle.lfs_bmap.specs.Blocks.{IsFileBlock, code_of}
+use Rattle.lfs_bmap.specs.Blocks.{IsFileBlock, code_of, first_under, way_to}
 use Rattle.lfs_bmap.specs.Pieces.{IsPadded}
 use Rattle.lfs_bmap.specs.Reading.{address, data_block}
-use Rattle.lfs_bmap.specs.Ways.{data_way}
-use Rattle.lfs_bmap.proofs.ReadingLemmas.{address-cell, table-root}
-use Rattle.lfs_bmap.proofs.WayLemmas.{data_way-direct}
+use Rattle.lfs_bmap.specs.Ways.{way_of}
+use Rattle.lfs_bmap.proofs.ReadingLemmas.{address-cell, address-root, table-root}
+use Rattle.lfs_bmap.proofs.WayLemmas.{way_of-code_of, way_of-zero}
 use Rattle.lfs_staging.specs.declared.parts.Parts.{Parts}
-use Rattle.lfs_staging.specs.Cutting.{IsAlone, IsGivenBack, MayShorten, Shortens}
+use Rattle.lfs_staging.specs.Cutting.{GoneFrom, MayShorten, Shortens}
 use Rattle.lfs_staging.specs.Staging.{IsStaged, StagesRecord}
 use Rattle.lfs_staging.specs.Store.{AreFiles, IsFile, IsPresent, IsWithin}
 use Rattle.lfs_staging.specs.View.{key_of, record_of, root_in, tree_of, version_of, waiting_in}
@@ -34,22 +33,19 @@ use Rattle.lfs_staging.proofs.HeldLemmas.{GainsNoClean-same}
 use Rattle.lfs_staging.proofs.KeptLemmas.{log_kept, present_kept, record_once, record_parents, record_present, record_room, record_trees}
 use Rattle.lfs_staging.proofs.StagingLemmas.{version-same}
 use Rattle.lfs_staging.proofs.WaitingLemmas.{length-less, waiting-head}
+use Rattle.lfs_staging.proofs.HolderLemmas.{gone_free}
+use Rattle.lfs_bmap.proofs.HolderLemmas.{root_block}
 
 -- the addresses of a record from whose place on there are none stay where they are cut
 root_cell : (p : Parts) (v : Inode) (i : ℕ) → record_of p v.number ≡ Some (fields_of v) → address (tree_of p v.number) (i ∷ []) ≡ slice_index (addresses v) i
 root_cell p v i has = address-cell (tree_of p v.number) i [] ∙ ap (λ ys. slice_index ys i) (table-root (tree_of p v.number) ∙ ap root_in has)
 
-pub cut_addresses : (p : Parts) (v : Inode) (left : ℕ) → record_of p v.number ≡ Some (fields_of v)
-    → ((index : ℕ) → left ≤ index → index < 140 → IsGivenBack p v.number index) → (left ≤ 12 → IsAlone p v.number)
-    → zeroed_from left (addresses v) ≡ addresses v
-cut_addresses p v left has gone single =
-    sym (zeroed_from-is left (addresses v) (addresses v) refl (λ k low inside. refl) (λ k from inside. elim (cases_lt k 12) [
-      | inl direct ↦ sym (root_cell p v k has) ∙ ap (address (tree_of p v.number)) (sym (data_way-direct k direct)) ∙ (gone k from (omega arith)).nowhere
-      | inr past ↦
-          let long = length-addresses v in
-          let last : k ≡ 12 = omega arith in
-          ap (slice_index (addresses v)) last ∙ sym (root_cell p v 12 has) ∙ (single (omega arith)).nowhere
-    ]))
+pub cut_addresses : (p : Parts) (v : Inode) (left : ℕ) → record_of p v.number ≡ Some (fields_of v) → GoneFrom p v.number left → zeroed_from left (addresses v) ≡ addresses v
+cut_addresses p v left has gone =
+    sym (zeroed_from-is left (addresses v) (addresses v) refl (λ k low inside. refl) (λ k from inside.
+    let block = root_block k (omega (arith, length-addresses v)) in
+    sym (root_cell p v k has) ∙ ap (address (tree_of p v.number)) (sym block.way)
+    ∙ (gone block.block block.is block.other (let least = block.from in omega arith)).nowhere))
 
 module _ (old new : Parts) (v w : Inode) (len : ℕ) (may : MayShorten old v.number len) (has : record_of old v.number ≡ Some (fields_of v)) (h : StagesRecord w old new)
     (changed : attributes w ≡ record (attributes v) { size = len }) (roots : addresses w ≡ addresses v) where
@@ -86,13 +82,18 @@ module _ (old new : Parts) (v w : Inode) (len : ℕ) (may : MayShorten old v.num
     at_version = same_version ∙ old_file.own_version ∙ ap (version_of old) (sym same_number);
   }
 
+  gone_nowhere : (block : FileBlock) → IsFileBlock block → block_count len ≤ first_under block → address (tree_of old v.number) (way_to block) ≡ 0
+  gone_nowhere block is past = elim (cases_eq (code_of block) 0) [
+    | inl e ↦ ap (address (tree_of old v.number)) (sym (way_of-code_of block) ∙ ap way_of e ∙ way_of-zero) ∙ address-root (tree_of old v.number)
+    | inr other ↦ (may.gone block is other past).nowhere
+  ]
+
   file_after : IsFile new v.number (fields_of w)
   file_after = record {
     formed = AreFields-fields_of w;
     own_number = same_number;
     own_version = same_version ∙ old_file.own_version ∙ sym (version-same old new v.number h.log);
-    none_past = λ n past low.
-        ap (λ t. address t (data_way n)) (trees v.number) ∙ (may.gone n (subst (λ k. block_count k ≤ n) same_size past) low).nowhere;
+    none_past = λ block is past. ap (λ t. address t (way_to block)) (trees v.number) ∙ gone_nowhere block is (subst (λ k. block_count k ≤ first_under block) same_size past);
     padded = subst (λ t. IsPadded (data_block t) w.size) (sym (trees v.number)) (subst (IsPadded (data_block (tree_of old v.number))) (sym same_size) may.padded);
   }
 
@@ -101,7 +102,7 @@ module _ (old new : Parts) (v w : Inode) (len : ℕ) (may : MayShorten old v.num
     formed = was.formed;
     own_number = was.own_number;
     own_version = was.own_version ∙ sym (version-same old new n h.log);
-    none_past = λ m past low. ap (λ t. address t (data_way m)) (trees n) ∙ was.none_past m past low;
+    none_past = λ block is past. ap (λ t. address t (way_to block)) (trees n) ∙ was.none_past block is past;
     padded = subst (λ t. IsPadded (data_block t) f.attributes.size) (sym (trees n)) was.padded;
   }
 
@@ -130,14 +131,11 @@ module _ (old new : Parts) (v w : Inode) (len : ℕ) (may : MayShorten old v.num
 
   -- what waits of the file lies within its length
   left_within : (block : FileBlock) → IsFileBlock block → IsLocked (key_of v.number (version_of old v.number) (code_of block)) old.cache → IsWithin block len
-  left_within Record can locked = tt
-  left_within Single can locked = elim (cases_lt 12 (block_count len)) [
-    | inl many ↦ many
-    | inr few ↦ absurd ((may.single few).free locked)
-  ]
-  left_within (Data k) can locked = elim (cases_lt k (block_count len)) [
+  left_within block can locked = elim (cases_lt (first_under block) (block_count len)) [
     | inl inside ↦ inside
-    | inr past ↦ absurd ((may.gone k past can).free locked)
+    | inr past ↦
+        let code = files.coded (key_of v.number (version_of old v.number) (code_of block)) locked in
+        absurd (gone_free old v.number block (may.gone block can code.other past) locked)
   ]
 
   within_after : (n : ℕ) (block : FileBlock) (f : Fields) → record_of new n ≡ Some f → IsFileBlock block → IsLocked (key_of n (version_of new n) (code_of block)) new.cache

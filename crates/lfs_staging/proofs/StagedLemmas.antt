@@ -1,19 +1,13 @@
 -- What what waits allows, and what a staged change leaves of the log.
-use Rattle.std.proofs.Common.{◌≡◌, ℕ, ◌*◌, ◌<◌, ◌≤◌, List, [], ◌∷◌, length, Some, IsSome, true, refl, sym, ap, ◌∙◌, subst, inl, inr, arith}
+use Rattle.std.proofs.Common.{◌≡◌, ℕ, ◌*◌, ◌<◌, List, length, true, refl, sym, ap, ◌∙◌, subst, arith}
 use Rattle.std.specs.Prelude.{⊤}
-use Rattle.std.proofs.lemmas.Option.{same_Some}
 use Rattle.lfs_ifile.specs.Tables.{row_of}
 use Rattle.lfs_inodes.specs.declared.inode.Inode.{Inode}
-use Rattle.lfs_inodes.specs.Facts.{block_count}
-use Rattle.lfs_inodes.specs.Reading.{Fields, fields_of}
-use Rattle.lfs_cache.specs.declared.key.Key.{Key}
-use Rattle.lfs_cache.specs.Contents.{IsLocked}
 use Rattle.lfs_log.specs.Parts.{LogParts}
-use Rattle.lfs_bmap.specs.declared.blocks.FileBlock.TheVariants.{Single}
-use Rattle.lfs_bmap.specs.Blocks.{code_of, way_to}
+use Rattle.lfs_bmap.specs.Blocks.{IsFileBlock, code_of, table_of, way_to}
 use Rattle.lfs_bmap.specs.Log.{Assigns, Renews}
-use Rattle.lfs_bmap.specs.Reading.{address, read}
-use Rattle.lfs_bmap.specs.Ways.{IsKnown}
+use Rattle.lfs_bmap.specs.Reading.{address}
+use Rattle.lfs_bmap.specs.Ways.{IsKnown, codes_on}
 use Rattle.lfs_bmap.proofs.MoveLemmas.{moves-assigned, moves-refl, moves-renewed, moves-same, moves-trans}
 use Rattle.lfs_bmap.proofs.PlaceLemmas.{data_block-same}
 use Rattle.lfs_staging.specs.declared.records.TheConstants.{WAITING_LIMIT}
@@ -22,16 +16,17 @@ use Rattle.lfs_staging.specs.Changing.{StaysInLog}
 use Rattle.lfs_staging.specs.Files.{content_of}
 use Rattle.lfs_staging.specs.Keys.{log_state}
 use Rattle.lfs_staging.specs.Putting.{MayChange}
-use Rattle.lfs_staging.specs.Staging.{IsStaged, MayStage, SameFiles, StagesBlock, StagesOwnRecord}
-use Rattle.lfs_staging.specs.Store.{AreFiles, IsPresent, IsWithin, ParentsWait}
-use Rattle.lfs_staging.specs.View.{key_of, record_of, tree_of, version_of, waiting_in}
-use Rattle.lfs_staging.specs.Waiting.{AreOnce, without}
-use Rattle.lfs_staging.proofs.KeptLemmas.{block_files, block_known, block_parents, few_records, keys_kept, log_kept, same_padded, table_same, within_code}
-use Rattle.lfs_staging.proofs.HolderLemmas.{holder_single}
+use Rattle.lfs_staging.specs.Staging.{IsStaged, MayStage, SameFiles, StagesParents}
+use Rattle.lfs_staging.specs.Store.{AreFiles, IsWithin, ParentsWait}
+use Rattle.lfs_staging.specs.View.{tree_of}
+use Rattle.lfs_staging.specs.Waiting.{without}
+use Rattle.lfs_staging.proofs.KeptLemmas.{StagesTable, block_known, few_records, keys_kept, log_kept, taken_within, way_within}
 use Rattle.lfs_staging.proofs.KeyLemmas.{lies_in}
 use Rattle.lfs_staging.proofs.SameContentLemmas.{content_of-same, file_at-kept}
 use Rattle.lfs_staging.proofs.StagingLemmas.{version-same}
 use Rattle.lfs_staging.proofs.WaitingLemmas.{length-without}
+use Rattle.std.specs.List.{Contains}
+use Rattle.lfs_bmap.specs.declared.blocks.FileBlock.{FileBlock}
 
 -- a file in use may be changed where there is room for a record
 pub staged_change : (p : Parts) (number spare : ℕ) → IsStaged p spare → number < length p.log.tables.rows → (row_of p.log.tables number).used ≡ true
@@ -69,59 +64,34 @@ may_again old new v may same files parents room = record {
   records = subst (λ (vs : List Inode). length vs < 64) (sym room) may.records;
 }
 
--- what holds in the middle of a call is kept where a record waits with what it has
-pub own_kept : (old new : Parts) (v : Inode) → MayStage old v → StagesOwnRecord v.number old new → (spare : ℕ) → IsStaged old spare → IsStaged new spare
-own_kept old new v may h spare staged = record {
+-- ---- the parents of a block wait
+module _ (old new : Parts) (v : Inode) (block : FileBlock) (may : MayStage old v) (h : StagesParents v.number block old new) where
+  pub parents_again : MayStage new v
+  parents_again = may_again old new v may h.same h.files h.parents h.room
+
+  -- what holds in the middle of a call is kept, where what holds the block's address lies within the size
+  pub parents_staged : (spare : ℕ) → IsStaged old spare → ((b : FileBlock) → IsFileBlock b → Contains (codes_on (way_to (table_of block))) (code_of b) → IsWithin b v.size)
+      → IsStaged new spare
+  parents_staged spare staged inside = record {
+    whole = h.files;
+    log = log_kept old new spare h.same.log (λ n way known. (h.same.readings n).addresses way known) staged.log;
+    parents = h.parents;
+    once = h.once staged.once;
+    few = few_records new v.number (without v.number old.waiting) h.room may.records;
+    within = taken_within old new v (codes_on (way_to (table_of block))) h.same.records (λ n. version-same old new n h.same.log) may.here inside h.takes staged.within;
+  }
+
+-- so it is with a block that waits with what it has, and its parents
+pub table_staged_still : (old new : Parts) (v : Inode) (t : FileBlock) → MayStage old v → IsFileBlock t → IsWithin t v.size → StagesTable v.number t old new
+    → (spare : ℕ) → IsStaged old spare → IsStaged new spare
+table_staged_still old new v t may can within h spare staged = record {
   whole = h.files;
   log = log_kept old new spare h.same.log (λ n way known. (h.same.readings n).addresses way known) staged.log;
   parents = h.parents;
   once = h.once staged.once;
-  few = few_records new v.number (without v.number old.waiting) h.room may.records;
-  within = λ n block f is can locked.
-      staged.within n block f (sym (h.same.records n) ∙ is) can
-      (subst (λ version. IsLocked (key_of n version (code_of block)) old.cache) (version-same old new n h.same.log)
-      (subst (IsLocked (key_of n (version_of new n) (code_of block))) h.cache locked));
+  few = few_records new v.number (without v.number old.waiting) h.takes.records may.records;
+  within = taken_within old new v (codes_on (way_to t)) h.same.records (λ n. version-same old new n h.same.log) may.here (way_within t v.size can within) h.takes.takes staged.within;
 }
-
-pub own_again : (old new : Parts) (v : Inode) → MayStage old v → StagesOwnRecord v.number old new → MayStage new v
-own_again old new v may h = may_again old new v may h.same h.files h.parents h.room
-
--- and where the single indirect block of a file waits with what it has, and its record does
-module _ (old new : Parts) (v : Inode) (may : MayStage old v) (waits : IsSome (waiting_in old.waiting v.number))
-    (h : StagesBlock v.number Single (read (tree_of old v.number) (12 ∷ [])) old new) where
-  pub single_files : AreFiles new
-  single_files =
-      let same = table_same old new v.number Single tt h in
-      let at : IsPresent old v.number (version_of old v.number) = record { in_use = may.in_use; at_version = refl } in
-      block_files old new v.number Single (read (tree_of old v.number) (12 ∷ [])) h may.files at (inl refl)
-      (λ n way known. (same.readings n).addresses way known) (same_padded old new same)
-
-  pub single_parents : ParentsWait new
-  single_parents = block_parents old new v.number Single (read (tree_of old v.number) (12 ∷ [])) h may.parents waits (holder_single old.cache v.number (version_of old v.number))
-
-  pub single_again : MayStage new v
-  single_again = may_again old new v may (table_same old new v.number Single tt h) single_files single_parents (ap (without v.number) h.waiting)
-
-  pub single_kept : 12 < block_count v.size → (spare : ℕ) → IsStaged old spare → IsStaged new spare
-  single_kept past spare staged =
-      let same = table_same old new v.number Single tt h in
-      record {
-        whole = single_files;
-        log = log_kept old new spare h.log (λ n way known. (same.readings n).addresses way known) staged.log;
-        parents = single_parents;
-        once = subst AreOnce (sym h.waiting) staged.once;
-        few = subst (λ (vs : List Inode). length vs ≤ 64) (sym h.waiting) staged.few;
-        within = λ n block f is can locked.
-            let is_old : record_of old n ≡ Some f = sym (same.records n) ∙ is in
-            elim (h.frames.only (key_of n (version_of new n) (code_of block)) locked) [
-              | inl single ↦
-                  let own : n ≡ v.number = ap (λ (k : Key). k.ino) single in
-                  let file : fields_of v ≡ f = same_Some (fields_of v) f (sym may.here ∙ ap (record_of old) (sym own) ∙ is_old) in
-                  subst (λ (x : Fields). IsWithin block x.attributes.size) file
-                  (within_code block v.size 12 1 past (ap (λ (k : Key). k.lbn) single) (inr (refl, omega arith)))
-              | inr before ↦ staged.within n block f is_old can (subst (λ version. IsLocked (key_of n version (code_of block)) old.cache) (version-same old new n h.log) before)
-            ];
-      }
 
 -- ---- what a staged change leaves of the log
 -- nothing was written where the log and all addresses stay

@@ -1,5 +1,5 @@
 -- A number that is taken back.
-use Rattle.std.proofs.Common.{◌≡◌, ◌≢◌, ℕ, ◌+◌, ◌-◌, ◌*◌, ◌/◌, ◌<◌, ◌≤◌, List, [], ◌∷◌, All, length, Option, None, Some, IsSome, true, refl, sym, ap, ◌∙◌, subst, inl, inr, arith}
+use Rattle.std.proofs.Common.{◌≡◌, ◌≢◌, ℕ, ◌+◌, ◌*◌, ◌/◌, ◌<◌, ◌≤◌, List, [], ◌∷◌, All, length, Option, None, Some, IsSome, true, refl, sym, ap, ◌∙◌, subst, inl, inr, arith}
 use Rattle.std.specs.Prelude.{slice_index}
 use Rattle.std.specs.Cmp.{nat_cmp_total}
 use Rattle.std.specs.FinMap as map
@@ -20,7 +20,6 @@ use Rattle.lfs_cache.specs.declared.key.Key.{Key}
 use Rattle.lfs_cache.specs.Contents.{IsLocked}
 use Rattle.lfs_log.specs.Parts as log
 use Rattle.lfs_log.specs.Parts.{LogParts, MayMove, record_place}
-use Rattle.lfs_bmap.specs.declared.blocks.FileBlock.TheVariants.{Single, Data}
 use Rattle.lfs_bmap.specs.Counting.{placed}
 use Rattle.lfs_bmap.specs.Log.{Assigns, IsLog, Renews}
 use Rattle.lfs_bmap.proofs.CountingLemmas.{placed-code, placed-here, placed-number}
@@ -43,6 +42,7 @@ use Rattle.lfs_staging.proofs.KeyLemmas.{place-record}
 use Rattle.lfs_staging.proofs.MakingLemmas.{all_nowhere, block_nowhere, files_still, log_still, none_addressed, other_file, other_present, staged_still, stays_in_log}
 use Rattle.lfs_staging.proofs.ViewLemmas.{record_of-unused}
 use Rattle.lfs_staging.proofs.WaitingLemmas.{all_without, length-without, once_without, waiting-tail, waiting-head, waiting-without}
+use Rattle.lfs_bmap.specs.Blocks.{code_of}
 
 -- ---- what waits of the other numbers
 apart_none : (vs : List Inode) (number : ℕ) → waiting_in vs number ≡ None → All (λ (w : Inode). w.number ≢ number) vs
@@ -84,12 +84,9 @@ module _ (p : Parts) (number : ℕ) (staged : IsStaged p 0) (low : number < leng
       let version : key.version ≡ version_of p number = (staged.whole.frames key locked).at_version ∙ ap (version_of p) is in
       let at : (code : ℕ) → key.lbn ≡ code → IsLocked (key_of number (version_of p number) code) p.cache
       = λ code same. subst (λ k. IsLocked k p.cache) (λ i. key_of (is i) (version i) (same i)) locked in
-      elim (staged.whole.coded key locked) [
-        | inl one ↦ let inside = staged.within number Single f has_record.1 tt (at 1 one) in absurd (omega arith)
-        | inr coded ↦
-            let inside = staged.within number (Data (key.lbn - 131)) f has_record.1 (omega (arith, coded.0, coded.1)) (at (131 + (key.lbn - 131)) (omega (arith, coded.0))) in
-            absurd (omega arith)
-      ]
+      let code = staged.whole.coded key locked in
+      let inside = staged.within number code.block f has_record.1 code.is (at (code_of code.block) (sym code.coded)) in
+      omega arith
 
   no_address : (i : ℕ) → slice_index (root_in (record_of p number)) i ≡ 0
   no_address i =

@@ -1,14 +1,14 @@
 -- A change of a store's content that waits: what it leaves of the log, and the frames and records that it takes.
-use Rattle.std.specs.Prelude.{◌≡◌, ℕ, ◌+◌, ◌*◌, ◌%◌, length, if◌then◌else◌, ◌==◌, nat_lt, ⊤}
+use Rattle.std.specs.Prelude.{◌≡◌, ℕ, ◌+◌, ◌%◌, length, if◌then◌else◌, ◌==◌, ⊤}
 use Rattle.lfs_types.specs.declared.block.TheConstants.{BLOCK_SIZE}
 use Rattle.lfs_types.specs.declared.store.Change.{Change}
 use Rattle.lfs_types.specs.declared.store.Change.TheVariants.{Make, Remove, SetAttrs, Put, SetLength}
 use Rattle.lfs_ifile.specs.Inode.{raised_version}
-use Rattle.lfs_bmap.specs.declared.blocks.TheConstants.{DIRECT_BLOCKS}
 use Rattle.lfs_bmap.specs.Moves.{Moves}
+use Rattle.lfs_bmap.specs.Ways.{tables_below}
 use Rattle.lfs_staging.specs.declared.parts.Parts.{Parts}
 use Rattle.lfs_staging.specs.Keys.{log_state}
-use Rattle.lfs_staging.specs.Putting.{blocks_of_put}
+use Rattle.lfs_staging.specs.Putting.{frames_of_put}
 
 -- Nothing was written: the segments' blocks, how each is used and how many are clean are as before; a key has the place
 -- that it had, in a number of the same version, or none.
@@ -27,17 +27,9 @@ version_after (SetAttrs ino attrs) number version = version
 version_after (Put ino off bytes) number version = version
 version_after (SetLength ino len) number version = version
 
--- one frame for the single indirect block, where a file's bytes up to this one reach past its direct blocks
-abbrev pub frames_of_single : ℕ → ℕ
-frames_of_single end = if nat_lt (DIRECT_BLOCKS * BLOCK_SIZE) end then 1 else 0
-
--- the frames that bytes put into a file take at most
-abbrev pub frames_of_put : ℕ → ℕ → ℕ
-frames_of_put start count = blocks_of_put start count + frames_of_single (start + count)
-
--- the frames that a length takes at most: one for its last block, where it ends within it
+-- the frames that a length takes at most: one for its last block, where it ends within it, and those of the indirect blocks
 abbrev pub frames_of_length : ℕ → ℕ
-frames_of_length len = (if len % BLOCK_SIZE == 0 then 0 else 1) + frames_of_single len
+frames_of_length len = (if len % BLOCK_SIZE == 0 then 0 else 1) + tables_below len
 
 -- the frames that a change takes at most
 abbrev pub frames_of : Change → ℕ

@@ -16,8 +16,8 @@ use Rattle.lfs_cache.specs.Contents.{IsLocked}
 use Rattle.lfs_cache.specs.Keys.{same_key}
 use Rattle.lfs_bmap.specs.declared.blocks.TheConstants.{DIRECT_BLOCKS, FIRST_DATA_CODE}
 use Rattle.lfs_bmap.specs.declared.blocks.FileBlock.{FileBlock}
-use Rattle.lfs_bmap.specs.declared.blocks.FileBlock.TheVariants.{Single, Data}
-use Rattle.lfs_bmap.specs.Blocks.{IsFileBlock, code_of, way_to}
+use Rattle.lfs_bmap.specs.declared.blocks.FileBlock.TheVariants.{Data}
+use Rattle.lfs_bmap.specs.Blocks.{IsFileBlock, code_of, first_under, table_of, way_to}
 use Rattle.lfs_bmap.specs.Pieces.{IsCut, IsPadded}
 use Rattle.lfs_bmap.specs.Reading.{address, data_block}
 use Rattle.lfs_bmap.specs.Ways.{IsKnown, code_at, data_way}
@@ -32,20 +32,14 @@ use Rattle.lfs_staging.specs.View.{key_of, record_of, tree_of, version_of, waiti
 abbrev pub with_length : ℕ → ℕ → Content → Content
 with_length number len c = changed_at (map.get c number) number (λ f. record f { bytes = resized f.bytes len }) c
 
--- a data block of a number has no address, and doesn't wait
-pub record IsGivenBack (p : Parts) (number index : ℕ) : Type 0 where
-  pub nowhere : address (tree_of p number) (data_way index) ≡ 0
-  pub free : IsLocked (key_of number (version_of p number) (FIRST_DATA_CODE + index)) p.cache → ⊥
-
--- the single indirect block of a number has no address, and doesn't wait
-pub record IsAlone (p : Parts) (number : ℕ) : Type 0 where
-  pub nowhere : address (tree_of p number) (way_to Single) ≡ 0
-  pub free : IsLocked (key_of number (version_of p number) 1) p.cache → ⊥
-
 -- The block at the end of a way of a number has no address, and doesn't wait.
 pub record IsGone (p : Parts) (number : ℕ) (way : List ℕ) : Type 0 where
   pub nowhere : address (tree_of p number) way ≡ 0
   pub free : IsLocked (key_of number (version_of p number) (code_at way)) p.cache → ⊥
+
+-- no block of a number that leads only to data blocks from one on has an address, and none waits
+abbrev pub GoneFrom : Parts → ℕ → ℕ → Type 0
+GoneFrom p number first = (block : FileBlock) → IsFileBlock block → code_of block ≢ 0 → first ≤ first_under block → IsGone p number (way_to block)
 
 -- A block of a file may be given back: it lies within the file, whose record waits, and so does what holds the block's
 -- address; the blocks whose addresses it holds went before.
@@ -94,23 +88,23 @@ pub record MayClearBelow (p : Parts) (number end : ℕ) : Type 0 where
   pub waits : IsSome (waiting_in p.waiting number)
   pub bounded : end ≤ FILE_BLOCKS
   pub within : (f : Fields) → record_of p number ≡ Some f → end ≤ block_count f.attributes.size
-  pub single : DIRECT_BLOCKS < end → IsLocked (key_of number (version_of p number) 1) p.cache
+  pub holders : (index : ℕ) → index < end → HolderWaits p.cache number (version_of p number) (way_to (table_of (Data index)))
 
 -- The data blocks of a file from one to before another were given back.
 pub record ClearsBlocks (number first end : ℕ) (old new : Parts) : Type 0 where
   pub staged : IsStaged new 0
   pub rest : KeepsRest number old new
-  pub gone : (index : ℕ) → first ≤ index → index < end → IsGivenBack new number index
-  pub single : IsLocked (key_of number (version_of old number) 1) old.cache → IsLocked (key_of number (version_of old number) 1) new.cache
+  pub gone : (index : ℕ) → first ≤ index → index < end → IsGone new number (data_way index)
+  pub tables : (code : ℕ) → code < FIRST_DATA_CODE → IsLocked (key_of number (version_of old number) code) old.cache
+      → IsLocked (key_of number (version_of old number) code) new.cache
   pub zeros : (index : ℕ) → first ≤ index → index < end → data_block (tree_of new number) index ≡ zero_block
   pub data_same : (n index : ℕ) → (n ≢ number) ⊎ ((index < first) ⊎ (end ≤ index)) → data_block (tree_of new n) index ≡ data_block (tree_of old n) index
 
--- The data blocks of a file from one on were given back, and the single indirect block where none is left that it leads to.
+-- The data blocks of a file from one on were given back, and the indirect blocks that led to them alone.
 pub record DropsBlocks (number left blocks : ℕ) (old new : Parts) : Type 0 where
   pub staged : IsStaged new 0
   pub rest : KeepsRest number old new
-  pub gone : (index : ℕ) → left ≤ index → index < FILE_BLOCKS → IsGivenBack new number index
-  pub single : left ≤ DIRECT_BLOCKS → IsAlone new number
+  pub gone : GoneFrom new number left
   pub zeros : (index : ℕ) → left ≤ index → index < blocks → data_block (tree_of new number) index ≡ zero_block
   pub data_same : (n index : ℕ) → (n ≢ number) ⊎ ((index < left) ⊎ (blocks ≤ index)) → data_block (tree_of new n) index ≡ data_block (tree_of old n) index
   pub less : left ≤ DIRECT_BLOCKS → DIRECT_BLOCKS < blocks → length new.cache.locked + 1 ≤ length old.cache.locked
@@ -146,8 +140,7 @@ pub record MayShorten (p : Parts) (number len : ℕ) : Type 0 where
   pub waits : IsSome (waiting_in p.waiting number)
   pub sized : (f : Fields) → record_of p number ≡ Some f → IsSizeOf f.attributes.kind len
   pub less : (f : Fields) → record_of p number ≡ Some f → len ≤ f.attributes.size
-  pub gone : (index : ℕ) → block_count len ≤ index → index < FILE_BLOCKS → IsGivenBack p number index
-  pub single : block_count len ≤ DIRECT_BLOCKS → IsAlone p number
+  pub gone : GoneFrom p number (block_count len)
   pub padded : IsPadded (data_block (tree_of p number)) len
 
 -- The record of a file waits with another size. Nothing else changed.

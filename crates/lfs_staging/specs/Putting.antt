@@ -1,5 +1,5 @@
 -- Bytes put into a file.
-use Rattle.std.specs.Prelude.{◌≡◌, ◌≢◌, ℕ, ◌+◌, ◌-◌, ◌*◌, ◌/◌, ◌<◌, ◌≤◌, ◌⊎◌, max, List, length, Some, true}
+use Rattle.std.specs.Prelude.{◌≡◌, ◌≢◌, ℕ, ◌+◌, ◌-◌, ◌/◌, ◌<◌, ◌≤◌, max, List, length, Some, true}
 use Rattle.std.specs.FinMap as map
 use Rattle.lfs_types.specs.Changes.{changed_at}
 use Rattle.lfs_types.specs.Splicing.{splice}
@@ -7,25 +7,28 @@ use Rattle.lfs_types.specs.Tree.{Content, file_of}
 use Rattle.lfs_types.specs.declared.attrs.Attrs.{Attrs}
 use Rattle.lfs_inodes.specs.declared.inode.Inode.{Inode}
 use Rattle.lfs_inodes.specs.Reading.{Fields, fields_of}
-use Rattle.lfs_cache.specs.Contents.{IsLocked}
-use Rattle.lfs_bmap.specs.declared.blocks.TheConstants.{DIRECT_BLOCKS}
+use Rattle.lfs_bmap.specs.declared.blocks.FileBlock.TheVariants.{Data}
 use Rattle.lfs_bmap.specs.Pieces.{IsPut}
 use Rattle.lfs_bmap.specs.Reading.{address, data_block}
-use Rattle.lfs_bmap.specs.Ways.{IsKnown}
+use Rattle.lfs_bmap.specs.Ways.{IsKnown, tables_below}
 use Rattle.lfs_staging.specs.declared.parts.Parts.{Parts}
 use Rattle.lfs_types.specs.declared.block.TheConstants.{BLOCK_SIZE}
 use Rattle.lfs_types.specs.declared.limits.TheConstants.{FILE_BYTES}
 use Rattle.lfs_ifile.specs.Tables.{row_of}
 use Rattle.lfs_inodes.specs.Facts.{IsSizeOf}
 use Rattle.lfs_staging.specs.declared.records.TheConstants.{WAITING_LIMIT}
-use Rattle.lfs_staging.specs.Staging.{IsStaged, MayStage, TakesFrames}
+use Rattle.lfs_staging.specs.Staging.{IsStaged, MayStage, TakesFrames, TakesOnly}
 use Rattle.lfs_staging.specs.Store.{AreFiles, ParentsWait}
 use Rattle.lfs_staging.specs.Waiting.{without}
-use Rattle.lfs_staging.specs.View.{LiesIn, blocks_of, key_of, record_of, tree_of, version_of}
+use Rattle.lfs_staging.specs.View.{LiesIn, blocks_of, record_of, tree_of, version_of}
 
 -- how many blocks some bytes at a place of a file fall into, at least one
 abbrev pub blocks_of_put : ℕ → ℕ → ℕ
 blocks_of_put start count = (start + count - 1) / BLOCK_SIZE + 1 - start / BLOCK_SIZE
+
+-- the frames that bytes put into a file take at most: one for each block, and those of the indirect blocks above them
+abbrev pub frames_of_put : ℕ → ℕ → ℕ
+frames_of_put start count = blocks_of_put start count + tables_below (start + count)
 
 -- What falls of some bytes, put at `start` of a file, into one of its data blocks is there, and nothing else changed.
 pub record PutsBlock (v : Inode) (index start : ℕ) (bytes : List ℕ) (old new : Parts) : Type 0 where
@@ -37,14 +40,11 @@ pub record PutsBlock (v : Inode) (index start : ℕ) (bytes : List ℕ) (old new
   pub addresses : (n : ℕ) (way : List ℕ) → IsKnown way → address (tree_of new n) way ≡ address (tree_of old n) way
   pub again : MayStage new v
   pub kept : (spare : ℕ) → IsStaged old spare → IsStaged new spare
-  pub takes : TakesFrames v.number index old new
+  pub takes : TakesFrames v.number (Data index) old new
 
--- Blocks of a number from one to before another wait: a frame more for each, and one for the single indirect block where
--- one of them lies past the direct blocks.
-pub record TakesBelow (number first before : ℕ) (old new : Parts) : Type 0 where
-  pub frames : (length new.cache.locked + first ≤ length old.cache.locked + before)
-      ⊎ ((DIRECT_BLOCKS < before) × (length new.cache.locked + first ≤ length old.cache.locked + before + 1)
-      × IsLocked (key_of number (version_of new number) 1) new.cache)
+-- What waits more are blocks of a number that have one of some codes, and the record of the number.
+pub record TakesBelow (number : ℕ) (codes : List ℕ) (old new : Parts) : Type 0 where
+  pub takes : TakesOnly number (version_of old number) codes old.cache new.cache
   pub records : without number new.waiting ≡ without number old.waiting
 
 -- What falls into the blocks below one of some bytes put at `start` of a file is there, and nothing else changed.
@@ -67,9 +67,7 @@ pub record PutsBytes (v : Inode) (start : ℕ) (bytes : List ℕ) (old new : Par
   pub addresses : (n : ℕ) (way : List ℕ) → IsKnown way → address (tree_of new n) way ≡ address (tree_of old n) way
   pub again : MayStage new v
   pub kept : (spare : ℕ) → IsStaged old spare → IsStaged new spare
-  pub frames : (length new.cache.locked ≤ length old.cache.locked + blocks_of_put start (length bytes))
-      ⊎ ((DIRECT_BLOCKS * BLOCK_SIZE < start + length bytes)
-      × (length new.cache.locked ≤ length old.cache.locked + blocks_of_put start (length bytes) + 1))
+  pub frames : length new.cache.locked ≤ length old.cache.locked + frames_of_put start (length bytes)
   pub waiting : without v.number new.waiting ≡ without v.number old.waiting
 
 -- The record of a file waits with a size of at least so many bytes. Nothing else changed.

@@ -1,5 +1,6 @@
 -- What waits in the middle of a call, and how it grows.
 use Rattle.std.specs.Prelude.{◌≡◌, ◌≢◌, ◌⊎◌, ℕ, ◌+◌, ◌*◌, ◌<◌, ◌≤◌, List, ◌∷◌, length, Some, IsSome, slice_index, true}
+use Rattle.std.specs.List.{Contains}
 use Rattle.lfs_types.specs.declared.block.TheConstants.{BLOCK_SIZE}
 use Rattle.lfs_ifile.specs.Tables.{row_of}
 use Rattle.lfs_inodes.specs.declared.inode.Inode.{Inode}
@@ -7,18 +8,18 @@ use Rattle.lfs_inodes.specs.Reading.{Fields, fields_of}
 use Rattle.lfs_cache.specs.declared.key.Key.{Key}
 use Rattle.lfs_cache.specs.Changes.{IsContents}
 use Rattle.lfs_cache.specs.declared.cache.TheConstants.{LOCKED_LIMIT}
-use Rattle.lfs_cache.specs.Contents.{IsLocked}
-use Rattle.lfs_bmap.specs.declared.blocks.TheConstants.{DIRECT_BLOCKS, FIRST_DATA_CODE}
+use Rattle.lfs_cache.specs.Contents.{Contents, IsLocked}
 use Rattle.lfs_bmap.specs.declared.blocks.FileBlock.{FileBlock}
-use Rattle.lfs_bmap.specs.Blocks.{IsFileBlock, code_of, way_to}
+use Rattle.lfs_bmap.specs.declared.blocks.FileBlock.TheVariants.{Data}
+use Rattle.lfs_bmap.specs.Blocks.{IsFileBlock, code_of, table_of, way_to}
 use Rattle.lfs_bmap.specs.Log.{IsLog}
 use Rattle.lfs_bmap.specs.Reading.{SameReadings, Stages, address, data_block}
-use Rattle.lfs_bmap.specs.Ways.{IsKnown}
+use Rattle.lfs_bmap.specs.Ways.{IsKnown, codes_on}
 use Rattle.lfs_staging.specs.declared.records.TheConstants.{WAITING_LIMIT}
 use Rattle.lfs_staging.specs.declared.parts.Parts.{Parts}
 use Rattle.lfs_staging.specs.Clean.{GainsNoClean}
 use Rattle.lfs_staging.specs.Keys.{log_state}
-use Rattle.lfs_staging.specs.Store.{AreFiles, IsWithin, ParentsWait}
+use Rattle.lfs_staging.specs.Store.{AreFiles, HolderWaits, IsWithin, ParentsWait}
 use Rattle.lfs_staging.specs.View.{LiesIn, blocks_of, key_of, record_of, tree_of, version_of, waiting_in}
 use Rattle.lfs_staging.specs.Waiting.{AreOnce, without}
 
@@ -66,10 +67,15 @@ pub record SameFiles (old new : Parts) : Type 0 where
   pub records : (n : ℕ) → record_of new n ≡ record_of old n
   pub readings : (n : ℕ) → SameReadings (tree_of old n) (tree_of new n)
 
--- The parents of a data block of a number wait.
-pub record HasParents (p : Parts) (number index : ℕ) : Type 0 where
+-- The parents of a block of a number wait: the record, and what holds the block's address.
+pub record HasParents (p : Parts) (number : ℕ) (block : FileBlock) : Type 0 where
   pub record_waits : IsSome (waiting_in p.waiting number)
-  pub single_waits : DIRECT_BLOCKS ≤ index → IsLocked (key_of number (version_of p number) 1) p.cache
+  pub holder_waits : HolderWaits p.cache number (version_of p number) (way_to (table_of block))
+
+-- each key that waits is of one of some codes of a number, or waited
+abbrev pub TakesOnly : ℕ → ℕ → List ℕ → Contents → Contents → Type 0
+TakesOnly number version codes old new =
+    (key : Key) → IsLocked key new → ((code : ℕ) × Contains codes code × (key ≡ key_of number version code)) ⊎ IsLocked key old
 
 -- A data block of the file with this record may wait: it is the record of a number in use, and there is room for it.
 pub record MayStage (p : Parts) (v : Inode) : Type 0 where
@@ -81,11 +87,10 @@ pub record MayStage (p : Parts) (v : Inode) : Type 0 where
   pub here : record_of p v.number ≡ Some (fields_of v)
   pub records : length (without v.number p.waiting) < WAITING_LIMIT
 
--- There is a frame for a data block of a number, and one for the single indirect block where it leads to it and doesn't
--- wait.
-pub record HasFrames (p : Parts) (number index : ℕ) : Type 0 where
-  pub one : length p.cache.locked < LOCKED_LIMIT
-  pub two : DIRECT_BLOCKS ≤ index → IsLocked (key_of number (version_of p number) 1) p.cache ⊎ (length p.cache.locked + 2 ≤ LOCKED_LIMIT)
+-- There are frames for the blocks of some codes of a number: whichever of them come to wait, each other one finds a frame.
+pub record HasFrames (p : Parts) (number : ℕ) (codes : List ℕ) : Type 0 where
+  pub each : (c : Contents) → IsContents c → TakesOnly number (version_of p number) codes p.cache c → (code : ℕ) → Contains codes code
+      → IsLocked (key_of number (version_of p number) code) c ⊎ (length c.locked < LOCKED_LIMIT)
 
 -- some bytes may be data block `index` of a file of this size: they are zeros past it
 abbrev pub IsZeroPast : ℕ → ℕ → List ℕ → Type 0
@@ -101,31 +106,24 @@ pub record StagesOwnRecord (number : ℕ) (old new : Parts) : Type 0 where
   pub room : without number new.waiting ≡ without number old.waiting
   pub once : AreOnce old.waiting → AreOnce new.waiting
 
--- The parents of a data block of a number wait, with what they had, and each file is what it was.
-pub record StagesParents (number index : ℕ) (old new : Parts) : Type 0 where
+-- The parents of a block of a number wait, with what they had, and each file is what it was.
+pub record StagesParents (number : ℕ) (block : FileBlock) (old new : Parts) : Type 0 where
   pub same : SameFiles old new
   pub files : AreFiles new
   pub parents : ParentsWait new
-  pub waits : HasParents new number index
+  pub waits : HasParents new number block
   pub room : without number new.waiting ≡ without number old.waiting
   pub once : AreOnce old.waiting → AreOnce new.waiting
-  pub frames : length new.cache.locked ≤ length old.cache.locked + 1
-  pub direct : index < DIRECT_BLOCKS → new.cache ≡ old.cache
-  pub again : IsLocked (key_of number (version_of old number) 1) old.cache → length new.cache.locked ≡ length old.cache.locked
   pub stays : (key : Key) → IsLocked key old.cache → IsLocked key new.cache
-  pub only : (key : Key) → IsLocked key new.cache
-      → ((key ≡ key_of number (version_of old number) 1) × (DIRECT_BLOCKS ≤ index)) ⊎ IsLocked key old.cache
+  pub takes : TakesOnly number (version_of old number) (codes_on (way_to (table_of block))) old.cache new.cache
 
--- A data block of a number was staged with its parents: a frame waits more for it, and one for the single indirect block
--- where that one didn't wait and the block lies past the direct ones.
-pub record TakesFrames (number index : ℕ) (old new : Parts) : Type 0 where
-  pub waits : HasParents new number index
+-- A block of a number was staged with its parents: what waits more is on its way.
+pub record TakesFrames (number : ℕ) (block : FileBlock) (old new : Parts) : Type 0 where
+  pub waits : HasParents new number block
   pub stays : (key : Key) → IsLocked key old.cache → IsLocked key new.cache
-  pub most : length new.cache.locked ≤ length old.cache.locked + 2
-  pub direct : index < DIRECT_BLOCKS → length new.cache.locked ≤ length old.cache.locked + 1
-  pub again : IsLocked (key_of number (version_of old number) 1) old.cache → length new.cache.locked ≤ length old.cache.locked + 1
+  pub takes : TakesOnly number (version_of old number) (codes_on (way_to block)) old.cache new.cache
   pub records : without number new.waiting ≡ without number old.waiting
-  pub block_waits : IsLocked (key_of number (version_of new number) (FIRST_DATA_CODE + index)) new.cache
+  pub block_waits : IsLocked (key_of number (version_of new number) (code_of block)) new.cache
 
 -- Bytes wait for a data block of a number: it reads as these bytes, and every other data block, every record and every
 -- address is what it was.
@@ -135,5 +133,4 @@ pub record StagesData (number index : ℕ) (bytes : List ℕ) (old new : Parts) 
   pub here : data_block (tree_of new number) index ≡ bytes
   pub others : (n m : ℕ) → (n ≢ number) ⊎ (m ≢ index) → data_block (tree_of new n) m ≡ data_block (tree_of old n) m
   pub addresses : (n : ℕ) (way : List ℕ) → IsKnown way → address (tree_of new n) way ≡ address (tree_of old n) way
-  pub frames : length new.cache.locked ≤ length old.cache.locked + 2
-  pub takes : TakesFrames number index old new
+  pub takes : TakesFrames number (Data index) old new

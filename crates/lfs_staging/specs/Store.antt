@@ -1,6 +1,6 @@
 -- What holds of the parts of a store.
-use Rattle.std.specs.Prelude.{◌≡◌, ◌≢◌, ◌⊎◌, ℕ, ◌<◌, ◌≤◌, List, [], ◌∷◌, Some, IsSome, true, false, All, length, ⊤}
-use Rattle.lfs_types.specs.declared.limits.TheConstants.{FILE_BLOCKS, FIRST_INODE, ROOT_INODE}
+use Rattle.std.specs.Prelude.{◌≡◌, ◌≢◌, ℕ, ◌<◌, ◌≤◌, List, [], ◌∷◌, Some, IsSome, true, false, All, length, ⊤}
+use Rattle.lfs_types.specs.declared.limits.TheConstants.{FIRST_INODE, ROOT_INODE}
 use Rattle.lfs_segments.specs.Log.{Expects}
 use Rattle.lfs_segments.specs.Memory.{block_at}
 use Rattle.lfs_ifile.specs.Tables.{row_of}
@@ -11,25 +11,28 @@ use Rattle.lfs_cache.specs.declared.key.Key.{Key}
 use Rattle.lfs_cache.specs.Changes.{IsContents}
 use Rattle.lfs_cache.specs.Contents.{Contents, IsLocked, block_in}
 use Rattle.lfs_log.specs.Parts.{IsParts}
-use Rattle.lfs_bmap.specs.declared.blocks.TheConstants.{BLOCK_CODES, DIRECT_BLOCKS, FIRST_DATA_CODE}
 use Rattle.lfs_bmap.specs.declared.blocks.FileBlock.{FileBlock}
-use Rattle.lfs_bmap.specs.declared.blocks.FileBlock.TheVariants.{Record, Single, Data}
-use Rattle.lfs_bmap.specs.Blocks.{IsFileBlock, code_of}
+use Rattle.lfs_bmap.specs.Blocks.{IsFileBlock, code_of, first_under, way_to}
 use Rattle.lfs_bmap.specs.Log.{IsLog}
 use Rattle.lfs_bmap.specs.Pieces.{IsPadded}
 use Rattle.lfs_bmap.specs.Reading.{address, data_block}
-use Rattle.lfs_bmap.specs.Ways.{code_at, data_way, way_of}
+use Rattle.lfs_bmap.specs.Ways.{code_at, way_of}
 use Rattle.lfs_staging.specs.declared.records.TheConstants.{WAITING_LIMIT}
 use Rattle.lfs_staging.specs.declared.parts.Parts.{Parts}
 use Rattle.lfs_staging.specs.Keys.{log_state}
 use Rattle.lfs_staging.specs.View.{key_of, record_of, tree_of, version_of, waiting_in}
 use Rattle.lfs_staging.specs.Waiting.{AreOnce}
 
--- a file of this size can have the block: it lies below the size, or is the single indirect block of a file that has one
+-- a file of this size can have the block, which isn't its record: the first data block that it leads to lies below the size
 abbrev pub IsWithin : FileBlock → ℕ → Type 0
-IsWithin Record size = ⊤
-IsWithin Single size = DIRECT_BLOCKS < block_count size
-IsWithin (Data index) size = index < block_count size
+IsWithin block size = first_under block < block_count size
+
+-- the code of a block of a file that isn't its record
+pub record IsBlockCode (code : ℕ) : Type 0 where
+  pub block : FileBlock
+  pub is : IsFileBlock block
+  pub coded : code_of block ≡ code
+  pub other : code ≢ 0
 
 -- a number in use, at the version that it has
 pub record IsPresent (p : Parts) (number version : ℕ) : Type 0 where
@@ -39,7 +42,7 @@ pub record IsPresent (p : Parts) (number version : ℕ) : Type 0 where
 -- A clean block that is held is what the log has for its key, a block of a number in use, which has an address.
 pub record IsLogged (p : Parts) (key : Key) (bytes : List ℕ) : Type 0 where
   pub present : IsPresent p key.ino key.version
-  pub coded : (key.lbn ≡ 1) ⊎ ((FIRST_DATA_CODE ≤ key.lbn) × (key.lbn < BLOCK_CODES))
+  pub coded : IsBlockCode key.lbn
   pub somewhere : address (tree_of p key.ino) (way_of key.lbn) ≢ 0
   pub same : bytes ≡ block_at p.log.memory (address (tree_of p key.ino) (way_of key.lbn))
 
@@ -53,7 +56,7 @@ pub record IsFile (p : Parts) (number : ℕ) (f : Fields) : Type 0 where
   pub formed : AreFields f
   pub own_number : f.attributes.number ≡ number
   pub own_version : f.attributes.version ≡ version_of p number
-  pub none_past : (n : ℕ) → block_count f.attributes.size ≤ n → n < FILE_BLOCKS → address (tree_of p number) (data_way n) ≡ 0
+  pub none_past : (block : FileBlock) → IsFileBlock block → block_count f.attributes.size ≤ first_under block → address (tree_of p number) (way_to block) ≡ 0
   pub padded : IsPadded (data_block (tree_of p number)) f.attributes.size
 
 -- What holds of the files and of what waits: the parts are each well formed and of one volume; of the numbers below 4 none
@@ -67,7 +70,7 @@ pub record AreFiles (p : Parts) : Type 0 where
   pub files : (number : ℕ) (f : Fields) → record_of p number ≡ Some f → IsFile p number f
   pub records : All (λ (v : Inode). IsPresent p v.number v.version) p.waiting
   pub frames : (key : Key) → IsLocked key p.cache → IsPresent p key.ino key.version
-  pub coded : (key : Key) → IsLocked key p.cache → (key.lbn ≡ 1) ⊎ ((FIRST_DATA_CODE ≤ key.lbn) × (key.lbn < BLOCK_CODES))
+  pub coded : (key : Key) → IsLocked key p.cache → IsBlockCode key.lbn
   pub mirrors : Mirrors p
 
 -- The block at a way of a number waits, which holds addresses. The record, at the empty way, is asked elsewhere.

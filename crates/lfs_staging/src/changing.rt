@@ -2,14 +2,13 @@
 
 ghost use Rattle.std.specs.Prelude.{◌≡◌, ◌+◌, ◌*◌, ◌-◌, ◌/◌, ◌<◌, ◌≤◌, ℕ, List, max, length, Some};
 ghost use Rattle.lfs_bmap.specs.Reading.{address};
-ghost use Rattle.lfs_bmap.specs.Ways.{IsKnown};
+ghost use Rattle.lfs_bmap.specs.Ways.{IsKnown, codes_on, data_way};
 ghost use Rattle.lfs_staging.specs.View.{record_of, tree_of};
 ghost use Rattle.lfs_types.specs.declared.limits.TheConstants.{FILE_BLOCKS};
 ghost use Rattle.lfs_cache.specs.declared.cache.TheConstants.{LOCKED_LIMIT};
 ghost use Rattle.lfs_inodes.specs.Reading.{Fields};
 ghost use Rattle.lfs_inodes.specs.Facts.{IsSizeOf, block_count};
-ghost use Rattle.lfs_staging.specs.Changing.{frames_of_put};
-ghost use Rattle.lfs_staging.specs.Putting.{GrowsTo, MayChange, MayPut, with_attrs, PutsBlock, PutsBytes, blocks_of_put, with_put};
+ghost use Rattle.lfs_staging.specs.Putting.{GrowsTo, MayChange, MayPut, PutsBlock, PutsBytes, frames_of_put, with_attrs, with_put};
 ghost use Rattle.lfs_staging.specs.Files.{content_of};
 ghost use Rattle.lfs_staging.specs.Staging.{HasFrames, IsStaged, MayStage};
 
@@ -69,7 +68,7 @@ impl Parts {
     /// below its size.
     fn put_block(&mut self, inode: &Inode, index: u32, off: u64, bytes: &[u8])
         requires may { MayStage self.old inode.now }
-        requires room { HasFrames self.old inode.now.number index }
+        requires room { HasFrames self.old inode.now.number (codes_on (data_way index)) }
         requires block { index < FILE_BLOCKS }
         requires within { index < block_count inode.now.size }
         requires below { off + length bytes.now ≤ inode.now.size }

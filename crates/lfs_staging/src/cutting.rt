@@ -5,6 +5,7 @@ ghost use Rattle.lfs_cache.specs.declared.cache.TheConstants.{LOCKED_LIMIT};
 ghost use Rattle.lfs_ifile.specs.Tables.{row_of};
 ghost use Rattle.lfs_inodes.specs.Facts.{IsSizeOf, block_count};
 ghost use Rattle.lfs_inodes.specs.Reading.{Fields};
+ghost use Rattle.lfs_bmap.specs.declared.blocks.FileBlock.TheVariants.{Data};
 ghost use Rattle.lfs_staging.specs.Changing.{StaysInLog, frames_of_length};
 ghost use Rattle.lfs_staging.specs.Cutting.{ClearsBlock, ClearsBlocks, CutsBlock, CutsFile, CutsLast, DropsBlocks, MayClear, MayClearBelow, MayShorten, Shortens, with_length};
 ghost use Rattle.lfs_staging.specs.Files.{content_of};
@@ -109,7 +110,7 @@ impl Parts {
     fn cut_block(&mut self, inode: &Inode, index: u32, len: u64)
         requires may { MayStage self.old inode.now }
         requires staged { IsStaged self.old 0 }
-        requires parents { HasParents self.old inode.now.number index }
+        requires parents { HasParents self.old inode.now.number (Data index) }
         requires within { index < block_count inode.now.size }
         requires less { len ≤ inode.now.size }
         requires room { length self.old.cache.locked < LOCKED_LIMIT }
@@ -124,7 +125,7 @@ impl Parts {
     fn cut_last(&mut self, inode: &Inode, len: u64)
         requires may { MayStage self.old inode.now }
         requires staged { IsStaged self.old 0 }
-        requires parents { HasParents self.old inode.now.number (block_count inode.now.size - 1) }
+        requires parents { HasParents self.old inode.now.number (Data (block_count inode.now.size - 1)) }
         requires less { len < inode.now.size }
         requires room { length self.old.cache.locked < LOCKED_LIMIT }
         ensures { CutsLast inode.now.number len self.old self.new }
@@ -155,7 +156,7 @@ impl Parts {
         ensures { CutsFile inode.now.number len self.old self.new }
     {
         let blocks = inode.blocks();
-        self.stage_parents(inode, blocks - 1);
+        self.stage_parents(inode, FileBlock::Data(blocks - 1));
         self.cut_last(inode, len);
         self.drop_blocks(inode.number, inode.cut(len).blocks(), blocks);
         self.shorten(inode.number, len);

@@ -8,9 +8,9 @@ ghost use Rattle.lfs_inodes.specs.Reading.{fields_of};
 ghost use Rattle.lfs_cache.specs.declared.cache.TheConstants.{LOCKED_LIMIT};
 ghost use Rattle.lfs_cache.specs.Contents.{IsLocked};
 ghost use Rattle.lfs_log.specs.Parts.{IsParts};
-ghost use Rattle.lfs_bmap.specs.declared.blocks.TheConstants.{DIRECT_BLOCKS};
-ghost use Rattle.lfs_bmap.specs.Blocks.{IsFileBlock, code_of, way_to};
+ghost use Rattle.lfs_bmap.specs.Blocks.{IsFileBlock, code_of, table_of, way_to};
 ghost use Rattle.lfs_bmap.specs.Reading.{read};
+ghost use Rattle.lfs_bmap.specs.Ways.{codes_on, data_way};
 ghost use Rattle.lfs_staging.specs.declared.records.TheConstants.{WAITING_LIMIT};
 ghost use Rattle.lfs_staging.specs.Staging.{HasFrames, IsStaged, IsZeroPast, MayStage, StagesBlock, StagesData, StagesOwnRecord, StagesParents, StagesRecord};
 ghost use Rattle.lfs_staging.specs.Store.{AreFiles};
@@ -18,7 +18,7 @@ ghost use Rattle.lfs_staging.specs.View.{LiesIn, blocks_of, key_of, record_of, t
 ghost use Rattle.lfs_staging.specs.Waiting.{without};
 
 use crate::parts::{Parts, key_of};
-use lfs_bmap::blocks::{DIRECT_BLOCKS, FileBlock};
+use lfs_bmap::blocks::FileBlock;
 use lfs_cache::Key;
 use lfs_inodes::inode::Inode;
 use lfs_types::block::Block;
@@ -54,7 +54,7 @@ impl Parts {
     /// Has bytes wait for a data block of a file, and its parents too.
     pub fn stage_data(&mut self, inode: &Inode, index: u32, bytes: &Block)
         requires may { MayStage self.old inode.now }
-        requires room { HasFrames self.old inode.now.number index }
+        requires room { HasFrames self.old inode.now.number (codes_on (data_way index)) }
         requires block { index < FILE_BLOCKS }
         requires within { index < block_count inode.now.size }
         requires zeros { IsZeroPast inode.now.size index bytes.now }
@@ -63,22 +63,24 @@ impl Parts {
         ensures again { MayStage self.new inode.now }
         ensures kept { (spare : ℕ) → IsStaged self.old spare → IsStaged self.new spare }
     {
-        self.stage_parents(inode, index);
-        self.stage_block(inode, FileBlock::Data(index), bytes);
+        let block = FileBlock::Data(index);
+        self.stage_parents(inode, block);
+        self.stage_block(inode, block, bytes);
     }
 
-    /// Has the parents of a data block wait, with what they have: the record of the file, and for a
-    /// data block past the direct ones the single indirect block.
-    pub fn stage_parents(&mut self, inode: &Inode, index: u32)
+    /// Has the parents of a block wait, with what they have: the record of the file, and the block
+    /// that holds its address.
+    pub fn stage_parents(&mut self, inode: &Inode, block: FileBlock)
         requires may { MayStage self.old inode.now }
-        requires room { DIRECT_BLOCKS ≤ index
-            → IsLocked (key_of inode.now.number (version_of self.old inode.now.number) 1) self.old.cache
-            ⊎ (length self.old.cache.locked < LOCKED_LIMIT) }
-        ensures { StagesParents inode.now.number index self.old self.new }
+        requires block { IsFileBlock block }
+        requires room { HasFrames self.old inode.now.number (codes_on (way_to (table_of block))) }
+        ensures { StagesParents inode.now.number block self.old self.new }
     {
         self.stage_own_record(inode);
-        if index >= DIRECT_BLOCKS {
-            self.stage_table(inode, FileBlock::Single);
+        let table = block.table();
+        match table {
+            FileBlock::Record => {}
+            FileBlock::Single | FileBlock::Data(_) => self.stage_table(inode, table),
         }
     }
 
@@ -104,7 +106,7 @@ impl Parts {
 
     /// Has a block of a file that isn't its record wait, with what it has. Where it waits already,
     /// nothing is done.
-    pub(crate) fn stage_table(&mut self, inode: &Inode, table: FileBlock)
+    pub fn stage_table(&mut self, inode: &Inode, table: FileBlock)
         requires files { AreFiles self.old }
         requires inside { LiesIn (blocks_of self.old) (tree_of self.old inode.now.number) }
         requires here { record_of self.old inode.now.number ≡ Some (fields_of inode.now) }

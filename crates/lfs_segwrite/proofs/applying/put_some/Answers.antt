@@ -1,6 +1,6 @@
 use Rattle.std.proofs.Common.{◌≡◌, ◌≢◌, ℕ, ◌<◌, length, refl, sym, ◌∙◌, arith}
 use Rattle.std.proofs.lemmas.Bool.{cond-false, eqb-false, eqb-true}
-use Rattle.lfs_staging.specs.Changing.{frames_of_put}
+use Rattle.lfs_staging.specs.Putting.{frames_of_put}
 use Rattle.lfs_staging.specs.Files.{content_of}
 use Rattle.lfs_segwrite.proofs.AskedLemmas.{may_change, put_nothing, put_sized, shown_used, some_from}
 use Rattle.lfs_segwrite.proofs.ChangedLemmas.{stays_refl, stays_same}

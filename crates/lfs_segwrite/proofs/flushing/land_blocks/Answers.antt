@@ -35,13 +35,13 @@ land_waiting-requires-clause-waits c =
     c.loop-entry.invariant c.requires.all c.locked_count-blocks.ensures.count low c.from_logical.ensures in
     next.waits
 
-pub land_waiting-requires-clause-last : goal.land_waiting-requires-clause-last
-land_waiting-requires-clause-last c =
+pub land_waiting-requires-clause-free : goal.land_waiting-requires-clause-free
+land_waiting-requires-clause-free c =
     let low : c.loop-entry.entry-index < c.locked_count-blocks.result =
     let taken = taken_count c.args.parts.now c.locked_count-blocks.result c.args.entries.now c.requires.all c.locked_count-blocks.ensures.count in let test = c.loop-entry-test.true in omega arith in
     let next = next_at c.args.parts.now c.loop-entry.parts c.locked_count-blocks.result c.loop-entry.entry-index c.args.entries.now _ c.from_logical.result
     c.loop-entry.invariant c.requires.all c.locked_count-blocks.ensures.count low c.from_logical.ensures in
-    next.last
+    next.free
 
 pub land_waiting-requires-clause-expected : goal.land_waiting-requires-clause-expected
 land_waiting-requires-clause-expected c =

@@ -34,12 +34,12 @@ stage_again-requires-clause-may c =
     place_may p info.ino (code_named info.lbn) c.requires.staged there c.in-Some.inode (here c) c.requires.records
 
 pub stage_again-requires-clause-within : goal.stage_again-requires-clause-within
-stage_again-requires-clause-within c =
+stage_again-requires-clause-within c = λ other.
     let p = c.args.parts.now in
     let info = c.args.info.now in
     let there = (named_there (log_state p) info c.requires.named).0 in
     let found = c.in-Some-from_code.ensures.found in
-    place_within p info.ino (code_named info.lbn) c.requires.staged there c.in-Some.inode (here c) c.in-Some-from_code.block found.0 (found.1 ∙ c.code_named.ensures)
+    place_within p info.ino (code_named info.lbn) c.requires.staged there c.in-Some.inode (here c) c.in-Some-from_code.block found.0 (found.1 ∙ c.code_named.ensures) other
 
 pub unreachable-requires-in-None : goal.unreachable-requires-in-None
 unreachable-requires-in-None c =

@@ -1,6 +1,5 @@
-use Rattle.std.proofs.Common.{rules, ap, ◌∙◌, subst}
+use Rattle.std.proofs.Common.{rules, ap, ◌∙◌}
 use Rattle.lfs_logstore.specs.States.{state_of}
-use Rattle.lfs_staging.specs.Filling.{SameButClean}
 use Rattle.lfs_logstore.proofs.RoomLemmas.{same_room, same_state}
 use Rattle.lfs_staging.proofs.FilledLemmas.{same_store}
 use Rattle.lfs_logstore.proofs.files.LogStoreFileStore.read.Goals as goal

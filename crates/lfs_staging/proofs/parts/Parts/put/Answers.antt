@@ -1,11 +1,10 @@
-use Rattle.std.proofs.Common.{◌≡◌, ◌⊎◌, ◌+◌, ◌<◌, ◌≤◌, length, ap, ◌∙◌, subst, arith}
+use Rattle.std.proofs.Common.{◌≡◌, length, ap, ◌∙◌, subst, arith}
 use Rattle.lfs_cache.specs.Contents.{Contents}
 use Rattle.lfs_bmap.specs.Reading.{address}
 use Rattle.lfs_inodes.specs.Reading.{fields_of}
 use Rattle.lfs_staging.proofs.FileLemmas.{given_record}
-use Rattle.lfs_staging.specs.Putting.{blocks_of_put}
 use Rattle.lfs_staging.specs.Waiting.{without}
-use Rattle.lfs_staging.proofs.GrowthLemmas.{may_from, one_record, put_frames, put_shown}
+use Rattle.lfs_staging.proofs.GrowthLemmas.{may_from, one_record, put_shown}
 use Rattle.lfs_staging.proofs.parts.Parts.put.Goals as goal
 
 pub grow-inode-requires-clause-may : goal.grow-inode-requires-clause-may
@@ -34,10 +33,7 @@ returns-clause-addresses c = λ n way known. c.put_blocks.ensures.addresses n wa
 pub returns-clause-frames : goal.returns-clause-frames
 returns-clause-frames c =
     let same : length c.grow-inode.new.self.cache.locked ≡ length c.args.self.now.cache.locked = ap (λ (s : Contents). length s.locked) c.grow-inode.ensures.cache in
-    put_frames c.args.self.now c.put_blocks.new.self c.args.off (length c.args.bytes.now) (subst (λ n.
-    (length c.put_blocks.new.self.cache.locked ≤ n + blocks_of_put c.args.off (length c.args.bytes.now))
-    ⊎ ((6144 < c.args.off + length c.args.bytes.now) × (length c.put_blocks.new.self.cache.locked ≤ n + blocks_of_put c.args.off (length c.args.bytes.now) + 1))) same
-    c.put_blocks.ensures.frames)
+    omega (arith, c.put_blocks.ensures.frames)
 
 pub returns-clause-waiting : goal.returns-clause-waiting
 returns-clause-waiting c =

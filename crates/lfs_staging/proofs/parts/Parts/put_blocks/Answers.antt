@@ -1,16 +1,13 @@
-use Rattle.std.proofs.Common.{◌/◌, length, subst, arith}
-use Rattle.lfs_staging.specs.Putting.{TakesBelow}
-use Rattle.lfs_staging.proofs.PuttingLemmas.{put_all, put_more, put_none, takes_more, takes_none, takes_room}
+use Rattle.std.proofs.Common.{length, arith}
+use Rattle.lfs_staging.proofs.PuttingLemmas.{put_all, put_codes, put_more, put_none, takes_first, takes_more, takes_room}
 use Rattle.lfs_staging.proofs.parts.Parts.put_blocks.Goals as goal
 
 pub loop-index-init : goal.loop-index-init
 loop-index-init c =
-    let ends = c.blocks_touched-touched.ensures.some (omega (arith, c.requires.some)) in
     record {
       puts = put_none c.args.self.now c.args.inode.now c.args.off c.args.bytes.now c.blocks_touched-touched.result.start c.requires.may
           (λ n touched. (c.blocks_touched-touched.ensures.touched n touched).0);
-      takes = subst (λ first. TakesBelow c.args.inode.now.number first c.blocks_touched-touched.result.start c.args.self.now c.args.self.now) ends.0
-          (takes_none c.args.self.now c.args.inode.now.number c.blocks_touched-touched.result.start);
+      takes = takes_first c.args.self.now c.args.inode.now.number (put_codes c.args.off (length c.args.bytes.now));
     }
 
 pub put_block-requires-clause-may : goal.put_block-requires-clause-may
@@ -22,7 +19,7 @@ put_block-requires-clause-room c =
     let low = c.loop-index-test.true in
     let from = c.loop-index.auto.index in
     takes_room c.args.self.now c.loop-index.self c.args.inode.now.number c.args.off (length c.args.bytes.now) c.loop-index.index
-    (omega (arith, ends.0)) (omega (arith, ends.1)) c.requires.some c.requires.room c.loop-index.invariant.takes
+    (omega (arith, low, ends.1, c.requires.below)) (omega (arith, ends.0)) (omega (arith, ends.1)) c.requires.some c.requires.room c.loop-index.invariant.puts.log c.loop-index.invariant.takes
 
 pub put_block-requires-clause-within : goal.put_block-requires-clause-within
 put_block-requires-clause-within c =
@@ -32,11 +29,15 @@ put_block-requires-clause-within c =
 
 pub loop-index-preserved : goal.loop-index-preserved
 loop-index-preserved c =
+    let ends = c.blocks_touched-touched.ensures.some (omega (arith, c.requires.some)) in
+    let low = c.loop-index-test.true in
+    let from = c.loop-index.auto.index in
     record {
       puts = put_more c.args.self.now c.loop-index.self c.put_block.new.self c.args.inode.now c.args.off c.args.bytes.now c.loop-index.index
           c.loop-index.invariant.puts c.put_block.ensures;
-      takes = takes_more c.args.self.now c.loop-index.self c.put_block.new.self c.args.inode.now.number (c.args.off / 512) c.loop-index.index
-          c.loop-index.invariant.takes c.put_block.ensures.log c.put_block.ensures.takes;
+      takes = takes_more c.args.self.now c.loop-index.self c.put_block.new.self c.args.inode.now.number c.args.off (length c.args.bytes.now) c.loop-index.index
+          c.loop-index.invariant.takes c.loop-index.invariant.puts.log c.put_block.ensures.takes
+          (omega (arith, low, ends.1, c.requires.below)) (omega (arith, ends.0)) (omega (arith, ends.1)) c.requires.some;
     }
 
 pub returns : goal.returns
@@ -45,5 +46,4 @@ returns c =
     let high = c.loop-index-test.false in
     let to = c.loop-index.auto.index-end in
     put_all c.args.self.now c.loop-index.self c.args.inode.now c.args.off c.args.bytes.now c.loop-index.index c.requires.may c.loop-index.invariant.puts
-    (λ n touched. let under = (c.blocks_touched-touched.ensures.touched n touched).1 in omega arith) c.requires.some (omega (arith, ends.0, ends.1, high, to))
-    c.loop-index.invariant.takes
+    (λ n touched. let under = (c.blocks_touched-touched.ensures.touched n touched).1 in omega arith) c.loop-index.invariant.takes

@@ -47,6 +47,6 @@ returns c =
     let same = waiting_number p.waiting c.args.ino v waits in
     let may = subst (λ n. MayShorten p n c.args.len) (sym same) c.requires in
     let has : record_of p v.number ≡ Some (fields_of v) = ap (record_of p) same ∙ record_of-waiting p c.args.ino _ v (cond-true _ _ _ c.requires.in_use) waits in
-    let roots : addresses c.cut.result ≡ addresses v = c.cut.ensures.addresses ∙ cut_addresses p v (block_count c.args.len) has may.gone may.single in
+    let roots : addresses c.cut.result ≡ addresses v = c.cut.ensures.addresses ∙ cut_addresses p v (block_count c.args.len) has may.gone in
     subst (λ n. Shortens n c.args.len p c.stage_record.new.self) same
     (shortened p c.stage_record.new.self v c.cut.result c.args.len may has c.stage_record.ensures c.cut.ensures.attributes roots)

@@ -1,6 +1,9 @@
-use Rattle.std.proofs.Common.{◌≡◌, length, ap, inl, inr, arith}
-use Rattle.std.proofs.lemmas.Bool.{cases_lt}
-use Rattle.lfs_cache.specs.Contents.{Contents}
+use Rattle.std.proofs.Common.{◌<◌, ◌+◌, ◌⊎◌, length, sym, subst, arith}
+use Rattle.lfs_cache.specs.Contents.{IsLocked}
+use Rattle.lfs_bmap.specs.declared.blocks.FileBlock.TheVariants.{Data}
+use Rattle.lfs_staging.specs.View.{key_of}
+use Rattle.lfs_staging.proofs.StagingLemmas.{version-same}
+use Rattle.lfs_staging.proofs.TakenLemmas.{block_room, frames_above}
 use Rattle.lfs_staging.proofs.KeptLemmas.{data_again, data_kept, may_present, present_kept, staged_data}
 use Rattle.lfs_staging.proofs.parts.Parts.stage_data.Goals as goal
 
@@ -25,20 +28,11 @@ returns-clause-kept c =
     c.requires.within c.requires.may c.stage_parents.ensures c.stage_block.ensures (returns-clause-again c)
 
 pub stage_parents-requires-clause-room : goal.stage_parents-requires-clause-room
-stage_parents-requires-clause-room c = λ high. elim (c.requires.room.two high) [ inl locked ↦ inl locked | inr few ↦ inr (omega arith) ]
+stage_parents-requires-clause-room c = frames_above c.args.self.now c.args.inode.now.number (Data c.args.index) c.requires.block (λ e. omega arith) c.requires.room
 
 pub stage_block-requires-clause-room : goal.stage_block-requires-clause-room
 stage_block-requires-clause-room c =
-    let p = c.args.self.now in
-    let q = c.stage_parents.new.self in
-    let one = c.requires.room.one in
-    let more = c.stage_parents.ensures.frames in
-    inr (elim (cases_lt c.args.index 12) [
-      | inl low ↦
-          let same : length q.cache.locked ≡ length p.cache.locked = ap (λ (s : Contents). length s.locked) (c.stage_parents.ensures.direct low) in
-          omega arith
-      | inr high ↦ elim (c.requires.room.two high) [
-        | inl locked ↦ let same = c.stage_parents.ensures.again locked in omega arith
-        | inr few ↦ omega arith
-      ]
-    ])
+    let p = c.args.self.now in let q = c.stage_parents.new.self in let v = c.args.inode.now in
+    let parents = c.stage_parents.ensures in
+    subst (λ n. IsLocked (key_of v.number n (131 + c.args.index)) q.cache ⊎ (length q.cache.locked < 24)) (sym (stage_block-requires-clause-version c))
+    (block_room p q v.number (Data c.args.index) c.requires.block (λ e. omega arith) (version-same p q v.number parents.same.log) parents.takes parents.files.cache c.requires.room)
