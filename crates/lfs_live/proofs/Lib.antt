@@ -1,0 +1,5 @@
+pub mod HearingLemmas
+pub mod HelpLemmas
+pub mod LineLemmas
+pub mod SameLemmas
+pub mod TalkLemmas

@@ -1,0 +1,307 @@
+-- A talk whose lines are a script does what a run of the script does.
+use Rattle.std.proofs.Common.{◌≡◌, ℕ, ◌+◌, ◌≤◌, Bool, true, false, cond, List, [], ◌∷◌, ◌++◌, length, Option, None, Some, Result, Ok, Err, inl, inr, refl, sym, ap, subst, ◌∙◌, arith, append_assoc, append-nil}
+use Rattle.std.specs.Io.KnownBytes.{Appends}
+use Rattle.std.specs.List.{All, list_any, onto_first}
+use Rattle.std.proofs.KnownBytes.{Appends-trans}
+use Rattle.std.proofs.lemmas.Bool.{eqb-true, le-ltb}
+use Rattle.std.proofs.lemmas.List.Elements.{All-head, All-tail}
+use Rattle.lfs_types.specs.StoreStates.{Shape}
+use Rattle.lfs_types.specs.Tree.{opening_world}
+use Rattle.lfs_model.specs.declared.journal.Entry.{Entry}
+use Rattle.lfs_model.specs.declared.steps.Step.{Step as Made}
+use Rattle.lfs_model.specs.declared.steps.StepAnswer.{StepAnswer}
+use Rattle.lfs_model.specs.Runs.{kept_steps}
+use Rattle.lfs_model.specs.Steps.{IsLegal}
+use Rattle.lfs_print.specs.ReportText.{report_text}
+use Rattle.lfs_words.specs.Lines.{HasNoLineFeed, IsFirstLine, is_printable}
+use Rattle.lfs_words.specs.Wording.{is_bare, words_of}
+use Rattle.lfs_words.specs.declared.fault.FaultKind.{FaultKind}
+use Rattle.lfs_words.specs.declared.fault.FaultKind.TheVariants.{Bytes, Words}
+use Rattle.lfs_script.specs.PlanTypes.{Drafted, Planned}
+use Rattle.lfs_script.specs.Plans.{added, at_line, first_draft, line_said, lines_of, plan_from, plan_of, planned, text_said, words_said}
+use Rattle.lfs_script.specs.Verbs.{verb_of}
+use Rattle.lfs_script.specs.declared.fault.ScriptFault.{ScriptFault}
+use Rattle.lfs_script.specs.declared.plan.Line.{Line}
+use Rattle.lfs_script.specs.declared.plan.Line.TheVariants as says
+use Rattle.lfs_script.specs.declared.plan.Step.{Step}
+use Rattle.lfs_script.proofs.PlanLemmas.{lines_first, plan_cut, plan_end, plan_step}
+use Rattle.lfs_staging.specs.declared.parts.Parts.{Parts}
+use Rattle.lfs_volume.specs.Cleanings.{Cleaner}
+use Rattle.lfs_volume.specs.Seen.{Seen}
+use Rattle.lfs_volume.specs.StepRuns.{AreSteps}
+use Rattle.lfs_audit.specs.Output.{IsOutput}
+use Rattle.lfs_audit.specs.Runs.{AreAsked, Runs, lines_text}
+use Rattle.lfs_audit.specs.Scripts.{log_cleaner}
+use Rattle.lfs_audit.proofs.RunLemmas.{lines_of_runs, runs_joined, runs_none}
+use Rattle.lfs_live.specs.Hearing.{heard_of, is_dotted}
+use Rattle.lfs_live.specs.Scripts.{WritesAsScript}
+use Rattle.lfs_live.specs.Talking.{Does, Hears, HearsAll, IsLast, IsTalk, ended, first_speaker}
+use Rattle.lfs_live.specs.Telling.{ended_line}
+use Rattle.lfs_live.specs.declared.hearing.Dot.TheVariants.{Quit}
+use Rattle.lfs_live.specs.declared.hearing.Heard.{Heard}
+use Rattle.lfs_live.specs.declared.hearing.Heard.TheVariants as heard
+use Rattle.lfs_live.specs.declared.telling.Speaker.{Speaker}
+
+-- ---- no line of a script begins with a dot
+
+-- no verb begins with a dot
+dot-verb : (word : List ℕ) → verb_of (46 ∷ word) ≡ None
+dot-verb word = refl
+
+dot-words : (words : List (List ℕ)) → words_said (onto_first 46 words) ≡ Err Words
+dot-words [] = refl
+dot-words (word ∷ words) = refl
+
+dot-text : (bare : Bool) (said : Result Line FaultKind) → said ≡ Err Words → cond bare (Err Words) said ≡ Err Words
+dot-text true said e = refl
+dot-text false said e = e
+
+not-ok : {A E : Type 0} (a : A) (e : E) → Err e ≡ Ok a → ⊥
+not-ok a e eq = absurd (cc)
+
+dot-line : (printable : Bool) (text : Result Line FaultKind) (said : Line) → text ≡ Err Words → cond printable text (Err Bytes) ≡ Ok said → ⊥
+dot-line true text said refused ok = not-ok said Words (sym refused ∙ ok)
+dot-line false text said refused ok = not-ok said Bytes ok
+
+dotted : (line : List ℕ) (said : Line) → is_dotted line ≡ true → line_said line ≡ Ok said → ⊥
+unfolding line_said
+dotted [] said dot ok = absurd (cc)
+dotted (c ∷ cs) said dot ok =
+    let is : c ≡ 46 = eqb-true c 46 dot in
+    dot-line (is_printable (46 ∷ cs)) (text_said (46 ∷ cs)) said
+    (dot-text (list_any is_bare (words_of (46 ∷ cs))) (words_said (words_of (46 ∷ cs))) (dot-words (words_of cs)))
+    (subst (λ (n : ℕ). line_said (n ∷ cs) ≡ Ok said) is ok)
+
+undotted : (line : List ℕ) (said : Line) (dot : Bool) → is_dotted line ≡ dot → line_said line ≡ Ok said → is_dotted line ≡ false
+undotted line said true e ok = absurd (dotted line said e ok)
+undotted line said false e ok = e
+
+-- what a line of a script says that is not too long
+heard-said : (line : List ℕ) (said : Line) → length line ≤ 65536 → line_said line ≡ Ok said → heard_of line ≡ heard.Line said
+unfolding heard_of
+heard-said line said few ok = rw (le-ltb 65536 (length line) few, undotted line said (is_dotted line) refl ok, ok) refl
+
+-- ---- a line follows a draft
+
+-- a volume became this one by what the lines ask for that a draft grew by, and this is told of them
+record Followed {F : Type 0} (r : Cleaner F) (old new : Seen F) (draft after : Drafted) (then : Speaker) (told : List ℕ) : Type 0 where
+  steps : List Step
+  made : List Made
+  answers : List StepAnswer
+  asked : AreAsked steps made answers
+  ran : Runs r old new made answers
+  printed : told ≡ lines_text made answers
+  grown : after.steps ≡ draft.steps ++ steps
+  session : after.session ≡ then.session
+  cred : after.cred ≡ then.cred
+
+asked-joined : (steps : List Step) (made : List Made) (answers : List StepAnswer) (more : List Step) (others : List Made) (given : List StepAnswer)
+    → AreAsked steps made answers → AreAsked more others given → AreAsked (steps ++ more) (made ++ others) (answers ++ given)
+asked-joined [] made answers more others given are then =
+    subst (λ (m : List Made). AreAsked more (m ++ others) (answers ++ given)) (sym are.0)
+    (subst (λ (a : List StepAnswer). AreAsked more others (a ++ given)) (sym are.1) then)
+asked-joined (s ∷ steps) made answers more others given are then = (
+  are.0,
+  are.1 ++ others,
+  are.2,
+  are.3 ++ given,
+  ap (λ (l : List Made). l ++ others) are.4 ∙ append_assoc are.0 are.1 others,
+  ap (λ (l : List StepAnswer). l ++ given) are.5 ∙ append_assoc are.2 are.3 given,
+  are.6,
+  asked-joined steps are.1 are.3 more others given are.7 then,
+)
+
+followed-joined : {F : Type 0} (r : Cleaner F) (old middle new : Seen F) (draft after last : Drafted) (speaker then : Speaker) (first rest told : List ℕ)
+    → told ≡ first ++ rest → Followed r old middle draft after speaker first → Followed r middle new after last then rest → Followed r old new draft last then told
+followed-joined r old middle new draft after last speaker then first rest told whole before behind = record {
+  steps = before.steps ++ behind.steps;
+  made = before.made ++ behind.made;
+  answers = before.answers ++ behind.answers;
+  asked = asked-joined before.steps before.made before.answers behind.steps behind.made behind.answers before.asked behind.asked;
+  ran = runs_joined r old middle new before.made before.answers behind.made behind.answers before.ran behind.ran;
+  printed = whole ∙ ap (λ (l : List ℕ). l ++ rest) before.printed ∙ ap (λ (l : List ℕ). lines_text before.made before.answers ++ l) behind.printed
+      ∙ sym (lines_of_runs r old middle before.made before.answers behind.made behind.answers before.ran);
+  grown = behind.grown ∙ ap (λ (l : List Step). l ++ behind.steps) before.grown ∙ append_assoc draft.steps before.steps behind.steps;
+  session = behind.session;
+  cred = behind.cred;
+}
+
+-- nothing is asked for
+followed-none : {F : Type 0} (r : Cleaner F) (old new : Seen F) (draft after : Drafted) (then : Speaker) (told : List ℕ)
+    → new ≡ old → after.steps ≡ draft.steps → after.session ≡ then.session → after.cred ≡ then.cred → told ≡ [] → Followed r old new draft after then told
+followed-none {F} r old new draft after then told same steps session cred nothing = record {
+  steps = [];
+  made = [];
+  answers = [];
+  asked = (refl, refl);
+  ran = subst (λ (v : Seen F). Runs r old v [] []) (sym same) (runs_none r old);
+  printed = nothing;
+  grown = steps ∙ sym (append-nil draft.steps);
+  session = session;
+  cred = cred;
+}
+
+followed-line : {F : Type 0} (r : Cleaner F) (old new : Seen F) (draft : Drafted) (speaker then : Speaker) (said : Line) (told : List ℕ)
+    → draft.session ≡ speaker.session → draft.cred ≡ speaker.cred → Does r old speaker said told new then → Followed r old new draft (added draft said) then told
+followed-line r old new draft speaker then says.Nothing told session cred does =
+    followed-none r old new draft draft then told does.0 refl (session ∙ ap (λ (s : Speaker). s.session) (sym does.1)) (cred ∙ ap (λ (s : Speaker). s.cred) (sym does.1)) does.2
+followed-line r old new draft speaker then (says.Session number) told session cred does =
+    followed-none r old new draft (added draft (says.Session number)) then told does.0 refl (ap (λ (s : Speaker). s.session) (sym does.1)) (cred ∙ ap (λ (s : Speaker). s.cred) (sym does.1)) does.2
+followed-line r old new draft speaker then (says.Caller caller) told session cred does =
+    followed-none r old new draft (added draft (says.Caller caller)) then told does.0 refl (session ∙ ap (λ (s : Speaker). s.session) (sym does.1)) (ap (λ (s : Speaker). s.cred) (sym does.1)) does.2
+followed-line r old new draft speaker then (says.Act act) told session cred does =
+    let tells = does.0 in
+    record {
+      steps = record { session = draft.session; cred = draft.cred; act = act } ∷ [];
+      made = tells.made;
+      answers = tells.answers;
+      asked = (
+        tells.made,
+        [],
+        tells.answers,
+        [],
+        sym (append-nil tells.made),
+        sym (append-nil tells.answers),
+        rw (session, cred) tells.asked,
+        (refl, refl),
+      );
+      ran = tells.ran;
+      printed = tells.printed;
+      grown = refl;
+      session = session ∙ ap (λ (s : Speaker). s.session) (sym does.1);
+      cred = cred ∙ ap (λ (s : Speaker). s.cred) (sym does.1);
+    }
+
+-- ---- the lines of a script
+
+-- what a line says that is no fault
+said-there : (n : ℕ) (result : Result Line FaultKind) (next : Line → Result Planned ScriptFault) (plan : Planned) → at_line n result next ≡ Ok plan
+    → (said : Line) × (result ≡ Ok said) × (next said ≡ Ok plan)
+said-there n (Ok said) next plan ok = (said, refl, ok)
+said-there n (Err kind) next plan ok = absurd (cc)
+
+first-of : (line : List ℕ) (lines : List (List ℕ)) (rest : List ℕ) → HasNoLineFeed line → IsFirstLine (ended (line ∷ lines) ++ rest) line (ended lines ++ rest)
+first-of line lines rest unended = record {
+  whole = append_assoc (ended_line line) (ended lines) rest ∙ append_assoc line (10 ∷ []) (ended lines ++ rest);
+  first = unended;
+}
+
+abbrev IsShort : List ℕ → Type 0
+IsShort line = length line ≤ 65536
+
+-- the plan of a script goes on behind the lines that were heard
+record Goes {F : Type 0} (r : Cleaner F) (old new : Seen F) (draft : Drafted) (then : Speaker) (told rest : List ℕ) (plan : Planned) : Type 0 where
+  number : ℕ
+  after : Drafted
+  followed : Followed r old new draft after then told
+  short : All IsShort (lines_of rest)
+  goes_on : plan_from number after (lines_of rest) ≡ Ok plan
+
+script-heard : {F : Type 0} (r : Cleaner F) (old new : Seen F) (speaker then : Speaker) (lines : List (List ℕ)) (told rest : List ℕ) (n : ℕ) (draft : Drafted) (plan : Planned)
+    → HearsAll r old speaker lines told new then → draft.session ≡ speaker.session → draft.cred ≡ speaker.cred
+    → All IsShort (lines_of (ended lines ++ rest)) → plan_from n draft (lines_of (ended lines ++ rest)) ≡ Ok plan
+    → Goes r old new draft then told rest plan
+script-heard r old new speaker then [] told rest n draft plan hears session cred short ok = record {
+  number = n;
+  after = draft;
+  followed = followed-none r old new draft draft then told hears.0 refl (session ∙ ap (λ (s : Speaker). s.session) (sym hears.1)) (cred ∙ ap (λ (s : Speaker). s.cred) (sym hears.1)) hears.2;
+  short = short;
+  goes_on = ok;
+}
+script-heard {F} r old new speaker then (line ∷ lines) told rest n draft plan hears session cred short ok =
+    let text = ended (line ∷ lines) ++ rest in
+    let behind = ended lines ++ rest in
+    let cut = first-of line lines rest hears.5 in
+    let shorts : All IsShort (line ∷ lines_of behind) = subst (All IsShort) (lines_first text line behind cut) short in
+    let read = said-there n (line_said line) (λ (s : Line). plan_from (n + 1) (added draft s) (lines_of behind)) plan (sym (plan_step n draft text line behind cut) ∙ ok) in
+    let says : heard_of line ≡ heard.Line read.0 = heard-said line read.0 (All-head IsShort line (lines_of behind) shorts) read.1 in
+    let does : Does r old speaker read.0 hears.0 hears.2 hears.3 = subst (λ (h : Heard). Hears r old speaker h hears.0 hears.2 hears.3) says hears.6 in
+    let followed = followed-line r old hears.2 draft speaker hears.3 read.0 hears.0 session cred does in
+    let more = script-heard r hears.2 new hears.3 then lines hears.1 rest (n + 1) (added draft read.0) plan hears.7 followed.session followed.cred (All-tail IsShort line (lines_of behind) shorts) read.2 in
+    record {
+      number = more.number;
+      after = more.after;
+      followed = followed-joined r old hears.2 new draft (added draft read.0) more.after hears.3 then hears.0 hears.1 told hears.4 followed more.followed;
+      short = more.short;
+      goes_on = more.goes_on;
+    }
+
+-- ---- the end of a script
+
+line-is-quit : (said : Line) (P : Type 0) → heard.Line said ≡ heard.Dot Quit → P
+line-is-quit said P e = absurd (cc)
+
+ok-same : (after : Drafted) (plan : Planned) (result : Result Planned ScriptFault) → result ≡ Ok (planned after) → result ≡ Ok plan → planned after ≡ plan
+ok-same after plan result first then = cc
+
+-- of a script's last bytes nothing is told, and its plan ends there
+script-ends : (number : ℕ) (after : Drafted) (plan : Planned) (last told behind : List ℕ) → IsLast last told (Some behind) → All IsShort (lines_of (last ++ behind))
+    → plan_from number after (lines_of (last ++ behind)) ≡ Ok plan → (told ≡ []) × (planned after ≡ plan)
+script-ends number after plan last told behind (inl quits) short ok =
+    let line = quits.0 in
+    let text = last ++ behind in
+    let cut : IsFirstLine text line behind = record {
+      whole = ap (λ (l : List ℕ). l ++ behind) quits.3 ∙ append_assoc line (10 ∷ []) behind;
+      first = quits.1;
+    } in
+    let shorts : All IsShort (line ∷ lines_of behind) = subst (All IsShort) (lines_first text line behind cut) short in
+    let read = said-there number (line_said line) (λ (s : Line). plan_from (number + 1) (added after s) (lines_of behind)) plan (sym (plan_step number after text line behind cut) ∙ ok) in
+    line-is-quit read.0 _ (sym (heard-said line read.0 (All-head IsShort line (lines_of behind) shorts) read.1) ∙ quits.2)
+script-ends number after plan [] told behind (inr ends) short ok =
+    (ends.2, ok-same after plan (plan_from number after (lines_of [])) (plan_end number after) (subst (λ (l : List ℕ). plan_from number after (lines_of l) ≡ Ok plan) ends.1 ok))
+script-ends number after plan (c ∷ cs) told behind (inr ends) short ok =
+    let whole : (c ∷ cs) ++ behind ≡ c ∷ cs = ap (λ (l : List ℕ). (c ∷ cs) ++ l) ends.1 ∙ append-nil (c ∷ cs) in
+    absurd (not-ok plan _ (sym (plan_cut number after (c ∷ cs) ends.0 (omega arith)) ∙ subst (λ (l : List ℕ). plan_from number after (lines_of l) ≡ Ok plan) whole ok))
+
+-- ---- the whole
+
+-- nothing is told of the last bytes
+told-whole : (told told_last lines report all : List ℕ) → told_last ≡ [] → told ≡ lines → report ≡ all → (told ++ told_last) ++ report ≡ lines ++ all
+told-whole told told_last lines report all none is same =
+    ap (λ (l : List ℕ). (told ++ l) ++ report) none ∙ ap (λ (l : List ℕ). l ++ report) (append-nil told) ∙ ap (λ (l : List ℕ). l ++ report) is ∙ ap (λ (l : List ℕ). lines ++ l) same
+
+script-written : (old new : Seen Parts) (script behind : List ℕ) (start out : Option (List ℕ)) (plan : Planned)
+    → old.journal ≡ [] → plan_of script ≡ Ok plan → All IsShort (lines_of script) → IsTalk log_cleaner old new (Some script) (Some behind) start out
+    → (text : List ℕ) × IsOutput log_cleaner script old.limit old.store text × Appends start out text
+script-written old new script behind start out plan empty parsed short talk =
+    let all = talk.heard in
+    let rest = all.last ++ behind in
+    let whole : script ≡ ended all.lines ++ rest = all.taken ∙ append_assoc (ended all.lines) all.last behind in
+    let goes = script-heard log_cleaner old new first_speaker all.then all.lines all.told rest 1 first_draft plan all.heard refl refl
+    (subst (λ (s : List ℕ). All IsShort (lines_of s)) whole short) (subst (λ (s : List ℕ). plan_from 1 first_draft (lines_of s) ≡ Ok plan) whole parsed) in
+    let fin = script-ends goes.number goes.after plan all.last all.told_last behind all.ends goes.short goes.goes_on in
+    let ran = goes.followed.ran in
+    let made = goes.followed.made in
+    let answers = goes.followed.answers in
+    let shape = (log_cleaner.state old.store).shape in
+    let steps : goes.followed.steps ≡ plan.steps = sym goes.followed.grown ∙ ap (λ (p : Planned). p.steps) fin.1 in
+    let entries : new.journal ≡ kept_steps made answers = ran.entered ∙ ap (λ (j : List Entry). j ++ kept_steps made answers) empty in
+    let legal : IsLegal shape.numbers shape.segments (kept_steps made answers) opening_world =
+    subst (λ (j : List Entry). IsLegal shape.numbers shape.segments j opening_world) entries
+    (subst (λ (s : Shape). IsLegal s.numbers s.segments new.journal opening_world) ran.shape talk.legal) in
+    let text = lines_text made answers ++ report_text (kept_steps made answers) in
+    let written : Appends start out ((all.told ++ all.told_last) ++ report_text new.journal) =
+    Appends-trans start talk.before out (all.told ++ all.told_last) (report_text new.journal) all.printed talk.reported in (
+      text,
+      record {
+        plan = plan;
+        parsed = parsed;
+        run = record {
+          made = made;
+          answers = answers;
+          after = new.store;
+          asked = subst (λ (s : List Step). AreAsked s made answers) steps goes.followed.asked;
+          answered = subst (λ (j : List Entry). AreSteps log_cleaner old.limit j old.store made answers new.store) empty ran.answered;
+          legal = legal;
+          printed = refl;
+        };
+      },
+      subst (λ (l : List ℕ). Appends start out l)
+          (told-whole all.told all.told_last (lines_text made answers) (report_text new.journal) (report_text (kept_steps made answers)) fin.0 goes.followed.printed (ap report_text entries))
+          written,
+    )
+
+-- the lines of a script that is all that a reader has
+pub script_law : WritesAsScript
+script_law old new script None start out plan empty parsed short talk = absurd talk.heard.taken
+script_law old new script (Some behind) start out plan empty parsed short talk = script-written old new script behind start out plan empty parsed short talk

@@ -1,0 +1,17 @@
+use Rattle.std.proofs.Common.{◌≡◌, IfOk, subst, sym, ◌∙◌}
+use Rattle.lfs_live.specs.declared.hearing.Heard.{Heard}
+use Rattle.lfs_live.proofs.HearingLemmas.{heard_call, heard_dot, heard_long}
+use Rattle.lfs_live.proofs.hearing.hear.Goals as goal
+
+pub returns-then-line-gt-LINE_MAX : goal.returns-then-line-gt-LINE_MAX
+returns-then-line-gt-LINE_MAX c = heard_long c.args.line.now c.if-line-gt-LINE_MAX.true
+
+pub returns-then-is_dotted : goal.returns-then-is_dotted
+returns-then-is_dotted c =
+    subst (λ (said : Heard). IfOk c.hear_dot.result (λ heard. heard ≡ said))
+    (heard_dot c.args.line.now c.if-line-gt-LINE_MAX.false (sym c.is_dotted.ensures ∙ c.if-is_dotted.true)) c.hear_dot.ensures
+
+pub returns-else-is_dotted : goal.returns-else-is_dotted
+returns-else-is_dotted c =
+    subst (λ (said : Heard). IfOk c.hear_call.result (λ heard. heard ≡ said))
+    (heard_call c.args.line.now c.if-line-gt-LINE_MAX.false (sym c.is_dotted.ensures ∙ c.if-is_dotted.false)) c.hear_call.ensures

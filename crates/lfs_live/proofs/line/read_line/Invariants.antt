@@ -1,0 +1,9 @@
+use Rattle.std.proofs.Common.{◌≤◌, length}
+use Rattle.lfs_live.specs.Pieces.{IsPart}
+use Rattle.lfs_live.proofs.line.read_line.Given as goal
+
+abbrev pub invariant-loop : goal.invariant-loop
+invariant-loop g l = record {
+  read : IsPart (g.R.Read.remaining l.fn.reader) (g.R.Read.remaining l.reader) l.bytes.items;
+  few : length l.bytes.items ≤ 65537;
+}

@@ -1,0 +1,63 @@
+-- What a line says.
+use Rattle.std.specs.Prelude.{ℕ, ◌==◌, Bool, false, nat_lt, List, [], ◌∷◌, length, codes, find, Option, None, Some, Result, Ok, Err, if◌then◌else◌}
+use Rattle.std.specs.Str.{bytes_eq}
+use Rattle.lfs_script.specs.Plans.{line_said}
+use Rattle.lfs_script.specs.declared.plan.Line.{Line as Said}
+use Rattle.lfs_words.specs.Faults.{◌>>=◌}
+use Rattle.lfs_words.specs.Lines.{is_printable}
+use Rattle.lfs_words.specs.Wording.{one_word, words_of}
+use Rattle.lfs_words.specs.declared.fault.FaultKind.{FaultKind}
+use Rattle.lfs_words.specs.declared.fault.FaultKind.TheVariants.{Bytes, Words}
+use Rattle.lfs_live.specs.declared.fault.LineFault.TheVariants.{TooLong, Kind}
+use Rattle.lfs_live.specs.declared.hearing.Dot.{Dot as Word}
+use Rattle.lfs_live.specs.declared.hearing.Dot.TheVariants.{Report, Help, Quit}
+use Rattle.lfs_live.specs.declared.hearing.Heard.{Heard}
+use Rattle.lfs_live.specs.declared.hearing.Heard.TheVariants.{Line, Dot, Fault}
+
+-- a word of the server's own
+abbrev pub dot_word : Word → List ℕ
+dot_word Report = codes ".report"
+dot_word Help = codes ".help"
+dot_word Quit = codes ".quit"
+
+-- every word of the server's own
+abbrev pub dots : List Word
+dots = Report ∷ Help ∷ Quit ∷ []
+
+abbrev pub or_words : Option Word → Result Word FaultKind
+or_words None = Err Words
+or_words (Some dot) = Ok dot
+
+-- the word of the server's own that words are, or their first fault
+abbrev pub dot_of : List (List ℕ) → Result Word FaultKind
+dot_of words = do
+  word ← one_word words
+  or_words (find (λ dot. bytes_eq (dot_word dot) word) dots)
+
+-- the same of a line
+abbrev pub dot_said : List ℕ → Result Word FaultKind
+dot_said line = if is_printable line then dot_of (words_of line) else Err Bytes
+
+-- whether a line begins with a dot
+abbrev pub is_dotted : List ℕ → Bool
+is_dotted [] = false
+is_dotted (c ∷ cs) = c == 46
+
+-- whether a line has more than 65,536 bytes
+abbrev pub is_long : List ℕ → Bool
+is_long line = nat_lt 65536 (length line)
+
+abbrev pub call_heard : Result Said FaultKind → Heard
+call_heard (Ok said) = Line said
+call_heard (Err kind) = Fault (Kind kind)
+
+abbrev pub dot_heard : Result Word FaultKind → Heard
+dot_heard (Ok dot) = Dot dot
+dot_heard (Err kind) = Fault (Kind kind)
+
+-- what a line says, which is given without its line feed: one that is too long says nothing, one that begins with a dot
+-- a word of the server's own, each other what a line of a script says
+unfoldable pub heard_of : List ℕ → Heard
+heard_of line =
+    if is_long line then Fault TooLong else
+    if is_dotted line then dot_heard (dot_said line) else call_heard (line_said line)

@@ -1,0 +1,7 @@
+pub mod Faults
+pub mod Hearing
+pub mod Pieces
+pub mod Scripts
+pub mod Steps
+pub mod Talking
+pub mod Telling

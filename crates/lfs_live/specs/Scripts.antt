@@ -1,0 +1,49 @@
+-- A talk over a fresh volume, and one whose lines are a script.
+use Rattle.std.specs.Prelude.{◌≡◌, ℕ, ◌≤◌, List, [], length, Option, Some, Ok}
+use Rattle.std.specs.Io.KnownBytes.{Appends}
+use Rattle.std.specs.List.{All}
+use Rattle.lfs_staging.specs.declared.parts.Parts.{Parts}
+use Rattle.lfs_logstore.specs.States.{opening_state, state_of}
+use Rattle.lfs_script.specs.PlanTypes.{Planned}
+use Rattle.lfs_script.specs.Plans.{lines_of, plan_of}
+use Rattle.lfs_volume.specs.Seen.{Seen}
+use Rattle.lfs_audit.specs.Output.{IsOutput}
+use Rattle.lfs_audit.specs.Scripts.{IsFormatFault, log_cleaner}
+use Rattle.lfs_audit.specs.declared.fault.RunFault.{RunFault}
+use Rattle.lfs_audit.specs.declared.fault.RunFault.TheVariants.{Format}
+use Rattle.lfs_live.specs.Faults.{IsTalkFault}
+use Rattle.lfs_live.specs.Talking.{HasHeardSoFar, IsTalk}
+
+-- a fresh volume over a log of so many segments and inode numbers, with room for so many entries
+pub record IsFresh (segments inodes limit : ℕ) (volume : Seen Parts) : Type 0 where
+  pub opening : state_of volume.store ≡ opening_state segments inodes
+  pub empty : volume.journal ≡ []
+  pub room : volume.limit ≡ limit
+
+-- a talk over a fresh volume
+pub record IsLogTalk (segments inodes limit : ℕ) (known left start out : Option (List ℕ)) : Type 0 where
+  pub old : Seen Parts
+  pub new : Seen Parts
+  pub fresh : IsFresh segments inodes limit old
+  pub talk : IsTalk log_cleaner old new known left start out
+
+-- the same up to a read that failed
+pub record HasHeardOfLog (segments inodes limit : ℕ) (known left start out : Option (List ℕ)) : Type 0 where
+  pub old : Seen Parts
+  pub new : Seen Parts
+  pub fresh : IsFresh segments inodes limit old
+  pub so_far : HasHeardSoFar log_cleaner old new known left start out
+
+-- a talk over a fresh volume may end in this fault
+abbrev pub IsLogFault : ℕ → ℕ → ℕ → RunFault → Type 0
+IsLogFault segments inodes frames (Format fault) = IsFormatFault segments inodes frames fault
+IsLogFault segments inodes frames fault = IsTalkFault fault
+
+-- What a talk writes whose lines are a script without a fault, in which no line has more than 65,536 bytes, a run of that
+-- script writes.
+abbrev pub WritesAsScript : Type 0
+WritesAsScript =
+    (old new : Seen Parts) (script : List ℕ) (left start out : Option (List ℕ)) (plan : Planned)
+    → old.journal ≡ [] → plan_of script ≡ Ok plan → All (λ line. length line ≤ 65536) (lines_of script)
+    → IsTalk log_cleaner old new (Some script) left start out
+    → (text : List ℕ) × IsOutput log_cleaner script old.limit old.store text × Appends start out text

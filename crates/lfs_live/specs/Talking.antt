@@ -1,0 +1,97 @@
+-- What lines do, one after another, and what is told of them.
+use Rattle.std.specs.Prelude.{◌≡◌, ℕ, ◌⊎◌, false, List, [], ◌∷◌, ◌++◌, Option, Some}
+use Rattle.std.specs.Io.KnownBytes.{Appends, Consumes, IsAtEnd}
+use Rattle.std.specs.List.{flat_map}
+use Rattle.lfs_types.specs.Tree.{opening_world}
+use Rattle.lfs_model.specs.Steps.{IsLegal}
+use Rattle.lfs_print.specs.ReportText.{report_text}
+use Rattle.lfs_script.specs.declared.plan.Line.{Line}
+use Rattle.lfs_script.specs.declared.plan.Line.TheVariants.{Nothing, Session, Caller, Act}
+use Rattle.lfs_words.specs.Lines.{HasNoLineFeed}
+use Rattle.lfs_volume.specs.Cleanings.{Cleaner}
+use Rattle.lfs_volume.specs.Seen.{Seen}
+use Rattle.lfs_audit.specs.Runs.{Tells}
+use Rattle.lfs_live.specs.Hearing.{heard_of}
+use Rattle.lfs_live.specs.Telling.{cut_text, dot_text, ended_line, fault_line}
+use Rattle.lfs_live.specs.declared.hearing.Dot.TheVariants.{Quit}
+use Rattle.lfs_live.specs.declared.hearing.Heard.{Heard}
+use Rattle.lfs_live.specs.declared.hearing.Heard.TheVariants as heard
+use Rattle.lfs_live.specs.declared.telling.Speaker.{Speaker}
+
+-- the first line is of session 0, and of the superuser with group 0, who is not init
+abbrev pub first_speaker : Speaker
+first_speaker = record { session = 0; cred = record { uid = 0; groups = 0 ∷ []; init = false } }
+
+-- what a line of a script did on a volume, who speaks then, and what is told of it
+abbrev pub Does : {F : Type 0} → Cleaner F → Seen F → Speaker → Line → List ℕ → Seen F → Speaker → Type 0
+Does r old speaker Nothing told new then = (new ≡ old) × (then ≡ speaker) × (told ≡ [])
+Does r old speaker (Session session) told new then =
+    (new ≡ old) × (then ≡ record speaker { session = session }) × (told ≡ [])
+Does r old speaker (Caller cred) told new then = (new ≡ old) × (then ≡ record speaker { cred = cred }) × (told ≡ [])
+Does r old speaker (Act act) told new then =
+    Tells r old new speaker.session speaker.cred act [] told × (then ≡ speaker)
+
+-- the same of each line: a word of the server's own and a fault change nothing
+abbrev pub Hears : {F : Type 0} → Cleaner F → Seen F → Speaker → Heard → List ℕ → Seen F → Speaker → Type 0
+Hears r old speaker (heard.Line line) told new then = Does r old speaker line told new then
+Hears r old speaker (heard.Dot dot) told new then =
+    (new ≡ old) × (then ≡ speaker) × (dot_text dot old.journal ≡ Some told)
+Hears r old speaker (heard.Fault fault) told new then = (new ≡ old) × (then ≡ speaker) × (told ≡ fault_line fault)
+
+-- the same of lines, one after another
+abbrev pub HearsAll : {F : Type 0} → Cleaner F → Seen F → Speaker → List (List ℕ) → List ℕ → Seen F → Speaker → Type 0
+HearsAll r old speaker [] told new then = (new ≡ old) × (then ≡ speaker) × (told ≡ [])
+HearsAll {F} r old speaker (line ∷ lines) told new then =
+    (first : List ℕ) × (rest : List ℕ) × (middle : Seen F) × (next : Speaker)
+    × (told ≡ first ++ rest) × HasNoLineFeed line
+    × Hears r old speaker (heard_of line) first middle next × HearsAll r middle next lines rest new then
+
+-- lines, each with its line feed
+abbrev pub ended : List (List ℕ) → List ℕ
+ended lines = flat_map ended_line lines
+
+-- A volume and who speaks became these by lines that were read, one after another, and what is told of them is written,
+-- and nothing else.
+pub record HasHeard {F : Type 0} (r : Cleaner F) (old new : Seen F) (then : Speaker) (known left start out : Option (List ℕ)) : Type 0 where
+  pub lines : List (List ℕ)
+  pub told : List ℕ
+  pub heard : HearsAll r old first_speaker lines told new then
+  pub taken : Consumes known left (ended lines)
+  pub printed : Appends start out told
+
+-- Lines were read, and what is told of them is written; and a part of a line was read, of which nothing is told.
+pub record HasHeardSoFar {F : Type 0} (r : Cleaner F) (old new : Seen F) (known left start out : Option (List ℕ)) : Type 0 where
+  pub then : Speaker
+  pub lines : List (List ℕ)
+  pub part : List ℕ
+  pub told : List ℕ
+  pub heard : HearsAll r old first_speaker lines told new then
+  pub unended : HasNoLineFeed part
+  pub taken : Consumes known left (ended lines ++ part)
+  pub printed : Appends start out told
+
+-- what was read last: a line that quits, of which nothing is told, or all that is behind the last line feed
+abbrev pub IsLast : List ℕ → List ℕ → Option (List ℕ) → Type 0
+IsLast last told left =
+    ((line : List ℕ) × HasNoLineFeed line × (heard_of line ≡ heard.Dot Quit) × (last ≡ ended_line line) × (told ≡ []))
+    ⊎ (HasNoLineFeed last × IsAtEnd left × (told ≡ cut_text last))
+
+-- Lines were read up to one that quits, or to the end of the input, and what is told of each is written, in order, and
+-- nothing else.
+pub record HasHeardAll {F : Type 0} (r : Cleaner F) (old new : Seen F) (known left start out : Option (List ℕ)) : Type 0 where
+  pub then : Speaker
+  pub lines : List (List ℕ)
+  pub last : List ℕ
+  pub told : List ℕ
+  pub told_last : List ℕ
+  pub heard : HearsAll r old first_speaker lines told new then
+  pub ends : IsLast last told_last left
+  pub taken : Consumes known left (ended lines ++ last)
+  pub printed : Appends start out (told ++ told_last)
+
+-- the same, and then the report of the journal, which is legal from the opening tree
+pub record IsTalk {F : Type 0} (r : Cleaner F) (old new : Seen F) (known left start out : Option (List ℕ)) : Type 0 where
+  pub before : Option (List ℕ)
+  pub heard : HasHeardAll r old new known left start before
+  pub legal : IsLegal (r.state new.store).shape.numbers (r.state new.store).shape.segments new.journal opening_world
+  pub reported : Appends before out (report_text new.journal)

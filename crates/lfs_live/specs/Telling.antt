@@ -1,0 +1,55 @@
+-- What is told of faults and of the words of the server's own.
+use Rattle.std.specs.Prelude.{ℕ, List, [], ◌∷◌, ◌++◌, codes, Option, None, Some, if◌then◌else◌}
+use Rattle.lfs_model.specs.declared.journal.Entry.{Entry}
+use Rattle.lfs_print.specs.ReportText.{report_text}
+use Rattle.lfs_words.specs.declared.fault.FaultKind.{FaultKind}
+use Rattle.lfs_words.specs.declared.fault.FaultKind.TheVariants.{Cut, Bytes, Words, Many, Number, Range, Path, Hex, Cred, Memory}
+use Rattle.lfs_live.specs.Hearing.{is_long}
+use Rattle.lfs_live.specs.declared.fault.LineFault.{LineFault}
+use Rattle.lfs_live.specs.declared.fault.LineFault.TheVariants.{TooLong, Kind}
+use Rattle.lfs_live.specs.declared.hearing.Dot.{Dot}
+use Rattle.lfs_live.specs.declared.hearing.Dot.TheVariants.{Report, Help, Quit}
+
+-- the word of what is wrong with a line of a script
+abbrev pub kind_word : FaultKind → List ℕ
+kind_word Cut = codes "Cut"
+kind_word Bytes = codes "Bytes"
+kind_word Words = codes "Words"
+kind_word Many = codes "Many"
+kind_word Number = codes "Number"
+kind_word Range = codes "Range"
+kind_word (Path fault) = codes "Path"
+kind_word Hex = codes "Hex"
+kind_word (Cred fault) = codes "Cred"
+kind_word Memory = codes "Memory"
+
+abbrev pub fault_word : LineFault → List ℕ
+fault_word TooLong = codes "TooLong"
+fault_word (Kind kind) = kind_word kind
+
+-- a text and a line feed
+abbrev pub ended_line : List ℕ → List ℕ
+ended_line text = text ++ 10 ∷ []
+
+-- the line of a fault
+unfoldable pub fault_line : LineFault → List ℕ
+fault_line fault = codes "fault" ++ 32 ∷ fault_word fault ++ 10 ∷ []
+
+-- what is told of bytes behind the last line feed
+abbrev pub cut_text : List ℕ → List ℕ
+cut_text [] = []
+cut_text (c ∷ cs) = fault_line (if is_long (c ∷ cs) then TooLong else Kind Cut)
+
+-- the text of `.help`
+unfoldable pub help_text : List ℕ
+help_text =
+    ended_line (codes "A line is that of a script: a call, `as`, `session`, or `#` and a comment.")
+    ++ ended_line (codes ".report  how many calls were served, denied and refused so far")
+    ++ ended_line (codes ".help    these lines")
+    ++ ended_line (codes ".quit    ends with the report, as the end of the input does")
+
+-- what a word of the server's own tells of a journal; `.quit` tells nothing, but ends
+abbrev pub dot_text : Dot → List Entry → Option (List ℕ)
+dot_text Report journal = Some (report_text journal)
+dot_text Help journal = Some help_text
+dot_text Quit journal = None

@@ -1,0 +1,125 @@
+//! What a line says: what a line of a script says, a word of the server's own, or why nothing.
+
+ghost use Rattle.std.specs.Prelude.{◌≡◌, map, IfOk};
+ghost use Rattle.lfs_script.specs.Plans.{line_said};
+ghost use Rattle.lfs_words.specs.Faults.{Reads};
+ghost use Rattle.lfs_live.specs.Hearing.{call_heard, dot_heard, dot_of, dot_said, dot_word, heard_of, is_dotted, is_long};
+
+use crate::fault::LineFault;
+use lfs_script::plan::Line;
+use lfs_script::script::parse_line;
+use lfs_words::fault::FaultKind;
+use lfs_words::line::text_of;
+use lfs_words::words::{one_word, pieces};
+use std::alloc::{AllocError, Global};
+
+/// The most bytes of a line.
+pub const LINE_MAX: usize = 65_536;
+
+/// A word of the server's own. It changes nothing.
+#[derive(Clone, Copy, PartialEq, Eq, Debug)]
+pub enum Dot {
+    /// Tells the report so far.
+    Report,
+    /// Tells what may be said.
+    Help,
+    /// Ends, as the end of the input does.
+    Quit,
+}
+
+/// What a line says.
+#[derive(Drop)]
+pub enum Heard {
+    /// What a line of a script says.
+    Line(Line),
+    /// A word of the server's own.
+    Dot(Dot),
+    /// Nothing that is done, for this fault.
+    Fault(LineFault),
+}
+
+/// Every word of the server's own.
+const DOTS: [Dot; 3] = [Dot::Report, Dot::Help, Dot::Quit];
+
+impl Dot {
+    /// The word.
+    fn word(self) -> &'static str
+        ensures { result.now ≡ dot_word self }
+    {
+        match self {
+            Dot::Report => ".report",
+            Dot::Help => ".help",
+            Dot::Quit => ".quit",
+        }
+    }
+}
+
+/// What a line says, which is given without its line feed.
+///
+/// # Errors
+///
+/// Memory ran out.
+pub fn hear(alloc: Global, line: &[u8]) -> Result<Heard, AllocError>
+    ensures { IfOk result (λ heard. heard ≡ heard_of line.now) }
+{
+    if line.len() > LINE_MAX {
+        return Ok(Heard::Fault(LineFault::TooLong));
+    }
+    if is_dotted(line) {
+        hear_dot(alloc, line)
+    } else {
+        hear_call(alloc, line)
+    }
+}
+
+/// Whether a line begins with a dot.
+fn is_dotted(line: &[u8]) -> bool
+    ensures { result ≡ is_dotted line.now }
+{
+    match line {
+        [] => false,
+        [first, ..] => *first == b'.',
+    }
+}
+
+/// What a line of a script says.
+fn hear_call(alloc: Global, line: &[u8]) -> Result<Heard, AllocError>
+    ensures { IfOk result (λ heard. heard ≡ call_heard (line_said line.now)) }
+{
+    match parse_line(alloc, line) {
+        Ok(said) => Ok(Heard::Line(said)),
+        Err(FaultKind::Memory) => Err(AllocError),
+        Err(kind) => Ok(Heard::Fault(LineFault::Kind(kind))),
+    }
+}
+
+/// What a line says that begins with a dot.
+fn hear_dot(alloc: Global, line: &[u8]) -> Result<Heard, AllocError>
+    ensures { IfOk result (λ heard. heard ≡ dot_heard (dot_said line.now)) }
+{
+    match dot_in(alloc, line) {
+        Ok(dot) => Ok(Heard::Dot(dot)),
+        Err(FaultKind::Memory) => Err(AllocError),
+        Err(kind) => Ok(Heard::Fault(LineFault::Kind(kind))),
+    }
+}
+
+/// The word of the server's own that a line is.
+fn dot_in(alloc: Global, line: &[u8]) -> Result<Dot, FaultKind>
+    ensures { Reads (dot_said line.now) result }
+{
+    let text = text_of(line)?;
+    let words = pieces(alloc, text, ' ')?;
+    dot_of(words.as_slice())
+}
+
+/// The word of the server's own that words are.
+fn dot_of(words: &[&str]) -> Result<Dot, FaultKind>
+    ensures { result ≡ dot_of (map (λ x. x.now) words.now) }
+{
+    let word = one_word(words)?;
+    match DOTS.iter().copied().find(|dot| dot.word() == word) {
+        Some(dot) => Ok(dot),
+        None => Err(FaultKind::Words),
+    }
+}

@@ -1,0 +1,34 @@
+//! What `.help` tells.
+
+ghost use Rattle.std.specs.Prelude.{◌≡◌, ◌++◌, OnOk};
+ghost use Rattle.lfs_live.specs.Telling.{ended_line, help_text};
+
+use std::alloc::AllocError;
+
+/// Appends the text of `.help`.
+#[tactic(auto, unfolding(crate::specs::Telling::help_text))]
+pub fn push_help(out: &mut Vec<u8>) -> Result<(), AllocError>
+    ensures { OnOk result (out.new.items ≡ out.old.items ++ help_text) }
+{
+    push_line(
+        out,
+        "A line is that of a script: a call, `as`, `session`, or `#` and a comment.",
+    )?;
+    push_line(
+        out,
+        ".report  how many calls were served, denied and refused so far",
+    )?;
+    push_line(out, ".help    these lines")?;
+    push_line(
+        out,
+        ".quit    ends with the report, as the end of the input does",
+    )
+}
+
+/// Appends a text and a line feed.
+fn push_line(out: &mut Vec<u8>, text: &str) -> Result<(), AllocError>
+    ensures { OnOk result (out.new.items ≡ out.old.items ++ ended_line text.now) }
+{
+    out.extend_from_slice(text.as_bytes())?;
+    out.extend_from_slice(b"\n")
+}

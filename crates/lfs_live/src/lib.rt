@@ -1,0 +1,11 @@
+//! A server that answers each line before it reads the next.
+#![tactic(auto)]
+
+pub mod fault;
+pub mod hearing;
+pub mod help;
+pub mod line;
+pub mod same;
+pub mod start;
+pub mod talk;
+pub mod telling;

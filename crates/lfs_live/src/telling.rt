@@ -1,0 +1,156 @@
+//! What a line does, and the text that is told of it.
+
+ghost use Rattle.std.specs.Prelude.{◌≡◌, [], Some, IfOk, MatchOption};
+ghost use Rattle.lfs_volume.specs.Cleanings.{cleaner_of};
+ghost use Rattle.lfs_audit.specs.Runs.{Tells};
+ghost use Rattle.lfs_live.specs.Hearing.{heard_of};
+ghost use Rattle.lfs_live.specs.Talking.{Does, Hears, first_speaker};
+ghost use Rattle.lfs_live.specs.Telling.{cut_text, dot_text, fault_line, help_text};
+ghost use Rattle.lfs_live.specs.declared.hearing.Dot.TheVariants.{Quit};
+ghost use Rattle.lfs_live.specs.declared.hearing.Heard.TheVariants as heard;
+
+use crate::fault::{LineFault, push_fault};
+use crate::hearing::{Dot, Heard, LINE_MAX, hear};
+use crate::help::push_help;
+use lfs_audit::passing::run_step;
+use lfs_print::report::report_counts;
+use lfs_script::plan::{Act, Line, Step};
+use lfs_types::cleaned::CleanedStore;
+use lfs_types::cred::Cred;
+use lfs_types::store::FileStore;
+use lfs_volume::volume::Volume;
+use lfs_words::caller::first_caller;
+use lfs_words::fault::FaultKind;
+use std::alloc::{AllocError, Global};
+
+/// Who speaks: the session and the credential of the lines that follow.
+#[derive(Clone, Copy, Debug)]
+pub struct Speaker {
+    /// The session, from 0 to 8.
+    pub session: u8,
+    /// Who asks.
+    pub cred: Cred,
+}
+
+impl Speaker {
+    /// Who speaks first: session 0, and the superuser with group 0, who is not init.
+    pub fn first() -> Speaker
+        ensures { result ≡ first_speaker }
+    {
+        Speaker {
+            session: 0,
+            cred: first_caller(),
+        }
+    }
+}
+
+/// Does what a line says, and gives the text that is told of it, or none for a line that quits. A line is given without
+/// its line feed.
+///
+/// # Errors
+///
+/// Memory ran out: before the line was read, or behind the calls of which no answer is told then.
+pub fn answer<F: CleanedStore + Drop>(
+    alloc: Global,
+    volume: &mut Volume<F>,
+    speaker: &mut Speaker,
+    line: &[u8],
+) -> Result<Option<Vec<u8>>, AllocError>
+    ensures { IfOk result (λ told. MatchOption told
+        ((heard_of line.now ≡ heard.Dot Quit) × (volume.new ≡ volume.old))
+        (λ text. Hears
+        (cleaner_of F.state F.gives_ifile F.gives_infos F.gives_addresses F.writes_again F.reclaims)
+        volume.old speaker.old (heard_of line.now) text.items volume.new speaker.new)) }
+{
+    match hear(alloc, line)? {
+        Heard::Line(said) => Ok(Some(obey(alloc, volume, speaker, said)?)),
+        Heard::Dot(dot) => tell_dot(alloc, volume, dot),
+        Heard::Fault(fault) => Ok(Some(tell_fault(alloc, fault)?)),
+    }
+}
+
+/// Does what a line of a script says, and gives the lines of the answers.
+fn obey<F: CleanedStore + Drop>(
+    alloc: Global,
+    volume: &mut Volume<F>,
+    speaker: &mut Speaker,
+    line: Line,
+) -> Result<Vec<u8>, AllocError>
+    ensures { IfOk result (λ text. Does
+        (cleaner_of F.state F.gives_ifile F.gives_infos F.gives_addresses F.writes_again F.reclaims)
+        volume.old speaker.old line text.items volume.new speaker.new) }
+{
+    match line {
+        Line::Nothing => {}
+        Line::Session(session) => speaker.session = session,
+        Line::Caller(cred) => speaker.cred = cred,
+        Line::Act(act) => return make(alloc, volume, speaker, act),
+    }
+    Ok(Vec::new(alloc))
+}
+
+/// Does what is asked, and gives the lines of the answers.
+fn make<F: CleanedStore + Drop>(
+    alloc: Global,
+    volume: &mut Volume<F>,
+    speaker: &Speaker,
+    act: Act,
+) -> Result<Vec<u8>, AllocError>
+    ensures { IfOk result (λ text. Tells
+        (cleaner_of F.state F.gives_ifile F.gives_infos F.gives_addresses F.writes_again F.reclaims)
+        volume.old volume.new speaker.now.session speaker.now.cred act [] text.items) }
+{
+    let Speaker { session, cred } = *speaker;
+    let mut text = Vec::new(alloc);
+    run_step(volume, Step { session, cred, act }, &mut text)?;
+    Ok(text)
+}
+
+/// The text that a word of the server's own tells, or none where it quits.
+fn tell_dot<F: FileStore + Drop>(
+    alloc: Global,
+    volume: &Volume<F>,
+    dot: Dot,
+) -> Result<Option<Vec<u8>>, AllocError>
+    ensures { IfOk result (λ told. MatchOption told
+        (dot ≡ Quit)
+        (λ text. dot_text dot volume.now.journal ≡ Some text.items)) }
+{
+    match dot {
+        Dot::Report => Ok(Some(report_counts(alloc, volume.counts())?)),
+        Dot::Help => Ok(Some(tell_help(alloc)?)),
+        Dot::Quit => Ok(None),
+    }
+}
+
+/// The text of `.help`.
+fn tell_help(alloc: Global) -> Result<Vec<u8>, AllocError>
+    ensures { IfOk result (λ text. text.items ≡ help_text) }
+{
+    let mut text = Vec::new(alloc);
+    push_help(&mut text)?;
+    Ok(text)
+}
+
+/// The line of a fault.
+fn tell_fault(alloc: Global, fault: LineFault) -> Result<Vec<u8>, AllocError>
+    ensures { IfOk result (λ text. text.items ≡ fault_line fault) }
+{
+    let mut text = Vec::new(alloc);
+    push_fault(&mut text, fault)?;
+    Ok(text)
+}
+
+/// The text that is told of what is behind the last line feed.
+pub(crate) fn tell_cut(alloc: Global, bytes: &[u8]) -> Result<Vec<u8>, AllocError>
+    ensures { IfOk result (λ text. text.items ≡ cut_text bytes.now) }
+{
+    if bytes.is_empty() {
+        return Ok(Vec::new(alloc));
+    }
+    if bytes.len() > LINE_MAX {
+        tell_fault(alloc, LineFault::TooLong)
+    } else {
+        tell_fault(alloc, LineFault::Kind(FaultKind::Cut))
+    }
+}
