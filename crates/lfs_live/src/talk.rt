@@ -34,11 +34,11 @@ pub fn talk<F: CleanedStore + Drop, R: Read, W: Write>(
     volume: &mut Volume<F>,
 ) -> Result<(), RunFault>
     ensures written { OnOk result (IsTalk
-        (cleaner_of F.state F.gives_ifile F.gives_infos F.gives_addresses F.writes_again F.reclaims)
+        (cleaner_of F.state F.is_settled F.gives_ifile F.gives_infos F.gives_addresses F.writes_again F.reclaims)
         volume.old volume.new (R.remaining reader.old) (R.remaining reader.new)
         (W.contents writer.old) (W.contents writer.new)) }
     ensures so_far { IfErr result (λ fault. fault ≡ Read → HasHeardSoFar
-        (cleaner_of F.state F.gives_ifile F.gives_infos F.gives_addresses F.writes_again F.reclaims)
+        (cleaner_of F.state F.is_settled F.gives_ifile F.gives_infos F.gives_addresses F.writes_again F.reclaims)
         volume.old volume.new (R.remaining reader.old) (R.remaining reader.new)
         (W.contents writer.old) (W.contents writer.new)) }
     ensures fault { IfErr result IsTalkFault }
@@ -56,11 +56,11 @@ fn hear_all<F: CleanedStore + Drop, R: Read, W: Write>(
     volume: &mut Volume<F>,
 ) -> Result<(), RunFault>
     ensures heard { OnOk result (HasHeardAll
-        (cleaner_of F.state F.gives_ifile F.gives_infos F.gives_addresses F.writes_again F.reclaims)
+        (cleaner_of F.state F.is_settled F.gives_ifile F.gives_infos F.gives_addresses F.writes_again F.reclaims)
         volume.old volume.new (R.remaining reader.old) (R.remaining reader.new)
         (W.contents writer.old) (W.contents writer.new)) }
     ensures so_far { IfErr result (λ fault. fault ≡ Read → HasHeardSoFar
-        (cleaner_of F.state F.gives_ifile F.gives_infos F.gives_addresses F.writes_again F.reclaims)
+        (cleaner_of F.state F.is_settled F.gives_ifile F.gives_infos F.gives_addresses F.writes_again F.reclaims)
         volume.old volume.new (R.remaining reader.old) (R.remaining reader.new)
         (W.contents writer.old) (W.contents writer.new)) }
     ensures fault { IfErr result IsTalkFault }
@@ -83,7 +83,7 @@ fn hear_next<F: CleanedStore + Drop, R: Read, W: Write>(
     speaker: &mut Speaker,
 ) -> Result<bool, RunFault>
     ensures next { IfOk result (λ goes_on. goes_on ≡ true → HearsNext
-        (cleaner_of F.state F.gives_ifile F.gives_infos F.gives_addresses F.writes_again F.reclaims)
+        (cleaner_of F.state F.is_settled F.gives_ifile F.gives_infos F.gives_addresses F.writes_again F.reclaims)
         volume.old volume.new speaker.old speaker.new (R.remaining reader.old) (R.remaining reader.new)
         (W.contents writer.old) (W.contents writer.new)) }
     ensures last { IfOk result (λ goes_on. goes_on ≡ false → (volume.new ≡ volume.old) × HearsLast
@@ -110,7 +110,7 @@ fn hear_line<F: CleanedStore + Drop, W: Write>(
     line: &[u8],
 ) -> Result<bool, RunFault>
     ensures told { IfOk result (λ goes_on. goes_on ≡ true → IsTold
-        (cleaner_of F.state F.gives_ifile F.gives_infos F.gives_addresses F.writes_again F.reclaims)
+        (cleaner_of F.state F.is_settled F.gives_ifile F.gives_infos F.gives_addresses F.writes_again F.reclaims)
         volume.old volume.new speaker.old speaker.new (heard_of line.now)
         (W.contents writer.old) (W.contents writer.new)) }
     ensures quits { IfOk result (λ goes_on. goes_on ≡ false → (volume.new ≡ volume.old)

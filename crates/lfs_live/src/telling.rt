@@ -59,7 +59,7 @@ pub fn answer<F: CleanedStore + Drop>(
     ensures { IfOk result (λ told. MatchOption told
         ((heard_of line.now ≡ heard.Dot Quit) × (volume.new ≡ volume.old))
         (λ text. Hears
-        (cleaner_of F.state F.gives_ifile F.gives_infos F.gives_addresses F.writes_again F.reclaims)
+        (cleaner_of F.state F.is_settled F.gives_ifile F.gives_infos F.gives_addresses F.writes_again F.reclaims)
         volume.old speaker.old (heard_of line.now) text.items volume.new speaker.new)) }
 {
     match hear(alloc, line)? {
@@ -77,7 +77,7 @@ fn obey<F: CleanedStore + Drop>(
     line: Line,
 ) -> Result<Vec<u8>, AllocError>
     ensures { IfOk result (λ text. Does
-        (cleaner_of F.state F.gives_ifile F.gives_infos F.gives_addresses F.writes_again F.reclaims)
+        (cleaner_of F.state F.is_settled F.gives_ifile F.gives_infos F.gives_addresses F.writes_again F.reclaims)
         volume.old speaker.old line text.items volume.new speaker.new) }
 {
     match line {
@@ -97,7 +97,7 @@ fn make<F: CleanedStore + Drop>(
     act: Act,
 ) -> Result<Vec<u8>, AllocError>
     ensures { IfOk result (λ text. Tells
-        (cleaner_of F.state F.gives_ifile F.gives_infos F.gives_addresses F.writes_again F.reclaims)
+        (cleaner_of F.state F.is_settled F.gives_ifile F.gives_infos F.gives_addresses F.writes_again F.reclaims)
         volume.old volume.new speaker.now.session speaker.now.cred act [] text.items) }
 {
     let Speaker { session, cred } = *speaker;
