@@ -1,3 +1,4 @@
+pub mod FaultLemmas
 pub mod RunLemmas
 pub mod ThreadLemmas
 pub mod ScriptLemmas

@@ -4,13 +4,11 @@ use Rattle.std.specs.Io.KnownBytes.{Appends}
 use Rattle.lfs_staging.specs.declared.parts.Parts.{Parts}
 use Rattle.lfs_logstore.specs.States.{opening_state, state_of}
 use Rattle.lfs_script.specs.PlanTypes.{Planned}
-use Rattle.lfs_script.specs.Plans.{plan_of}
 use Rattle.lfs_script.specs.declared.plan.Step.{Step}
-use Rattle.lfs_audit.specs.Faults.{MayHaveWritten}
+use Rattle.lfs_audit.specs.Faults.{IsRead, MayHaveWritten}
 use Rattle.lfs_audit.specs.Output.{IsRun}
-use Rattle.lfs_audit.specs.Scripts.{IsLogOutput, IsScriptFault, log_cleaner}
+use Rattle.lfs_audit.specs.Scripts.{IsLogOutput, log_cleaner}
 use Rattle.lfs_audit.specs.declared.fault.RunFault.{RunFault}
-use Rattle.lfs_audit.specs.declared.fault.RunFault.TheVariants.{Read, TooLong, Script, Format, Memory, Write}
 
 -- a result that is Ok is no fault
 pub no_fault : {A E : Type 0} (a : A) (e : E) → Ok a ≡ Err e → ⊥
@@ -18,32 +16,19 @@ no_fault {A} {E} a e eq = subst (λ (r : Result A E). IfOk r (λ _. ⊥)) (sym e
 
 -- what a run of the steps of a plan printed, a run of its script prints
 pub log_run : (script : Option (List ℕ)) (plan : Planned) (steps : List Step) (most : ℕ) (store : Parts) (segments inodes limit : ℕ) (old new : Option (List ℕ))
-    → IfSome script (λ s. plan_of s ≡ Ok plan) → steps ≡ plan.steps → most ≡ limit → state_of store ≡ opening_state segments inodes
+    → IfSome script (λ s. IsRead s plan) → steps ≡ plan.steps → most ≡ limit → state_of store ≡ opening_state segments inodes
     → (text : List ℕ) × IsRun log_cleaner most store steps text × Appends old new text
     → IfSome script (λ s. (text : List ℕ) × IsLogOutput s segments inodes limit text × Appends old new text)
-log_run None plan steps most store segments inodes limit old new parsed asked limits opening run = tt
-log_run (Some s) plan steps most store segments inodes limit old new parsed asked limits opening (text, run, written) =
+log_run None plan steps most store segments inodes limit old new read asked limits opening run = tt
+log_run (Some s) plan steps most store segments inodes limit old new read asked limits opening (text, run, written) =
     let of_plan : IsRun log_cleaner most store plan.steps text = subst (λ (asks : List Step). IsRun log_cleaner most store asks text) asked run in
     let limited : IsRun log_cleaner limit store plan.steps text = subst (λ (l : ℕ). IsRun log_cleaner l store plan.steps text) limits of_plan in (
       text,
-      record { store = store; opening = opening; output = record { plan = plan; parsed = parsed; run = limited } },
+      record { store = store; opening = opening; output = record { plan = plan; parsed = read.parsed; run = limited } },
       written,
     )
 
-late_fault : (script : Option (List ℕ)) (segments inodes frames : ℕ) (fault : RunFault) → MayHaveWritten fault → IsScriptFault script segments inodes frames fault
-late_fault script segments inodes frames Read p = absurd p
-late_fault script segments inodes frames TooLong p = absurd p
-late_fault script segments inodes frames (Script fault) p = absurd p
-late_fault script segments inodes frames (Format fault) p = absurd p
-late_fault script segments inodes frames Memory p = tt
-late_fault script segments inodes frames Write p = tt
-
--- a fault once something may have been written is one of the run
-pub late_faults : {A : Type 0} (script : Option (List ℕ)) (segments inodes frames : ℕ) (result : Result A RunFault) → IfErr result MayHaveWritten → IfErr result (IsScriptFault script segments inodes frames)
-late_faults script segments inodes frames (Ok a) p = tt
-late_faults script segments inodes frames (Err fault) p = late_fault script segments inodes frames fault p
-
--- and says nothing of what was written
+-- a fault once something may have been written says nothing of what was
 pub late_silence : {A : Type 0} (X : Type 0) (result : Result A RunFault) → IfErr result MayHaveWritten → IfErr result (λ fault. (MayHaveWritten fault → ⊥) → X)
 late_silence X (Ok a) p = tt
 late_silence X (Err fault) p = λ not. absurd (not p)

@@ -1,5 +1,5 @@
 -- What a run on threads prints, line by line and session by session.
-use Rattle.std.proofs.Common.{Result, Err, IfErr, OnOk, ◌≡◌, ℕ, zero, suc, ◌+◌, ◌-◌, ◌<◌, ◌≤◌, Bool, List, [], ◌∷◌, ◌++◌, length, map, take, get_or, Option, None, Some, IfSome, Ok, refl, sym, ap, subst, ◌∙◌, arith, append_assoc, append-nil, false}
+use Rattle.std.proofs.Common.{Result, Err, IfErr, OnOk, ◌≡◌, ℕ, zero, suc, ◌+◌, ◌-◌, ◌<◌, ◌≤◌, Bool, List, [], ◌∷◌, ◌++◌, length, map, take, get_or, Option, IfSome, Ok, refl, sym, ap, subst, ◌∙◌, arith, append_assoc, append-nil, false}
 use Rattle.std.proofs.lemmas.Grind.{flat_map-append}
 use Rattle.std.proofs.lemmas.List.{length-map, take_more}
 use Rattle.std.specs.Io.KnownBytes.{Appends, Keeps, append_known}
@@ -8,17 +8,21 @@ use Rattle.std.specs.List.{list_any, slice_get}
 use Rattle.std.proofs.KnownBytes.{Appends-kept, Appends-trans}
 use Rattle.lfs_types.specs.Caller.{Caller}
 use Rattle.lfs_types.specs.StoreStates.{Shape}
+use Rattle.lfs_types.specs.Tree.{opening_world}
 use Rattle.lfs_types.specs.declared.answer.Answer.{Answer}
 use Rattle.lfs_types.specs.declared.request.Request.{Request}
+use Rattle.lfs_logstore.specs.States.{shape_of}
+use Rattle.lfs_model.specs.Steps.{IsLegal}
 use Rattle.lfs_model.specs.declared.journal.Entry.{Entry}
 use Rattle.lfs_settle.specs.Interleaving.{Agrees, IsInterleaving, Run, is_full, later_entries, run_of}
 use Rattle.lfs_print.specs.AnswerText.{answer_line}
 use Rattle.lfs_script.specs.PlanTypes.{Planned}
-use Rattle.lfs_script.specs.Plans.{plan_of}
 use Rattle.lfs_print.specs.ReportText.{report_text}
 use Rattle.lfs_script.specs.Splitting.{Sorts, is_of_cleaner}
+use Rattle.lfs_audit.specs.Faults.{IsRead}
 use Rattle.lfs_audit.specs.declared.fault.ThreadsFault.{ThreadsFault}
 use Rattle.lfs_audit.specs.Threads.{IsClosedText, IsSplit, IsThreadsOutput, MayHaveWrittenThreads, closed_text, transcript_text, transcripts_text}
+use Rattle.lfs_audit.proofs.FaultLemmas.{if_some}
 use Rattle.lfs_audit.proofs.RunLemmas.{collected, from_start}
 
 -- the lines of one more answer
@@ -117,41 +121,35 @@ transcripts_few run interleaved =
     let back : suc k - 1 ≡ k = omega arith in
     (suc k, subst (λ (n : ℕ). Agrees (is_full run) (later_entries run) (suc k) (slice_get run.scripts n) (slice_get run.transcripts n)) back (interleaved.sessions (suc k) (omega arith))))
 
--- what holds of a value that is known
-if-some : {A : Type 0} (known : Option A) (p : A → Type 0) (q : A → Type 0) → IfSome known p → ((a : A) → p a → q a) → IfSome known q
-if-some None p q holds next = tt
-if-some (Some a) p q holds next = next a holds
-
 -- a plan was split
 pub plan_split : (known : Option (List ℕ)) (plan : Planned) (setup : List (Caller × Request)) (scripts : List (List (Caller × Request)))
-    → IfSome known (λ script. plan_of script ≡ Ok plan) → list_any is_of_cleaner plan.steps ≡ false → length scripts ≡ plan.sessions
+    → IfSome known (λ script. IsRead script plan) → list_any is_of_cleaner plan.steps ≡ false → length scripts ≡ plan.sessions
     → Sorts plan.steps (plan.sessions + 1) (setup ∷ scripts) → IfSome known (λ script. IsSplit script setup scripts)
 plan_split known plan setup scripts parsed users count sorted =
-    if-some known (λ script. plan_of script ≡ Ok plan) (λ script. IsSplit script setup scripts) parsed
+    if_some known (λ script. IsRead script plan) (λ script. IsSplit script setup scripts) parsed
     (λ script is. record {
       plan = plan;
-      parsed = is;
+      read = is;
       users = users;
       count = count;
       sorted = sorted;
     })
 
 -- a run on threads was settled, and its text is written
-pub threads_run : (known : Option (List ℕ)) (shape : Shape) (journal : List Entry) (limit after_limit : ℕ) (setup : List (Caller × Request)) (sessions : List (List (Caller × Request)))
+pub threads_run : (known : Option (List ℕ)) (shape : Shape) (segments inodes : ℕ) (journal : List Entry) (limit after_limit : ℕ) (setup : List (Caller × Request)) (sessions : List (List (Caller × Request)))
     (answers : List Answer) (transcripts : List (Vec Answer)) (start left : Option (List ℕ))
     → IfSome known (λ script. IsSplit script setup sessions) → IsInterleaving (run_of journal after_limit setup answers sessions transcripts)
-    → after_limit ≡ limit → IsClosedText shape journal answers transcripts start left
-    → IfSome known (λ script. (text : List ℕ) × IsThreadsOutput script limit text × Appends start left text)
-threads_run known shape journal limit after_limit setup sessions answers transcripts start left split interleaved same closed =
-    if-some known (λ script. IsSplit script setup sessions) (λ script. (text : List ℕ) × IsThreadsOutput script limit text × Appends start left text) split
+    → after_limit ≡ limit → shape ≡ shape_of inodes segments → IsClosedText shape journal answers transcripts start left
+    → IfSome known (λ script. (text : List ℕ) × IsThreadsOutput script segments inodes limit text × Appends start left text)
+threads_run known shape segments inodes journal limit after_limit setup sessions answers transcripts start left split interleaved same shaped closed =
+    if_some known (λ script. IsSplit script setup sessions) (λ script. (text : List ℕ) × IsThreadsOutput script segments inodes limit text × Appends start left text) split
     (λ script is. (
       closed_text journal answers (map (λ (transcript : Vec Answer). transcript.items) transcripts),
       record {
         run = run_of journal after_limit setup answers sessions transcripts;
-        shape = shape;
         split = is;
         limited = same;
-        legal = closed.legal;
+        legal = subst (λ (s : Shape). IsLegal s.numbers s.segments journal opening_world) shaped closed.legal;
         interleaved = interleaved;
         printed = refl;
       },

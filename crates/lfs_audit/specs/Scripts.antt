@@ -9,10 +9,11 @@ use Rattle.lfs_logstore.specs.Cleaning.{GivesAddresses, GivesIfile, GivesInfos, 
 use Rattle.lfs_logstore.specs.Marking.{WritesAgain}
 use Rattle.lfs_logstore.specs.States.{opening_state, state_of}
 use Rattle.lfs_volume.specs.Cleanings.{Cleaner, cleaner_of}
-use Rattle.lfs_audit.specs.Faults.{IsFaultOf}
+use Rattle.lfs_server.specs.Serving.{IsInRange}
+use Rattle.lfs_audit.specs.Faults.{HasPlan, IsReadingFault}
 use Rattle.lfs_audit.specs.Output.{IsOutput}
 use Rattle.lfs_audit.specs.declared.fault.RunFault.{RunFault}
-use Rattle.lfs_audit.specs.declared.fault.RunFault.TheVariants.{Format, Memory}
+use Rattle.lfs_audit.specs.declared.fault.RunFault.TheVariants.{Format, Memory, Write}
 
 -- the log store as a kind of store
 abbrev pub log_cleaner : Cleaner Parts
@@ -23,11 +24,6 @@ pub record IsLogOutput (script : List ℕ) (segments inodes limit : ℕ) (text :
   pub store : Parts
   pub opening : state_of store ≡ opening_state segments inodes
   pub output : IsOutput log_cleaner script limit store text
-
--- the numbers of segments, inode numbers and frames are all in their ranges
-pub record IsInRange (segments inodes frames : ℕ) : Type 0 where
-  pub enough : IsTooFew segments inodes frames → ⊥
-  pub not_more : IsTooMany segments inodes frames → ⊥
 
 -- a log of so many segments, inode numbers and frames may not be laid out for this fault
 abbrev pub IsFormatFault : ℕ → ℕ → ℕ → FormatFault → Type 0
@@ -41,7 +37,9 @@ IsLayoutFault segments inodes frames (Format fault) = IsFormatFault segments ino
 IsLayoutFault segments inodes frames Memory = IsInRange segments inodes frames
 IsLayoutFault segments inodes frames fault = ⊥
 
--- a run of a script of these bytes, where they are known, on a fresh volume over such a log may end in this fault
+-- a run of a script of these bytes, where they are known, on a fresh volume over such a log may end in this fault: the log is
+-- laid out only once the script is parsed, and something is written only once the log is laid out
 abbrev pub IsScriptFault : Option (List ℕ) → ℕ → ℕ → ℕ → RunFault → Type 0
-IsScriptFault script segments inodes frames (Format fault) = IsFormatFault segments inodes frames fault
-IsScriptFault script segments inodes frames fault = IsFaultOf script fault
+IsScriptFault script segments inodes frames (Format fault) = HasPlan script × IsFormatFault segments inodes frames fault
+IsScriptFault script segments inodes frames Write = HasPlan script × IsInRange segments inodes frames
+IsScriptFault script segments inodes frames fault = IsReadingFault script fault

@@ -1,5 +1,5 @@
 -- What a run of a script on threads prints.
-use Rattle.std.specs.Prelude.{◌≡◌, ℕ, ◌+◌, false, List, [], ◌∷◌, ◌++◌, length, map, Option, Ok}
+use Rattle.std.specs.Prelude.{◌≡◌, ℕ, ◌+◌, ◌<◌, ◌≤◌, true, false, List, [], ◌∷◌, ◌++◌, length, map, Option, IfSome}
 use Rattle.std.specs.Global.{Vec}
 use Rattle.std.specs.Io.KnownBytes.{Appends}
 use Rattle.std.specs.List.{flat_map, list_any}
@@ -13,10 +13,11 @@ use Rattle.lfs_model.specs.declared.journal.Entry.{Entry}
 use Rattle.lfs_settle.specs.Interleaving.{IsInterleaving, Run}
 use Rattle.lfs_print.specs.AnswerText.{answer_line}
 use Rattle.lfs_script.specs.PlanTypes.{Planned}
-use Rattle.lfs_script.specs.Plans.{plan_of}
 use Rattle.lfs_print.specs.ReportText.{report_text}
 use Rattle.lfs_script.specs.Splitting.{Sorts, is_of_cleaner}
-use Rattle.lfs_audit.specs.Faults.{MayHaveWritten}
+use Rattle.lfs_server.specs.Serving.{IsInRange, IsServeFault}
+use Rattle.lfs_audit.specs.Faults.{IsRead, IsReadingFault, MayHaveWritten}
+use Rattle.lfs_audit.specs.declared.fault.RunFault.TheVariants.{Write}
 use Rattle.lfs_audit.specs.declared.fault.ThreadsFault.{ThreadsFault}
 use Rattle.lfs_audit.specs.declared.fault.ThreadsFault.TheVariants as threads
 
@@ -48,19 +49,50 @@ pub record IsClosedText (shape : Shape) (journal : List Entry) (setup : List Ans
 -- session, from 1 to the highest that a line names
 pub record IsSplit (script : List ℕ) (setup : List (Caller × Request)) (scripts : List (List (Caller × Request))) : Type 0 where
   pub plan : Planned
-  pub parsed : plan_of script ≡ Ok plan
+  pub read : IsRead script plan
   pub users : list_any is_of_cleaner plan.steps ≡ false
   pub count : length scripts ≡ plan.sessions
   pub sorted : Sorts plan.steps (plan.sessions + 1) (setup ∷ scripts)
 
--- A text is that of a run of a script on threads, on a volume whose journal may have so many entries: the setup and the
--- scripts are the script's, split; the journal is legal from the opening tree and an interleaving of them with these answers,
--- of which the lines are printed, and the report.
-pub record IsThreadsOutput (script : List ℕ) (limit : ℕ) (text : List ℕ) : Type 0 where
+-- A text is that of a run of a script on threads, on a volume of so many segments and inode numbers whose journal may have so
+-- many entries: the setup and the scripts are the script's, split; the journal is legal from the opening tree and an
+-- interleaving of them with these answers, of which the lines are printed, and the report.
+pub record IsThreadsOutput (script : List ℕ) (segments inodes limit : ℕ) (text : List ℕ) : Type 0 where
   pub run : Run
-  pub shape : Shape
   pub split : IsSplit script run.setup run.scripts
   pub limited : run.limit ≡ limit
-  pub legal : IsLegal shape.numbers shape.segments run.journal opening_world
+  pub legal : IsLegal inodes segments run.journal opening_world
   pub interleaved : IsInterleaving run
   pub printed : text ≡ closed_text run.journal run.answers run.transcripts
+
+-- ---- faults
+
+-- a line of a script asks for a call of the cleaner, or for a pass
+pub record HasCleanerLine (script : List ℕ) : Type 0 where
+  pub plan : Planned
+  pub read : IsRead script plan
+  pub cleaner : list_any is_of_cleaner plan.steps ≡ true
+
+-- no line of a script does, and it has so many sessions
+pub record HasSessions (script : List ℕ) (sessions : ℕ) : Type 0 where
+  pub plan : Planned
+  pub read : IsRead script plan
+  pub users : list_any is_of_cleaner plan.steps ≡ false
+  pub count : sessions ≡ plan.sessions
+
+-- a script of these bytes, where they are known, may not be split for this fault
+abbrev pub IsSplittingFault : Option (List ℕ) → ThreadsFault → Type 0
+IsSplittingFault script (threads.Run fault) = IsReadingFault script fault
+IsSplittingFault script threads.CleanerLine = IfSome script HasCleanerLine
+IsSplittingFault script (threads.Serve fault) = ⊥
+
+-- a run of such a script on threads, on a volume over a log of so many segments, inode numbers and frames, may end in this
+-- fault, of which an earlier one here comes before a later one: those of reading and parsing, a line of the cleaner's, those of
+-- serving, a write that failed; memory may run out at any step
+abbrev pub IsThreadsFault : Option (List ℕ) → ℕ → ℕ → ℕ → ThreadsFault → Type 0
+IsThreadsFault script segments inodes frames (threads.Run Write) =
+    IfSome script (λ bytes. (sessions : ℕ) × HasSessions bytes sessions × (0 < sessions) × (sessions ≤ 8)) × IsInRange segments inodes frames
+IsThreadsFault script segments inodes frames (threads.Run fault) = IsReadingFault script fault
+IsThreadsFault script segments inodes frames threads.CleanerLine = IfSome script HasCleanerLine
+IsThreadsFault script segments inodes frames (threads.Serve fault) =
+    IfSome script (λ bytes. (sessions : ℕ) × HasSessions bytes sessions × IsServeFault sessions segments inodes frames fault)

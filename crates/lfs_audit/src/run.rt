@@ -1,13 +1,12 @@
 //! Running a script.
 
-ghost use Rattle.std.specs.Prelude.{◌≡◌, ◌<◌, ◌^◌, ℕ, List, [], Ok, length, IfErr, IfOk, IfSome, OnOk};
+ghost use Rattle.std.specs.Prelude.{◌≡◌, ◌<◌, ◌^◌, ℕ, List, [], length, IfErr, IfOk, IfSome, OnOk};
 ghost use Rattle.std.specs.Io.KnownBytes.{Appends, Keeps, append_known};
 ghost use Rattle.lfs_types.specs.Tree.{opening_world};
 ghost use Rattle.lfs_model.specs.Steps.{IsLegal};
 ghost use Rattle.lfs_print.specs.ReportText.{report_text};
-ghost use Rattle.lfs_script.specs.Plans.{plan_of};
 ghost use Rattle.lfs_volume.specs.Cleanings.{cleaner_of};
-ghost use Rattle.lfs_audit.specs.Faults.{IsFaultOf, MayHaveWritten};
+ghost use Rattle.lfs_audit.specs.Faults.{IsFaultOf, IsRead, IsReadingFault, MayHaveWritten};
 ghost use Rattle.lfs_audit.specs.Output.{IsOutput, IsRun};
 ghost use Rattle.lfs_audit.specs.Runs.{Writes};
 
@@ -48,9 +47,8 @@ pub fn run_over<F: CleanedStore + Drop, R: Read, W: Write>(
 
 /// Reads a script whole, and gives its plan.
 pub fn read_plan<R: Read>(alloc: Global, reader: &mut R) -> Result<Plan, RunFault>
-    ensures plan { IfSome (R.remaining reader.old)
-        (λ script. IfOk result (λ plan. plan_of script ≡ Ok plan)) }
-    ensures fault { IfErr result (IsFaultOf (R.remaining reader.old)) }
+    ensures plan { IfSome (R.remaining reader.old) (λ script. IfOk result (IsRead script)) }
+    ensures fault { IfErr result (IsReadingFault (R.remaining reader.old)) }
 {
     let script = read_script(alloc, reader)?;
     match parse_script(alloc, script.as_slice()) {

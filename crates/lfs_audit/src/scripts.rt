@@ -3,8 +3,9 @@
 ghost use Rattle.std.specs.Prelude.{◌≡◌, ℕ, List, [], IfErr, IfOk, IfSome, OnOk};
 ghost use Rattle.std.specs.Io.KnownBytes.{Appends, Keeps};
 ghost use Rattle.lfs_logstore.specs.States.{opening_state, state_of};
+ghost use Rattle.lfs_server.specs.Serving.{IsInRange};
 ghost use Rattle.lfs_audit.specs.Faults.{MayHaveWritten};
-ghost use Rattle.lfs_audit.specs.Scripts.{IsInRange, IsLayoutFault, IsLogOutput, IsScriptFault};
+ghost use Rattle.lfs_audit.specs.Scripts.{IsLayoutFault, IsLogOutput, IsScriptFault};
 
 use crate::fault::RunFault;
 use crate::run::{read_plan, run_plan};

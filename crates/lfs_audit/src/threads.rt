@@ -5,7 +5,7 @@ ghost use Rattle.std.specs.Global.{Vec};
 ghost use Rattle.std.specs.Io.KnownBytes.{Appends, Keeps, append_known};
 ghost use Rattle.lfs_types.specs.declared.answer.Answer.{Answer};
 ghost use Rattle.lfs_audit.specs.Faults.{MayHaveWritten};
-ghost use Rattle.lfs_audit.specs.Threads.{IsClosedText, IsSplit, IsThreadsOutput, MayHaveWrittenThreads, transcript_text, transcripts_text};
+ghost use Rattle.lfs_audit.specs.Threads.{IsClosedText, IsSplit, IsSplittingFault, IsThreadsFault, IsThreadsOutput, MayHaveWrittenThreads, transcript_text, transcripts_text};
 
 use crate::fault::{RunFault, ThreadsFault};
 use crate::run::{print_report, read_plan};
@@ -37,8 +37,10 @@ where
     R: Read,
     W: Write,
     ensures written { OnOk result (IfSome (R.remaining reader.old) (λ script. (text : List ℕ)
-        × IsThreadsOutput script params.journal text
+        × IsThreadsOutput script params.segments params.inodes params.journal text
         × Appends (W.contents writer.old) (W.contents writer.new) text)) }
+    ensures fault { IfErr result
+        (IsThreadsFault (R.remaining reader.old) params.segments params.inodes params.frames) }
     ensures unwritten { IfErr result (λ fault. (MayHaveWrittenThreads fault → ⊥)
         → Keeps (W.contents writer.old) (W.contents writer.new)) }
 {
@@ -52,8 +54,9 @@ fn read_sessions<R: Read>(
     alloc: Global,
     reader: &mut R,
 ) -> Result<(Script, Vec<Script>), ThreadsFault>
-    ensures { IfSome (R.remaining reader.old) (λ script.
+    ensures split { IfSome (R.remaining reader.old) (λ script.
         IfOk result (λ both. IsSplit script both.0 both.1.items)) }
+    ensures fault { IfErr result (IsSplittingFault (R.remaining reader.old)) }
 {
     let plan = read_plan(alloc, reader)?;
     Ok(plan.split(alloc)?)

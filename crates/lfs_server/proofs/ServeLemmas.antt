@@ -1,17 +1,26 @@
--- Faults of a run on a volume that was laid out for it.
-use Rattle.std.proofs.Common.{ℕ, Result, Ok, Err, IfErr}
-use Rattle.lfs_server.specs.Serving.{IsFaultOf, IsServeFault}
+-- Faults of a run on a volume that was laid out for it, and results that are Ok.
+use Rattle.std.proofs.Common.{◌≡◌, ℕ, Result, Ok, Err, IfErr, IfOk, OnOk, sym, subst}
+use Rattle.lfs_server.specs.Serving.{IsFaultOf, IsInRange, IsServeFault}
 use Rattle.lfs_server.specs.declared.serving.ServeFault.{ServeFault}
 use Rattle.lfs_server.specs.declared.serving.ServeFault.TheVariants.{Sessions, Format, Memory, Unsettled, Thread}
 
-serve_fault : (sessions segments inodes frames : ℕ) (fault : ServeFault) → IsFaultOf sessions fault → IsServeFault sessions segments inodes frames fault
-serve_fault sessions segments inodes frames Sessions p = p
-serve_fault sessions segments inodes frames (Format fault) (run, some, few) = absurd run
-serve_fault sessions segments inodes frames Memory (run, some, few) = (some, few)
-serve_fault sessions segments inodes frames (Unsettled session) (run, some, few) = (some, few)
-serve_fault sessions segments inodes frames Thread (run, some, few) = (some, few)
+serve_fault : (sessions segments inodes frames : ℕ) (fault : ServeFault) → IsInRange segments inodes frames → IsFaultOf sessions fault → IsServeFault sessions segments inodes frames fault
+serve_fault sessions segments inodes frames Sessions ranges p = p
+serve_fault sessions segments inodes frames (Format fault) ranges (run, some, few) = absurd run
+serve_fault sessions segments inodes frames Memory ranges (run, some, few) = (some, few, ranges)
+serve_fault sessions segments inodes frames (Unsettled session) ranges (run, some, few) = (some, few, ranges)
+serve_fault sessions segments inodes frames Thread ranges (run, some, few) = (some, few, ranges)
 
 -- the fault of a run over a volume is one of the run on a volume that is laid out
-pub serve_faults : {A : Type 0} (sessions segments inodes frames : ℕ) (result : Result A ServeFault) → IfErr result (IsFaultOf sessions) → IfErr result (IsServeFault sessions segments inodes frames)
-serve_faults sessions segments inodes frames (Ok a) p = tt
-serve_faults sessions segments inodes frames (Err fault) p = serve_fault sessions segments inodes frames fault p
+pub serve_faults : {A : Type 0} (sessions segments inodes frames : ℕ) (result : Result A ServeFault) → IsInRange segments inodes frames → IfErr result (IsFaultOf sessions) → IfErr result (IsServeFault sessions segments inodes frames)
+serve_faults sessions segments inodes frames (Ok a) ranges p = tt
+serve_faults sessions segments inodes frames (Err fault) ranges p = serve_fault sessions segments inodes frames fault ranges p
+
+-- what holds holds where a result is Ok
+pub on_ok : {A E P : Type 0} (result : Result A E) → P → OnOk result P
+on_ok (Ok a) p = p
+on_ok (Err e) p = tt
+
+-- a result that is Ok is no fault
+pub no_fault : {A E : Type 0} (a : A) (e : E) → Ok a ≡ Err e → ⊥
+no_fault {A} {E} a e eq = subst (λ (r : Result A E). IfOk r (λ _. ⊥)) (sym eq) tt

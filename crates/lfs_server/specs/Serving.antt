@@ -1,9 +1,10 @@
 -- Why a run is not handed out.
 use Rattle.std.specs.Prelude.{◌≡◌, ℕ, ◌<◌, ◌≤◌, ◌⊎◌}
 use Rattle.lfs_types.specs.declared.fault.FormatFault.TheVariants.{TooFew, TooMany}
+use Rattle.lfs_settle.specs.Interleaving.{IsLowestToDiffer, Run}
 use Rattle.lfs_staging.specs.Opening.{IsTooFew, IsTooMany}
 use Rattle.lfs_server.specs.declared.serving.ServeFault.{ServeFault}
-use Rattle.lfs_server.specs.declared.serving.ServeFault.TheVariants.{Sessions, Format, Memory}
+use Rattle.lfs_server.specs.declared.serving.ServeFault.TheVariants.{Sessions, Format, Memory, Unsettled}
 
 -- the fault of a run that was begun
 abbrev pub IsRunFault : ServeFault → Type 0
@@ -11,23 +12,33 @@ IsRunFault Sessions = ⊥
 IsRunFault (Format fault) = ⊥
 IsRunFault fault = Unit {0}
 
+-- the fault of handing out what this run left: its journal is not as the lowest session was answered that differs
+abbrev pub IsClosingFault : Run → ServeFault → Type 0
+IsClosingFault run (Unsettled session) = IsLowestToDiffer run session
+IsClosingFault run fault = ⊥
+
 -- the fault of a run of so many sessions over a volume: Sessions for none and for more than eight, and then alone
 abbrev pub IsFaultOf : ℕ → ServeFault → Type 0
 IsFaultOf sessions Sessions = (sessions ≡ 0) ⊎ (8 < sessions)
 IsFaultOf sessions fault = IsRunFault fault × (0 < sessions) × (sessions ≤ 8)
 
+-- the numbers of segments, inode numbers and frames are all in their ranges
+pub record IsInRange (segments inodes frames : ℕ) : Type 0 where
+  pub enough : IsTooFew segments inodes frames → ⊥
+  pub not_more : IsTooMany segments inodes frames → ⊥
+
 -- the fault of laying out a volume with so many segments, inode numbers and frames: Format for numbers out of their ranges
 abbrev pub IsLayoutFault : ℕ → ℕ → ℕ → ServeFault → Type 0
 IsLayoutFault segments inodes frames (Format TooFew) = IsTooFew segments inodes frames
 IsLayoutFault segments inodes frames (Format TooMany) = IsTooMany segments inodes frames
-IsLayoutFault segments inodes frames Memory = Unit {0}
+IsLayoutFault segments inodes frames Memory = IsInRange segments inodes frames
 IsLayoutFault segments inodes frames fault = ⊥
 
--- the fault of a run of so many sessions on a volume that is laid out for it: Sessions as above; Format for numbers of
--- segments, inode numbers and frames out of their ranges
+-- the fault of a run of so many sessions on a volume that is laid out for it: Sessions as above; else Format for numbers of
+-- segments, inode numbers and frames out of their ranges, and for these alone
 abbrev pub IsServeFault : ℕ → ℕ → ℕ → ℕ → ServeFault → Type 0
 IsServeFault sessions segments inodes frames Sessions = (sessions ≡ 0) ⊎ (8 < sessions)
 IsServeFault sessions segments inodes frames (Format TooFew) = IsTooFew segments inodes frames × (0 < sessions) × (sessions ≤ 8)
 IsServeFault sessions segments inodes frames (Format TooMany) = IsTooMany segments inodes frames × (0 < sessions) × (sessions ≤ 8)
 IsServeFault sessions segments inodes frames (Format fault) = ⊥
-IsServeFault sessions segments inodes frames fault = (0 < sessions) × (sessions ≤ 8)
+IsServeFault sessions segments inodes frames fault = (0 < sessions) × (sessions ≤ 8) × IsInRange segments inodes frames

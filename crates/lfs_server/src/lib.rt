@@ -4,6 +4,8 @@
 mod cleaner;
 mod doorbell;
 pub mod gate;
+mod kept;
+mod run;
 pub mod serve;
 pub mod serving;
 mod session;

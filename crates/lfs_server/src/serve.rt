@@ -1,9 +1,9 @@
 //! A run over a fresh volume on the log store.
 
 ghost use Rattle.std.specs.Prelude.{◌≡◌, ◌≤◌, ◌<◌, IfErr, IfOk, OnOk, vec_len};
-ghost use Rattle.lfs_logstore.specs.States.{state_of};
+ghost use Rattle.lfs_logstore.specs.States.{shape_of, state_of};
 ghost use Rattle.lfs_settle.specs.Interleaving.{IsInterleaving, run_of};
-ghost use Rattle.lfs_server.specs.Serving.{IsLayoutFault, IsServeFault};
+ghost use Rattle.lfs_server.specs.Serving.{IsInRange, IsLayoutFault, IsServeFault};
 ghost use Rattle.lfs_volume.specs.Journals.{IsJournal};
 
 use crate::gate::Gate;
@@ -35,6 +35,9 @@ where
         (run_of closed.volume.journal closed.volume.limit
         setup closed.setup.items sessions.items closed.transcripts.items)) }
     ensures limit { IfOk result (λ closed. closed.volume.limit ≡ params.journal) }
+    ensures shape { IfOk result (λ closed. (state_of closed.volume.store).shape
+        ≡ shape_of params.inodes params.segments) }
+    ensures ranges { OnOk result (IsInRange params.segments params.inodes params.frames) }
     ensures legal { IfOk result (λ closed. IsJournal
         (state_of closed.volume.store) closed.volume.level
         closed.volume.journal closed.volume.limit) }
@@ -50,6 +53,9 @@ where
 /// A fresh volume over the log store.
 fn fresh_volume(alloc: Global, params: Params) -> Result<Volume<LogStore>, ServeFault>
     ensures limit { IfOk result (λ volume. volume.limit ≡ params.journal) }
+    ensures shape { IfOk result (λ volume. (state_of volume.store).shape
+        ≡ shape_of params.inodes params.segments) }
+    ensures ranges { OnOk result (IsInRange params.segments params.inodes params.frames) }
     ensures fault { IfErr result (IsLayoutFault params.segments params.inodes params.frames) }
 {
     let store = match LogStore::format(alloc, params) {

@@ -1,26 +1,26 @@
 //! A run: the setup, then sessions on threads and the cleaner beside them, over one volume; settled before it is handed out.
 
-ghost use Rattle.std.specs.Prelude.{◌≡◌, ◌⊎◌, ◌<◌, ◌≤◌, ◌↔◌, IfErr, IfOk, OnOk, vec_len, length};
+ghost use Rattle.std.specs.Prelude.{◌≡◌, ◌⊎◌, ◌<◌, ◌≤◌, ◌+◌, IfErr, IfOk, OnOk, vec_len, length};
 ghost use Rattle.lfs_settle.specs.Interleaving.{IsInterleaving, run_of};
 ghost use Rattle.lfs_volume.specs.Journals.{IsJournal};
-ghost use Rattle.lfs_server.specs.Serving.{IsFaultOf, IsRunFault};
+ghost use Rattle.lfs_server.specs.Serving.{IsClosingFault, IsFaultOf, IsRunFault};
 ghost use Rattle.lfs_server.specs.declared.serving.ServeFault.TheVariants.{Memory, Sessions};
 
 use crate::cleaner::run_cleaner;
 use crate::doorbell::{Button, Rings, doorbell};
-use crate::gate::Gate;
+use crate::gate::{Gate, Turns};
+use crate::kept::{Kept, Sizes};
+use crate::run::Run;
 use crate::session::{Session, run_session};
 use crate::settle::{Unsettled, settle};
-use lfs_settle::entries::CLEANER;
 use lfs_types::answer::Answer;
 use lfs_types::cleaned::CleanedStore;
-use lfs_types::cred::Cred;
 use lfs_types::fault::FormatFault;
-use lfs_types::request::Request;
 use lfs_types::script::Script;
 use lfs_types::store::FileStore;
 use lfs_volume::volume::Volume;
 use std::alloc::{AllocError, AllocFailed, Global};
+use std::marker::Brand;
 use std::sync::{Mutex, Wait};
 use std::thread;
 use std::thread::{JoinHandle, Scope, Threads};
@@ -55,8 +55,7 @@ pub enum ServeFault {
     /// A growth was refused.
     #[error("no memory")]
     Memory,
-    /// The journal is not as this session was answered: 0 is the setup; 255 says that an entry is of no session, or that
-    /// the journal has another limit.
+    /// The journal is not as this session was answered: 0 is the setup; 255 says that an entry is of no session.
     #[error("serve Unsettled")]
     Unsettled(u8),
     /// A thread could not be started.
@@ -99,14 +98,17 @@ where
         (run_of closed.volume.journal closed.volume.limit
         setup closed.setup.items sessions.items closed.transcripts.items)) }
     ensures limit { IfOk result (λ closed. closed.volume.limit ≡ volume.limit) }
+    ensures shape { IfOk result (λ closed.
+        (F.state closed.volume.store).shape ≡ (F.state volume.store).shape) }
     ensures legal { IfOk result (λ closed. IsJournal
         (F.state closed.volume.store) closed.volume.level
         closed.volume.journal closed.volume.limit) }
     ensures sessions { OnOk result ((0 < vec_len sessions) × (vec_len sessions ≤ 8)) }
-    ensures fault { IfErr result (λ fault. IsFaultOf (vec_len sessions) fault) }
+    ensures fault { IfErr result (IsFaultOf (vec_len sessions)) }
 {
     check_sessions(sessions.len())?;
-    run(rt, alloc, volume, &setup, sessions.as_slice(), gate)
+    let run = Run { rt, alloc, gate };
+    run_kept::<Brand, R, F, G>(&run, volume, &setup, sessions.as_slice())
 }
 
 /// Asks that there be so many sessions: at least one, and at most eight.
@@ -120,64 +122,68 @@ pub(crate) fn check_sessions(count: usize) -> Result<(), ServeFault>
     Ok(())
 }
 
-/// Runs the setup and then the sessions, of which there are at most eight, and hands out what they left.
-fn run<R, F, G>(
-    rt: &R,
-    alloc: Global,
-    mut volume: Volume<F>,
+/// Runs the setup and then the sessions, of which there are at most eight, over a volume of these sizes, and hands out what
+/// they left.
+fn run_kept<S, R, F, G>(
+    run: &Run<'_, R, G>,
+    volume: Volume<F>,
     setup: &Script,
     sessions: &[Script],
-    gate: &G,
 ) -> Result<Closed<F>, ServeFault>
 where
+    S: Sizes + Send,
     R: Threads + Wait + Sync,
     F: CleanedStore + Send + Drop,
     G: Gate,
-    requires { length sessions.now ≤ 8 }
+    requires few { length sessions.now ≤ 8 }
+    requires shape { (F.state volume.store).shape ≡ S.shape }
+    requires limit { volume.limit ≡ S.limit }
     ensures settled { IfOk result (λ closed. IsInterleaving
         (run_of closed.volume.journal closed.volume.limit
         setup.now closed.setup.items sessions.now closed.transcripts.items)) }
-    ensures limit { IfOk result (λ closed. closed.volume.limit ≡ volume.limit) }
+    ensures limit { IfOk result (λ closed. closed.volume.limit ≡ S.limit) }
+    ensures shape { IfOk result (λ closed. (F.state closed.volume.store).shape ≡ S.shape) }
     ensures legal { IfOk result (λ closed. IsJournal
         (F.state closed.volume.store) closed.volume.level
         closed.volume.journal closed.volume.limit) }
     ensures fault { IfErr result IsRunFault }
 {
-    let limit = volume.journal_limit();
-    let answers = run_setup(alloc, &mut volume, setup, gate)?;
-    let (volume, transcripts) = run_sessions(rt, alloc, volume, sessions, gate)?;
-    close(volume, limit, setup, answers, sessions, transcripts)
+    let mut kept = Kept::<S, F>::new(volume);
+    let answers = run_setup(run, &mut kept, setup)?;
+    let (kept, transcripts) = run_sessions(run, kept, sessions)?;
+    close(kept.into_volume(), setup, answers, sessions, transcripts)
 }
 
 /// The sessions of these scripts, and the doorbell, which is rung once.
-fn prepare<'a, R: Wait>(
-    rt: &R,
-    alloc: Global,
+fn prepare<'a, R: Wait, G>(
+    run: &Run<'_, R, G>,
     scripts: &'a [Script],
-) -> Result<(Vec<Session<'a>>, Rings), AllocError> {
-    let (button, rings) = doorbell(alloc)?;
-    let jobs = jobs(alloc, scripts, &button)?;
-    button.ring(rt);
+) -> Result<(Vec<Session<'a>>, Rings), AllocError>
+    ensures { IfOk result (λ both. vec_len both.0 ≡ length scripts.now) }
+{
+    let (button, rings) = doorbell(run.alloc)?;
+    let jobs = jobs(run.alloc, scripts, &button)?;
+    button.ring(run.rt);
     Ok((jobs, rings))
 }
 
 /// Runs the sessions and the cleaner, and gives the volume back with the answers of each session.
-fn run_sessions<R, F, G>(
-    rt: &R,
-    alloc: Global,
-    volume: Volume<F>,
+fn run_sessions<S, R, F, G>(
+    run: &Run<'_, R, G>,
+    volume: Kept<S, F>,
     scripts: &[Script],
-    gate: &G,
-) -> Result<(Volume<F>, Vec<Vec<Answer>>), ServeFault>
+) -> Result<(Kept<S, F>, Vec<Vec<Answer>>), ServeFault>
 where
+    S: Sizes + Send,
     R: Threads + Wait + Sync,
     F: CleanedStore + Send + Drop,
     G: Gate,
-    ensures { IfErr result IsRunFault }
+    ensures count { IfOk result (λ both. vec_len both.1 ≡ length scripts.now) }
+    ensures fault { IfErr result IsRunFault }
 {
-    let (jobs, rings) = prepare(rt, alloc, scripts)?;
+    let (jobs, rings) = prepare(run, scripts)?;
     let shared = Mutex::new(volume);
-    let transcripts = run_threads(rt, alloc, &shared, jobs, &rings, gate)?;
+    let transcripts = run_threads(run, &shared, jobs, &rings)?;
     Ok((shared.into_inner(), transcripts))
 }
 
@@ -186,7 +192,9 @@ fn jobs<'a>(
     alloc: Global,
     scripts: &'a [Script],
     button: &Button,
-) -> Result<Vec<Session<'a>>, AllocError> {
+) -> Result<Vec<Session<'a>>, AllocError>
+    ensures { IfOk result (λ jobs. vec_len jobs ≡ length scripts.now) }
+{
     let mut jobs = Vec::with_capacity(alloc, scripts.len())?;
     let mut number = 0u8;
     for script in scripts {
@@ -197,104 +205,90 @@ fn jobs<'a>(
 }
 
 /// Makes the calls of the setup, each of a copy of what it asks, and gives the answers.
-fn run_setup<F: FileStore + Drop, G: Gate>(
-    alloc: Global,
-    volume: &mut Volume<F>,
+fn run_setup<S: Sizes, R, F: FileStore + Drop, G: Gate>(
+    run: &Run<'_, R, G>,
+    volume: &mut Kept<S, F>,
     setup: &Script,
-    gate: &G,
 ) -> Result<Vec<Answer>, AllocError> {
-    let mut answers = Vec::with_capacity(alloc, setup.as_slice().len())?;
-    let mut index = 0u32;
+    let mut answers = Vec::with_capacity(run.alloc, setup.as_slice().len())?;
+    let mut turns = Turns::new(0);
     for (cred, request) in setup.as_slice() {
-        answers.push(setup_call(alloc, volume, index, cred, request, gate)?)?;
-        index = index.saturating_add(1);
+        let copy = request.try_clone(run.alloc)?;
+        let (answer, _) = turns.pass(run.gate, || volume.call(0, cred, copy));
+        answers.push(answer)?;
     }
     Ok(answers)
 }
 
-/// Makes a call of the setup, of a copy of what it asks.
-fn setup_call<F: FileStore + Drop, G: Gate>(
-    alloc: Global,
-    volume: &mut Volume<F>,
-    index: u32,
-    cred: &Cred,
-    request: &Request,
-    gate: &G,
-) -> Result<Answer, AllocError> {
-    let copy = request.try_clone(alloc)?;
-    gate.before(0, index);
-    let answer = volume.call(0, cred, copy);
-    gate.after(0, index);
-    Ok(answer)
-}
-
 /// Runs the sessions and the cleaner, each on a thread of its own, and gives the answers of each session once all threads
 /// have ended.
-fn run_threads<R, F, G>(
-    rt: &R,
-    alloc: Global,
-    volume: &Mutex<Volume<F>>,
+fn run_threads<S, R, F, G>(
+    run: &Run<'_, R, G>,
+    volume: &Mutex<Kept<S, F>>,
     jobs: Vec<Session<'_>>,
     rings: &Rings,
-    gate: &G,
 ) -> Result<Vec<Vec<Answer>>, ServeFault>
 where
+    S: Sizes + Send,
     R: Threads + Wait + Sync,
     F: CleanedStore + Send + Drop,
     G: Gate,
-    ensures { IfErr result IsRunFault }
+    ensures count { IfOk result (λ transcripts. vec_len transcripts ≡ vec_len jobs.entry) }
+    ensures fault { IfErr result IsRunFault }
 {
     thread::scope(
         thread::scope_env(),
-        rt,
+        run.rt,
         move |scope| -> Result<Vec<Vec<Answer>>, ServeFault>
-            ensures { IfErr result IsRunFault }
+            ensures count { IfOk result (λ transcripts. vec_len transcripts ≡ vec_len jobs.entry) }
+            ensures fault { IfErr result IsRunFault }
         {
-            let threads = Vec::with_capacity(alloc, jobs.len())?;
+            let threads = Vec::with_capacity(run.alloc, jobs.len())?;
             if scope
-                .spawn(move || run_cleaner(rt, volume, rings, gate))
+                .spawn(move || run_cleaner(run, volume, rings))
                 .is_err()
             {
                 return Err(ServeFault::Thread);
             }
-            let threads = start(scope, rt, volume, jobs, threads, gate)?;
-            joined(rt, alloc, threads)
+            let threads = start(scope, run, volume, jobs, threads)?;
+            joined(run, threads)
         },
     )
 }
 
 /// Starts each session on a thread of its own, and puts the threads behind the others.
-fn start<'s, E, R, F, G>(
+fn start<'s, E, S, R, F, G>(
     scope: &Scope<'s, E>,
-    rt: &'s R,
-    volume: &'s Mutex<Volume<F>>,
+    run: &'s Run<'s, R, G>,
+    volume: &'s Mutex<Kept<S, F>>,
     jobs: Vec<Session<'s>>,
     mut threads: Vec<SessionThread>,
-    gate: &'s G,
 ) -> Result<Vec<SessionThread>, AllocError>
 where
+    S: Sizes + Send,
     R: Threads + Wait + Sync,
     F: CleanedStore + Send + Drop,
     G: Gate,
+    ensures { IfOk result (λ all. vec_len all ≡ vec_len threads + vec_len jobs.entry) }
 {
     for session in jobs {
-        let thread = scope.spawn(move || run_session(rt, volume, session, gate));
+        let thread = scope.spawn(move || run_session(run, volume, session));
         threads.push(thread.ok())?;
     }
     Ok(threads)
 }
 
 /// What the threads of the sessions gave, in order, if all were started and none lacked memory.
-fn joined<R: Threads>(
-    rt: &R,
-    alloc: Global,
+fn joined<R: Threads, G>(
+    run: &Run<'_, R, G>,
     threads: Vec<SessionThread>,
 ) -> Result<Vec<Vec<Answer>>, ServeFault>
-    ensures { IfErr result IsRunFault }
+    ensures count { IfOk result (λ transcripts. vec_len transcripts ≡ vec_len threads) }
+    ensures fault { IfErr result IsRunFault }
 {
-    let mut transcripts = Vec::with_capacity(alloc, threads.len())?;
+    let mut transcripts = Vec::with_capacity(run.alloc, threads.len())?;
     for thread in threads {
-        transcripts.push(answers_of(rt, thread)?)?;
+        transcripts.push(answers_of(run.rt, thread)?)?;
     }
     Ok(transcripts)
 }
@@ -309,28 +303,28 @@ fn answers_of<R: Threads>(rt: &R, thread: SessionThread) -> Result<Vec<Answer>, 
     }
 }
 
-/// Hands out what a run left, where its journal is an interleaving of what was asked and answered, and has this limit.
+/// Hands out what a run left, where its journal is an interleaving of what was asked and answered.
 fn close<F: FileStore + Drop>(
     volume: Volume<F>,
-    limit: u32,
     setup: &Script,
     answers: Vec<Answer>,
     sessions: &[Script],
     transcripts: Vec<Vec<Answer>>,
 ) -> Result<Closed<F>, ServeFault>
-    requires { length sessions.now ≤ 8 }
+    requires sessions { length sessions.now ≤ 8 }
+    requires transcripts { vec_len transcripts ≤ 8 }
+    ensures volume { IfOk result (λ closed. closed.volume ≡ volume) }
     ensures settled { IfOk result (λ closed. IsInterleaving
         (run_of closed.volume.journal closed.volume.limit
         setup.now closed.setup.items sessions.now closed.transcripts.items)) }
-    ensures limit { IfOk result (λ closed. closed.volume.limit ≡ limit) }
     ensures legal { IfOk result (λ closed. IsJournal
         (F.state closed.volume.store) closed.volume.level
         closed.volume.journal closed.volume.limit) }
-    ensures fault { IfErr result IsRunFault }
+    ensures fault { IfErr result (IsClosingFault (run_of volume.journal volume.limit
+        setup.now answers.items sessions.now transcripts.items)) }
 {
     check_closed(
         &volume,
-        limit,
         setup,
         answers.as_slice(),
         sessions,
@@ -343,25 +337,21 @@ fn close<F: FileStore + Drop>(
     })
 }
 
-/// Asks that a volume's journal be an interleaving of what was asked and answered, and have this limit.
+/// Asks that a volume's journal be an interleaving of what was asked and answered.
 fn check_closed<F: FileStore + Drop>(
     volume: &Volume<F>,
-    limit: u32,
     setup: &Script,
     answers: &[Answer],
     sessions: &[Script],
     transcripts: &[Vec<Answer>],
 ) -> Result<(), ServeFault>
-    requires { length sessions.now ≤ 8 }
+    requires { (length sessions.now ≤ 8) × (length transcripts.now ≤ 8) }
     ensures settled { OnOk result (IsInterleaving
         (run_of volume.now.journal volume.now.limit
         setup.now answers.now sessions.now transcripts.now)) }
-    ensures limit { OnOk result (volume.now.limit ≡ limit) }
-    ensures fault { IfErr result IsRunFault }
+    ensures fault { IfErr result (IsClosingFault (run_of volume.now.journal volume.now.limit
+        setup.now answers.now sessions.now transcripts.now)) }
 {
-    if volume.journal_limit() != limit || transcripts.len() > MOST_SESSIONS {
-        return Err(ServeFault::Unsettled(CLEANER));
-    }
     match settle(volume, setup, answers, sessions, transcripts) {
         Ok(()) => Ok(()),
         Err(Unsettled(session)) => Err(ServeFault::Unsettled(session)),

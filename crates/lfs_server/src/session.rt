@@ -1,17 +1,12 @@
 //! A session: its calls, one after another, each as one holding of the lock on the volume.
 
-ghost use Rattle.std.specs.Prelude.{◌≡◌, ◌↔◌, ◌<◌, ◌≤◌, ◌++◌, ◌⊎◌, IsTrue};
-ghost use Rattle.lfs_model.specs.Runs.{kept_entry};
-
 use crate::doorbell::Button;
-use crate::gate::Gate;
-use lfs_cleaner::wanting::is_wanted;
-use lfs_types::answer::{Answer, Resource};
-use lfs_types::cred::Cred;
-use lfs_types::request::Request;
+use crate::gate::{Gate, Turns};
+use crate::kept::{Kept, Sizes};
+use crate::run::Run;
+use lfs_types::answer::Answer;
 use lfs_types::script::Script;
 use lfs_types::store::FileStore;
-use lfs_volume::volume::Volume;
 use std::alloc::{AllocError, Global};
 use std::sync::{Mutex, Wait};
 
@@ -20,8 +15,6 @@ use std::sync::{Mutex, Wait};
 pub struct Session<'a> {
     /// Its number, 1 to 8.
     pub number: u8,
-    /// Where the copies of what it asks go.
-    pub alloc: Global,
     /// What it calls.
     pub script: &'a Script,
     /// With which it calls the cleaner.
@@ -42,7 +35,6 @@ impl<'a> Session<'a> {
         let answers = Vec::with_capacity(alloc, script.as_slice().len())?;
         Ok(Session {
             number,
-            alloc,
             script,
             button,
             answers,
@@ -52,51 +44,28 @@ impl<'a> Session<'a> {
 
 /// Makes the calls of a session, each of a copy of what its script asks, and gives the answers. It ends where a copy finds
 /// no memory.
-pub fn run_session<R: Wait, F: FileStore + Drop, G: Gate>(
-    rt: &R,
-    volume: &Mutex<Volume<F>>,
+pub fn run_session<S: Sizes, R: Wait, F: FileStore + Drop, G: Gate>(
+    run: &Run<'_, R, G>,
+    volume: &Mutex<Kept<S, F>>,
     session: Session<'_>,
-    gate: &G,
 ) -> Result<Vec<Answer>, AllocError> {
     let Session {
         number,
-        alloc,
         script,
         button,
         mut answers,
     } = session;
-    let mut index = 0u32;
+    let mut turns = Turns::new(number);
     for (cred, request) in script.as_slice() {
-        let copy = request.try_clone(alloc)?;
-        gate.before(number, index);
-        let (answer, wants_cleaner) = call(&mut volume.lock(rt), number, cred, copy);
-        gate.after(number, index);
+        let copy = request.try_clone(run.alloc)?;
+        let (answer, wants_cleaner) = turns.pass(
+            run.gate,
+            || volume.lock(run.rt).call(number, cred, copy),
+        );
         if wants_cleaner {
-            button.ring(rt);
+            button.ring(run.rt);
         }
         answers.push(answer)?;
-        index = index.saturating_add(1);
     }
     Ok(answers)
-}
-
-/// Makes a call, and says whether the cleaner is wanted after it: it was refused for want of space, or it lowered the
-/// clean segments to three or fewer.
-fn call<F: FileStore + Drop>(
-    volume: &mut Volume<F>,
-    session: u8,
-    cred: &Cred,
-    request: Request,
-) -> (Answer, bool)
-    ensures entered { volume.new.journal ≡ volume.old.journal
-        ++ kept_entry session cred.now request result.0 }
-    ensures wanted { IsTrue result.1 ↔ ((result.0 ≡ Answer.Refused Resource.NoSpace)
-        ⊎ (((F.state volume.new.store).clean < (F.state volume.old.store).clean)
-        × ((F.state volume.new.store).clean ≤ 3))) }
-    ensures limit { volume.new.limit ≡ volume.old.limit }
-{
-    let before = volume.clean_segments();
-    let answer = volume.call(session, cred, request);
-    let wants_cleaner = is_wanted(&answer, before, volume.clean_segments());
-    (answer, wants_cleaner)
 }

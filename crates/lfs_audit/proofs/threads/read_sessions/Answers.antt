@@ -2,8 +2,8 @@ use Rattle.std.proofs.Common.{◌≡◌, length, arith}
 use Rattle.lfs_audit.proofs.ThreadLemmas.{plan_split}
 use Rattle.lfs_audit.proofs.threads.read_sessions.Goals as goal
 
-pub returns : goal.returns
-returns g c =
+pub returns-clause-split : goal.returns-clause-split
+returns-clause-split g c =
     let plan = c.in_ok-plan.plan in
     let split = c.in_ok-split.ensures in
     let scripts = c.in_ok-split.field-0.1 in

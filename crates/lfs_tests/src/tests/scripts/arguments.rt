@@ -70,7 +70,7 @@ fn parameters(rt: HostRuntime) {
 }
 
 /// Words of command lines that are refused.
-const REFUSED: [&[&str]; 20] = [
+const REFUSED: [&[&str]; 24] = [
     &["lfsd", "--inodes", "15"],
     &["lfsd", "--inodes", "4097"],
     &["lfsd", "--inodes", "+16"],
@@ -90,7 +90,11 @@ const REFUSED: [&[&str]; 20] = [
     &["lfsd", "--frames", "31"],
     &["lfsd", "--frames", "1025"],
     &["lfsd", "--segments", "+6"],
-    &["lfsd", "--frames=+32"],
+    &["lfsd", "--segments=-6"],
+    &["lfsd", "--frames", "+32"],
+    &["lfsd", "--frames", "-32"],
+    &["lfsd", "--journal", "-1"],
+    &["lfsd", "--threads", "--segments=+0006"],
 ];
 
 /// The fault of words that are refused, or a call for help.
@@ -152,16 +156,29 @@ fn help(rt: HostRuntime) {
     expect_told(&rt, rt.alloc(), &error, HELP);
 }
 
-/// Words that are refused, and how the range is told.
-const RANGES: [(&str, &str); 8] = [
+/// Words that are refused, and how the range is told. A sign is told of with its option.
+const RANGES: [(&str, &str); 9] = [
     ("--inodes=15", "16..=4096"),
     ("--inodes=4097", "16..=4096"),
     ("--segments=5", "6..=1024"),
     ("--frames=31", "32..=1024"),
-    ("--frames=+32", "from 32 to 1024"),
     ("--journal=0", "1..=100000"),
-    ("--inodes=+16", "from 16 to 4096"),
-    ("--journal=+1", "from 1 to 100000"),
+    (
+        "--segments=+6",
+        "--segments takes a number of decimal digits alone, from 6 to 1024",
+    ),
+    (
+        "--inodes=+16",
+        "--inodes takes a number of decimal digits alone, from 16 to 4096",
+    ),
+    (
+        "--frames=+32",
+        "--frames takes a number of decimal digits alone, from 32 to 1024",
+    ),
+    (
+        "--journal=+1",
+        "--journal takes a number of decimal digits alone, from 1 to 100000",
+    ),
 ];
 
 /// Asserts that the range is told where this word is refused.

@@ -46,6 +46,33 @@ impl Read for Failing<'_> {
     }
 }
 
+/// Gives a byte of `rest` at each read, but fails once, when `reads` are done, and goes on as if nothing had been.
+#[derive(Drop)]
+pub struct Stumbling<'a> {
+    pub rest: &'a [u8],
+    pub reads: usize,
+    pub has_failed: bool,
+    pub kind: ErrorKind,
+}
+
+impl Read for Stumbling<'_> {
+    fn read(&mut self, buf: &mut [u8]) -> io::Result<usize> {
+        if self.reads == 0 && !self.has_failed {
+            self.has_failed = true;
+            return Err(io::Error::from(self.kind));
+        }
+        self.reads = self.reads.saturating_sub(1);
+        match self.rest.split_first() {
+            Some((first, rest)) if !buf.is_empty() => {
+                buf[0] = *first;
+                self.rest = rest;
+                Ok(1)
+            }
+            _ => Ok(0),
+        }
+    }
+}
+
 /// Takes so many writes and then fails, and fails its flush where it is told so.
 #[derive(Drop)]
 pub struct Full {

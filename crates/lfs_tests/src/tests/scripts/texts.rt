@@ -3,6 +3,7 @@
 use super::expect_told;
 use lfs_audit::fault::{RunFault, ThreadsFault};
 use lfs_script::fault::{FaultKind, ScriptFault};
+use lfs_server::serving::ServeFault;
 use lfs_types::cred::BadCred;
 use lfs_types::fault::FormatFault;
 use lfs_types::name::BadName;
@@ -39,6 +40,35 @@ const FAULTS: [(ThreadsFault, &[u8]); 8] = [
 fn faults(rt: HostRuntime) {
     for (fault, text) in FAULTS {
         expect_told(&rt, rt.alloc(), fault, text);
+    }
+}
+
+/// Faults of serving sessions, and what is told of each.
+const SERVE_FAULTS: [(ServeFault, &[u8]); 9] = [
+    (ServeFault::Sessions, b"lfsd: serve Sessions\n"),
+    (
+        ServeFault::Format(FormatFault::TooFew),
+        b"lfsd: format TooFew\n",
+    ),
+    (
+        ServeFault::Format(FormatFault::TooMany),
+        b"lfsd: format TooMany\n",
+    ),
+    (
+        ServeFault::Format(FormatFault::Memory),
+        b"lfsd: format Memory\n",
+    ),
+    (ServeFault::Memory, b"lfsd: no memory\n"),
+    (ServeFault::Unsettled(0), b"lfsd: serve Unsettled\n"),
+    (ServeFault::Unsettled(8), b"lfsd: serve Unsettled\n"),
+    (ServeFault::Unsettled(255), b"lfsd: serve Unsettled\n"),
+    (ServeFault::Thread, b"lfsd: serve Thread\n"),
+];
+
+#[test]
+fn serve_faults(rt: HostRuntime) {
+    for (fault, text) in SERVE_FAULTS {
+        expect_told(&rt, rt.alloc(), ThreadsFault::Serve(fault), text);
     }
 }
 

@@ -1,7 +1,7 @@
 //! Two sessions that write more than the log has room for, with the cleaner at work.
 
 use super::gates::assert_unfailed;
-use super::soak::{Holding, is_cleaned_between};
+use super::soak::{Holding, assert_cleaned_in_turn, is_cleaned_between};
 use super::watch::Watch;
 use super::{expect_run_settled, serve_log};
 use crate::tests::{SMALL, calls, expect_answers, push, push_all, repeated};
@@ -143,5 +143,6 @@ fn sessions_that_fill_the_log_are_done_or_told_so(rt: HostRuntime) {
     };
     let mut closed = serve_log(&rt, rt.alloc(), SIZES, script.as_str(), &gate);
     assert_unfailed(&rt, &gate.watch);
+    assert_cleaned_in_turn(&rt, &gate.watch, closed.volume.journal());
     expect_run(&rt, rt.alloc(), script.as_str(), &mut closed);
 }

@@ -16,7 +16,7 @@ use std::thread::Threads;
 /// made.
 #[derive(Drop)]
 struct Meeting<'a, R: Wait> {
-    /// The first calls that are begun.
+    /// The calls that are begun.
     begun: Watch<'a, R>,
     /// The first calls that are made.
     made: Watch<'a, R>,
@@ -29,8 +29,8 @@ impl<'a, R: Wait + Sync> Gate for Meeting<'a, R> {
             2 => 1,
             _ => return,
         };
+        self.begun.note(session, index);
         if index == 0 {
-            self.begun.note(session, 0);
             self.begun.wait_for(other, 0);
         } else if index == 1 {
             self.made.wait_for(other, 0);
@@ -49,6 +49,13 @@ pub fn assert_unfailed(rt: &impl Abort, watch: &Watch<'_, impl Wait>) {
     assert!(rt; !watch.has_failed());
 }
 
+/// Asserts that of each of these sessions so many calls are noted, with the indices from 0 on, in order.
+pub fn assert_in_turn(rt: &impl Abort, watch: &Watch<'_, impl Wait>, counts: &[(u8, usize)]) {
+    for (session, count) in counts {
+        assert!(rt; watch.are_in_turn(*session, *count));
+    }
+}
+
 /// Runs both sessions at this gate, and asserts that they were answered as they must be.
 fn serve_at_meeting<R: Abort + Threads + Wait + Sync>(
     rt: &R,
@@ -58,6 +65,7 @@ fn serve_at_meeting<R: Abort + Threads + Wait + Sync>(
     let closed = serve_users(rt, alloc, WRITES, BOTH, gate);
     assert_unfailed(rt, &gate.begun);
     assert_unfailed(rt, &gate.made);
+    assert_in_turn(rt, &gate.begun, &[(1, 4), (2, 4)]);
     assert_served(rt, alloc, &closed);
 }
 
@@ -68,6 +76,45 @@ fn two_sessions_meet(rt: HostRuntime) {
         made: Watch::new(&rt, rt.alloc()),
     };
     serve_at_meeting(&rt, rt.alloc(), &gate);
+}
+
+/// Holds the first call of session 2 until that of session 1 is made, and session 1 behind it until session 2's is made too.
+#[derive(Drop)]
+struct Behind<'a, R: Wait> {
+    /// The first calls that are made.
+    made: Watch<'a, R>,
+}
+
+impl<'a, R: Wait + Sync> Gate for Behind<'a, R> {
+    fn before(&self, session: u8, index: u32) {
+        if session == 2 && index == 0 {
+            self.made.wait_for(1, 0);
+        }
+    }
+
+    fn after(&self, session: u8, index: u32) {
+        if index == 0 && (session == 1 || session == 2) {
+            self.made.note(session, 0);
+        }
+        if index == 0 && session == 1 {
+            self.made.wait_for(2, 0);
+        }
+    }
+}
+
+/// Runs both sessions at this gate, and asserts that they were answered as they must be.
+fn serve_behind<R: Abort + Threads + Wait + Sync>(rt: &R, alloc: Global, gate: &Behind<'_, R>) {
+    let closed = serve_users(rt, alloc, WRITES, BOTH, gate);
+    assert_unfailed(rt, &gate.made);
+    assert_served(rt, alloc, &closed);
+}
+
+#[test]
+fn lock_is_free_behind_a_call(rt: HostRuntime) {
+    let gate = Behind {
+        made: Watch::new(&rt, rt.alloc()),
+    };
+    serve_behind(&rt, rt.alloc(), &gate);
 }
 
 /// Which call of a pass is the first Bmapv.

@@ -1,5 +1,6 @@
 //! What no clause says of a run on threads: that it ends, and is handed out.
 
+use super::gates::assert_in_turn;
 use super::watch::Watch;
 use super::{
     BOTH_FILES, BOTH_USERS, CLEANER, assert_answers, assert_no_run, expect_run_settled, split,
@@ -52,6 +53,37 @@ fn sessions_run_on_threads(rt: HostRuntime) {
 fn no_session_is_no_run(rt: HostRuntime) {
     let volume = plain_volume(&rt, rt.alloc(), 64);
     assert_no_run(&rt, rt.alloc(), volume, BOTH_FILES);
+}
+
+/// Notes each call that is begun, and each that is made.
+#[derive(Drop)]
+struct Noting<'a, R: Wait> {
+    begun: Watch<'a, R>,
+    made: Watch<'a, R>,
+}
+
+impl<'a, R: Wait + Sync> Gate for Noting<'a, R> {
+    fn before(&self, session: u8, index: u32) {
+        self.begun.note(session, index);
+    }
+
+    fn after(&self, session: u8, index: u32) {
+        self.made.note(session, index);
+    }
+}
+
+/// How many calls the setup makes, each session, one without a script, and the cleaner.
+const CALLS: [(u8, usize); 5] = [(0, 2), (1, 2), (2, 2), (3, 0), (CLEANER, 1)];
+
+#[test]
+fn each_call_passes_the_gate_in_turn(rt: HostRuntime) {
+    let gate = Noting {
+        begun: Watch::new(&rt, rt.alloc()),
+        made: Watch::new(&rt, rt.alloc()),
+    };
+    serve_plain(&rt, rt.alloc(), BOTH_USERS, &gate);
+    assert_in_turn(&rt, &gate.begun, &CALLS);
+    assert_in_turn(&rt, &gate.made, &CALLS);
 }
 
 /// Notes the calls that the cleaner begins.

@@ -1,6 +1,6 @@
 //! Eight sessions on shared and own files of a volume over the log store, with the cleaner at work.
 
-use super::gates::assert_unfailed;
+use super::gates::{assert_in_turn, assert_unfailed};
 use super::watch::Watch;
 use super::{CLEANER, expect_run_settled, serve_log};
 use crate::tests::{SMALL, calls, expect_answers, expect_eq, push, push_all};
@@ -100,7 +100,7 @@ const HELD: u32 = 54;
 const CLEANED: u32 = 8;
 
 /// Holds each session until the cleaner has cleaned a segment: else the schedule alone would say whether it does before
-/// the sessions end.
+/// the sessions end. It notes the cleaner's calls.
 #[derive(Drop)]
 pub struct Holding<'a, R: Wait> {
     pub watch: Watch<'a, R>,
@@ -117,10 +117,23 @@ impl<'a, R: Wait + Sync> Gate for Holding<'a, R> {
     }
 
     fn after(&self, session: u8, index: u32) {
-        if session == CLEANER && index == self.cleaned {
-            self.watch.note(CLEANER, self.cleaned);
+        if session == CLEANER {
+            self.watch.note(CLEANER, index);
         }
     }
+}
+
+/// How many of the entries are the cleaner's.
+fn cleanings(journal: &[Entry]) -> usize {
+    journal
+        .iter()
+        .filter(|entry| entry.session == CLEANER)
+        .count()
+}
+
+/// Asserts that the cleaner's calls, which are those of more than one pass, were counted through.
+pub fn assert_cleaned_in_turn(rt: &impl Abort, watch: &Watch<'_, impl Wait>, journal: &[Entry]) {
+    assert_in_turn(rt, watch, &[(CLEANER, cleanings(journal))]);
 }
 
 /// Whether an answer says that a call was served.
@@ -244,5 +257,6 @@ fn eight_sessions_soak(rt: HostRuntime) {
     };
     let mut closed = serve_log(&rt, rt.alloc(), SIZES, script.as_str(), &gate);
     assert_unfailed(&rt, &gate.watch);
+    assert_cleaned_in_turn(&rt, &gate.watch, closed.volume.journal());
     assert_soaked(&rt, rt.alloc(), script.as_str(), &mut closed);
 }

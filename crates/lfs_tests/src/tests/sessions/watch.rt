@@ -2,9 +2,10 @@
 
 use std::alloc::Global;
 use std::sync::{Mutex, Wait};
+use std::thread;
 
 /// How often a gate that waits looks.
-const LOOKS: u32 = 50_000_000;
+const LOOKS: u32 = 1_000_000;
 
 /// What gates have noted.
 #[derive(Drop)]
@@ -47,14 +48,30 @@ impl<'a, R: Wait> Watch<'a, R> {
         self.noted.lock(self.rt).calls.contains(&(session, index))
     }
 
-    /// Waits until that call is noted, and notes a failure where it is not in so many looks.
+    /// Waits until that call is noted, and notes a failure where it is not in so many looks. Between them others get on.
     pub fn wait_for(&self, session: u8, index: u32) {
         for _ in 0..LOOKS {
             if self.has(session, index) {
                 return;
             }
+            thread::yield_now();
         }
         self.noted.lock(self.rt).failed = true;
+    }
+
+    /// Whether so many calls of this session are noted, with the indices from 0 on, in order.
+    pub fn are_in_turn(&self, session: u8, count: usize) -> bool {
+        let mut next = 0usize;
+        let noted = self.noted.lock(self.rt);
+        for (other, index) in &noted.calls {
+            if *other == session {
+                if *index as usize != next {
+                    return false;
+                }
+                next = next.saturating_add(1);
+            }
+        }
+        next == count
     }
 
     /// Whether a wait came to its limit, or a note found no memory.

@@ -1,6 +1,6 @@
 //! Scripts run over readers and writers that fail, never end or take little.
 
-use super::fakes::{Endless, Failing, Full, Slow};
+use super::fakes::{Endless, Failing, Full, Slow, Stumbling};
 use super::{LONG_READS, PARAMS, WRITERS, expect_end, expect_unwritten};
 use crate::tests::expect_eq;
 use lfs_audit::fault::RunFault;
@@ -32,6 +32,21 @@ fn reader_that_fails_at_each_read(rt: HostRuntime) {
     let mut reader = failing(SCRIPT.len() + 1, ErrorKind::Other);
     let mut writer = Vec::new(alloc);
     expect_end(&rt, alloc, &mut reader, &mut writer, Ok(()));
+}
+
+#[test]
+fn reader_that_fails_once(rt: HostRuntime) {
+    for reads in 0..=SCRIPT.len() {
+        for kind in [ErrorKind::Interrupted, ErrorKind::Other] {
+            let mut reader = Stumbling {
+                rest: SCRIPT,
+                reads,
+                has_failed: false,
+                kind,
+            };
+            expect_unwritten(&rt, rt.alloc(), &mut reader, PARAMS, RunFault::Read);
+        }
+    }
 }
 
 #[test]

@@ -1,6 +1,6 @@
 //! Scripts run on threads over readers and writers that fail, never end or take little.
 
-use super::fakes::{Endless, Failing, Full, Slow};
+use super::fakes::{Endless, Failing, Full, Slow, Stumbling};
 use super::{LONG_READS, PARAMS, WRITERS, expect_threads_end, expect_threads_unwritten};
 use crate::tests::expect_eq;
 use lfs_audit::fault::{RunFault, ThreadsFault};
@@ -30,6 +30,22 @@ fn reader_on_threads_that_fails_at_each_read(rt: HostRuntime) {
     let mut reader = failing(SCRIPT.len() + 1, ErrorKind::Other);
     let mut writer = Vec::new(alloc);
     expect_threads_end(&rt, alloc, &mut reader, &mut writer, Ok(()));
+}
+
+#[test]
+fn reader_on_threads_that_fails_once(rt: HostRuntime) {
+    let fault = ThreadsFault::Run(RunFault::Read);
+    for reads in 0..=SCRIPT.len() {
+        for kind in [ErrorKind::Interrupted, ErrorKind::Other] {
+            let mut reader = Stumbling {
+                rest: SCRIPT,
+                reads,
+                has_failed: false,
+                kind,
+            };
+            expect_threads_unwritten(&rt, rt.alloc(), &mut reader, PARAMS, fault);
+        }
+    }
 }
 
 #[test]

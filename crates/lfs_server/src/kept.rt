@@ -1,0 +1,91 @@
+//! The volume as it stands behind the lock: its type keeps what no call changes.
+
+ghost use Rattle.std.specs.Prelude.{◌≡◌, ◌↔◌, ◌<◌, ◌≤◌, ◌++◌, ◌⊎◌, IsTrue};
+ghost use Rattle.lfs_model.specs.Runs.{kept_cleaning, kept_entry};
+
+use lfs_cleaner::wanting::is_wanted;
+use lfs_model::journal::CleanerAnswer;
+use lfs_settle::entries::CLEANER;
+use lfs_types::answer::{Answer, Resource};
+use lfs_types::cleaned::CleanedStore;
+use lfs_types::cleaner::CleanerCall;
+use lfs_types::cred::Cred;
+use lfs_types::request::Request;
+use lfs_types::store::FileStore;
+use lfs_volume::volume::Volume;
+use std::marker::{Brand, PhantomData};
+
+/// What no call changes of a volume, as a type.
+pub trait Sizes {
+    ghost use Rattle.std.specs.Prelude.{ℕ};
+    ghost use Rattle.lfs_types.specs.StoreStates.{Shape};
+
+    /// How many inode numbers and segments its store has, and whether changes of it take memory.
+    ghost shape: { Shape };
+    /// How many entries its journal may have.
+    ghost limit: { ℕ };
+}
+
+impl Sizes for Brand {
+    ghost use Rattle.std.specs.Prelude.{false};
+
+    ghost shape = { record { numbers = 0; segments = 0; can_lack_memory = false } };
+
+    ghost limit = { 0 };
+}
+
+/// A volume of these sizes.
+#[derive(Drop)]
+pub struct Kept<S: Sizes, F: FileStore + Drop> {
+    volume: Volume<F>,
+    sizes: PhantomData<S>,
+    ghost shaped: { (F.state volume.store).shape ≡ S.shape },
+    ghost limited: { volume.limit ≡ S.limit },
+}
+
+impl<S: Sizes, F: FileStore + Drop> Kept<S, F> {
+    /// This volume.
+    pub fn new(volume: Volume<F>) -> Kept<S, F>
+        requires shaped { (F.state volume.store).shape ≡ S.shape }
+        requires limited { volume.limit ≡ S.limit }
+        ensures { result.volume ≡ volume }
+    {
+        let sizes = PhantomData;
+        Kept { volume, sizes }
+    }
+
+    /// The volume.
+    pub fn into_volume(self) -> Volume<F>
+        ensures volume { result ≡ self.volume }
+        ensures shaped { (F.state result.store).shape ≡ S.shape }
+        ensures limited { result.limit ≡ S.limit }
+    {
+        let Kept { volume, sizes: _ } = self;
+        volume
+    }
+
+    /// Makes a user's call, and says whether the cleaner is wanted after it: it was refused for want of space, or it
+    /// lowered the clean segments to three or fewer.
+    pub fn call(&mut self, session: u8, cred: &Cred, request: Request) -> (Answer, bool)
+        ensures entered { self.new.volume.journal ≡ self.old.volume.journal
+            ++ kept_entry session cred.now request result.0 }
+        ensures wanted { IsTrue result.1 ↔ ((result.0 ≡ Answer.Refused Resource.NoSpace)
+            ⊎ (((F.state self.new.volume.store).clean < (F.state self.old.volume.store).clean)
+            × ((F.state self.new.volume.store).clean ≤ 3))) }
+    {
+        let before = self.volume.clean_segments();
+        let answer = self.volume.call(session, cred, request);
+        let wants_cleaner = is_wanted(&answer, before, self.volume.clean_segments());
+        (answer, wants_cleaner)
+    }
+}
+
+impl<S: Sizes, F: CleanedStore + Drop> Kept<S, F> {
+    /// Makes a call of the cleaner, in its session.
+    pub fn clean(&mut self, cred: &Cred, call: CleanerCall) -> CleanerAnswer
+        ensures { self.new.volume.journal ≡ self.old.volume.journal
+            ++ kept_cleaning 255 cred.now call result }
+    {
+        self.volume.clean(CLEANER, cred, call)
+    }
+}

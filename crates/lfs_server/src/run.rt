@@ -1,0 +1,14 @@
+//! What the threads of a run share beside the volume.
+
+use std::alloc::Global;
+
+/// The handle by which a run waits, where copies of what is asked go, and the gate that each call passes.
+#[derive_where(Clone, Copy)]
+pub struct Run<'a, R, G> {
+    /// The handle.
+    pub rt: &'a R,
+    /// Where copies go.
+    pub alloc: Global,
+    /// The gate.
+    pub gate: &'a G,
+}
