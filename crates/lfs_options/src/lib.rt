@@ -1,4 +1,4 @@
-//! What the program's arguments ask for.
+//! What the arguments of `lfsd` and of `lfs_shell` ask for.
 #![tactic(auto)]
 
 use clap::builder::ValueParser;
@@ -8,12 +8,18 @@ use lfs_types::store::Params;
 use std::alloc::{AllocError, Global};
 use std::convert::AsStr;
 
-/// The parameters where no argument says otherwise.
+/// The parameters of `lfsd` where no argument says otherwise.
 pub const DEFAULTS: Params = Params {
     segments: 64,
     inodes: 256,
     frames: 64,
     journal: 4096,
+};
+
+/// Those of `lfs_shell`.
+pub const SHELL_DEFAULTS: Params = Params {
+    journal: 100_000,
+    ..DEFAULTS
 };
 
 /// An option that takes a number.
@@ -31,45 +37,66 @@ struct NumberOption {
     sign: &'static str,
 }
 
-/// The options that take a number, in the order of `--help`.
-const NUMBERS: [NumberOption; 4] = [
-    NumberOption {
-        name: "segments",
-        least: 6,
-        most: 1024,
-        help: "How many segments of 32,768 bytes the log has, 6 to 1024; by default 64",
-        sign: "--segments takes a number of decimal digits alone, from 6 to 1024",
-    },
-    NumberOption {
-        name: "inodes",
-        least: 16,
-        most: 4096,
-        help: "How many inode numbers the volume has, 16 to 4096; by default 256",
-        sign: "--inodes takes a number of decimal digits alone, from 16 to 4096",
-    },
-    NumberOption {
-        name: "frames",
-        least: 32,
-        most: 1024,
-        help: "How many blocks of 512 bytes the cache holds, 32 to 1024; by default 64",
-        sign: "--frames takes a number of decimal digits alone, from 32 to 1024",
-    },
-    NumberOption {
-        name: "journal",
-        least: 1,
-        most: 100_000,
-        help: "How many entries the journal may have, 1 to 100000; by default 4096",
-        sign: "--journal takes a number of decimal digits alone, from 1 to 100000",
-    },
-];
+const SEGMENTS: NumberOption = NumberOption {
+    name: "segments",
+    least: 6,
+    most: 1024,
+    help: "How many segments of 32,768 bytes the log has, 6 to 1024; by default 64",
+    sign: "--segments takes a number of decimal digits alone, from 6 to 1024",
+};
 
-/// What `--help` tells behind the options.
+const INODES: NumberOption = NumberOption {
+    name: "inodes",
+    least: 16,
+    most: 4096,
+    help: "How many inode numbers the volume has, 16 to 4096; by default 256",
+    sign: "--inodes takes a number of decimal digits alone, from 16 to 4096",
+};
+
+const FRAMES: NumberOption = NumberOption {
+    name: "frames",
+    least: 32,
+    most: 1024,
+    help: "How many blocks of 512 bytes the cache holds, 32 to 1024; by default 64",
+    sign: "--frames takes a number of decimal digits alone, from 32 to 1024",
+};
+
+const JOURNAL: NumberOption = NumberOption {
+    name: "journal",
+    least: 1,
+    most: 100_000,
+    help: "How many entries the journal may have, 1 to 100000; by default 4096",
+    sign: "--journal takes a number of decimal digits alone, from 1 to 100000",
+};
+
+/// The journal of `lfs_shell`, which may be longer.
+const SHELL_JOURNAL: NumberOption = NumberOption {
+    name: "journal",
+    least: 1,
+    most: 1_000_000,
+    help: "How many entries the journal may have, 1 to 1000000; by default 100000",
+    sign: "--journal takes a number of decimal digits alone, from 1 to 1000000",
+};
+
+/// The options of `lfsd` that take a number, in the order of `--help`.
+const NUMBERS: [NumberOption; 4] = [SEGMENTS, INODES, FRAMES, JOURNAL];
+
+/// Those of `lfs_shell`.
+const SHELL_NUMBERS: [NumberOption; 4] = [SEGMENTS, INODES, FRAMES, SHELL_JOURNAL];
+
+/// What `--help` of `lfsd` tells behind the options.
 const MORE: &str = "Example: printf 'create /a 0644\\nstat /a\\n' | lfsd
 
 Read on in README.md: docs/FORMATS.md says how scripts, answers and the report are written, docs/RULES.md which rule
 denies what.";
 
-/// What the program is asked to do.
+/// What that of `lfs_shell` tells.
+const SHELL_MORE: &str = "Example: printf 'create /a 0644\\nstat /a\\n.quit\\n' | lfs_shell
+
+The line .help tells which lines may be said. Read on in README.md: docs/FORMATS.md says how lines and answers are
+written, docs/RULES.md which rule denies what.";
+
+/// What `lfsd` is asked to do.
 #[derive(Clone, Copy, PartialEq, Eq, Debug)]
 pub struct Options {
     /// The parameters of the volume.
@@ -78,7 +105,7 @@ pub struct Options {
     pub threads: bool,
 }
 
-/// The options that the program's words ask for; the first word is the program's name.
+/// The options that the words of `lfsd` ask for; the first word is the program's name.
 ///
 /// # Errors
 ///
@@ -86,33 +113,58 @@ pub struct Options {
 /// want of memory.
 pub fn options_of<'a, S: AsStr>(alloc: Global, words: &'a [S]) -> Result<Options, Error> {
     let mut command = command(alloc)?;
-    options_by(&mut command, words)
+    let matches = matches_in(&mut command, words, &NUMBERS)?;
+    let params = params_in(&matches, DEFAULTS);
+    let threads = matches.get_flag("threads");
+    Ok(Options { params, threads })
 }
 
-/// The fault of arguments that are no text.
+/// The parameters that the words of `lfs_shell` ask for; the first word is the program's name.
+///
+/// # Errors
+///
+/// As those of `options_of`.
+pub fn shell_params_of<'a, S: AsStr>(alloc: Global, words: &'a [S]) -> Result<Params, Error> {
+    let mut command = shell_command(alloc)?;
+    let matches = matches_in(&mut command, words, &SHELL_NUMBERS)?;
+    Ok(params_in(&matches, SHELL_DEFAULTS))
+}
+
+/// The fault of arguments of `lfsd` that are no text.
 ///
 /// # Errors
 ///
 /// It is itself one, with exit code 2; or want of memory.
 pub fn not_utf8(alloc: Global) -> Error {
-    match command(alloc) {
+    fault_of_text(command(alloc))
+}
+
+/// The same of `lfs_shell`.
+///
+/// # Errors
+///
+/// As those of `not_utf8`.
+pub fn shell_not_utf8(alloc: Global) -> Error {
+    fault_of_text(shell_command(alloc))
+}
+
+/// The fault of a command whose words are no text.
+fn fault_of_text(command: Result<Command<'_>, AllocError>) -> Error {
+    match command {
         Ok(mut command) => wrong_value(&mut command, "the arguments must be UTF-8"),
         Err(error) => Error::from(error),
     }
 }
 
-/// The options that a command finds in the words.
-fn options_by<'a, S: AsStr>(command: &mut Command<'a>, words: &'a [S]) -> Result<Options, Error> {
-    match command.try_get_matches_from_mut(words) {
-        Ok(matches) => without_signs(command, &matches),
-        Err(error) => Err(error),
-    }
-}
-
-/// The options that the matches hold, where no number begins with a sign.
-fn without_signs(command: &mut Command<'_>, matches: &ArgMatches<'_>) -> Result<Options, Error> {
-    match sign_in(matches) {
-        None => Ok(options_in(matches)),
+/// What a command finds in the words, where no number begins with a sign.
+fn matches_in<'a, S: AsStr>(
+    command: &mut Command<'a>,
+    words: &'a [S],
+    numbers: &[NumberOption],
+) -> Result<ArgMatches<'a>, Error> {
+    let matches = command.try_get_matches_from_mut(words)?;
+    match sign_in(&matches, numbers) {
+        None => Ok(matches),
         Some(message) => Err(wrong_value(command, message)),
     }
 }
@@ -125,16 +177,14 @@ fn wrong_value(command: &mut Command<'_>, message: &str) -> Error {
     }
 }
 
-/// The options that the matches hold.
-fn options_in(matches: &ArgMatches<'_>) -> Options {
-    let params = Params {
-        segments: number(matches, "segments", DEFAULTS.segments),
-        inodes: number(matches, "inodes", DEFAULTS.inodes),
-        frames: number(matches, "frames", DEFAULTS.frames),
-        journal: number(matches, "journal", DEFAULTS.journal),
-    };
-    let threads = matches.get_flag("threads");
-    Options { params, threads }
+/// The parameters that the matches hold, and these defaults for the others.
+fn params_in(matches: &ArgMatches<'_>, defaults: Params) -> Params {
+    Params {
+        segments: number(matches, "segments", defaults.segments),
+        inodes: number(matches, "inodes", defaults.inodes),
+        frames: number(matches, "frames", defaults.frames),
+        journal: number(matches, "journal", defaults.journal),
+    }
 }
 
 /// The number that an argument asks for, or this one where it is not given.
@@ -143,8 +193,8 @@ fn number(matches: &ArgMatches<'_>, id: &str, default: u32) -> u32 {
 }
 
 /// What is told of the first number that begins with a sign, if there is one.
-fn sign_in(matches: &ArgMatches<'_>) -> Option<&'static str> {
-    for number in &NUMBERS {
+fn sign_in(matches: &ArgMatches<'_>, numbers: &[NumberOption]) -> Option<&'static str> {
+    for number in numbers {
         if has_sign(matches, number.name) {
             return Some(number.sign);
         }
@@ -160,7 +210,7 @@ fn has_sign(matches: &ArgMatches<'_>, id: &str) -> bool {
     }
 }
 
-/// The program's options.
+/// The options of `lfsd`.
 fn command<'a>(alloc: Global) -> Result<Command<'a>, AllocError> {
     let [segments, inodes, frames, journal] = NUMBERS;
     Command::new(alloc, "lfsd")
@@ -169,6 +219,20 @@ fn command<'a>(alloc: Global) -> Result<Command<'a>, AllocError> {
         )
         .after_help(MORE)
         .arg(threads(alloc))?
+        .arg(segments.arg(alloc))?
+        .arg(inodes.arg(alloc))?
+        .arg(frames.arg(alloc))?
+        .arg(journal.arg(alloc))
+}
+
+/// The options of `lfs_shell`.
+fn shell_command<'a>(alloc: Global) -> Result<Command<'a>, AllocError> {
+    let [segments, inodes, frames, journal] = SHELL_NUMBERS;
+    Command::new(alloc, "lfs_shell")
+        .about(
+            "Answers calls on a volume in memory, each line of standard input before the next is read",
+        )
+        .after_help(SHELL_MORE)
         .arg(segments.arg(alloc))?
         .arg(inodes.arg(alloc))?
         .arg(frames.arg(alloc))?

@@ -1,0 +1,335 @@
+#!/usr/bin/env python3
+"""Fills volumes by generated runs, and fails where one can't be emptied again.
+
+full-volumes.py PROGRAM [COUNT [SEED [SHAPE]]] makes COUNT runs (by default 1,000) by a generator that SEED (by default 1)
+determines, of the shapes in turn, or of the one that is named. PROGRAM is a built `lfsd`. A run has 6 to 12 segments, and
+goes on until most calls are refused: files of one block or a few, also past the twelfth, are made and written, cut by a
+byte, given other modes, removed, synced, with passes of the cleaner between. Behind it stand
+
+- up to twelve rounds, each of an Unlink of each file, an Rmdir of each directory and a pass: they must leave an empty root;
+- a fill: blocks are written until they are refused. As many must be served as in a volume in which the same names were
+  made and removed, but for those of one segment, since the log may end anywhere in one.
+
+A run that breaks one of these is wedged: its script is kept in a folder that is named at the end, and the status is 1.
+For each shape a line says how many runs there were, how many rounds they took, and how many were wedged.
+"""
+import collections
+import functools
+import os
+import random
+import subprocess
+import sys
+import tempfile
+import time
+from concurrent.futures import ThreadPoolExecutor
+
+SECONDS = 300
+ROUNDS = 12
+# Most runs need no more, so these are tried first.
+FEW_ROUNDS = 3
+BLOCK = 512
+FILE_BLOCKS = 140
+DIRECT = 12
+# The most bytes of the lines of a round.
+ROUND_BYTES = 40_000
+# The blocks of a segment behind its first summary.
+SEGMENT = 63
+
+
+class Run:
+    """The lines of one run, and the names in it."""
+
+    def __init__(self, rng, segments=None):
+        self.rng = rng
+        self.lines = []
+        self.files = []
+        self.directories = []
+        self.sizes = {}
+        self.segments = segments or rng.randrange(6, 13)
+        self.inodes = rng.choice([16, 32, 64, 64, 128, 128, 256, 512, 1024])
+        self.frames = rng.choice([32, 64, 1024])
+
+    def say(self, line):
+        self.lines.append(line)
+
+    def arguments(self):
+        return ["--segments", str(self.segments), "--inodes", str(self.inodes), "--frames", str(self.frames),
+                "--journal", "100000"]
+
+    def file(self, path):
+        """A file is made."""
+        self.files.append(path)
+        self.sizes[path] = 0
+        self.say(f"create {path} 0644")
+
+    def directory(self, path):
+        self.directories.append(path)
+        self.say(f"mkdir {path} 0755")
+
+    def write(self, path, block):
+        """One byte is written, which takes a block."""
+        at = block * BLOCK + self.rng.randrange(BLOCK)
+        self.sizes[path] = max(self.sizes.get(path, 0), at + 1)
+        self.say(f"write {path} at {at} {self.rng.randrange(256):02x}")
+
+    def cut(self, path):
+        """The file loses its last byte."""
+        size = self.sizes.get(path, 0)
+        if size > 0:
+            self.sizes[path] = size - 1
+            self.say(f"length {path} {size - 1}")
+
+    def chmod(self, path):
+        self.say(f"chmod {path} {self.rng.choice(['0600', '0644', '0666', '0700'])}")
+
+    def unlink(self, path):
+        self.say(f"unlink {path}")
+
+    def sometimes(self, line, chance):
+        if self.rng.random() < chance:
+            self.say(line)
+
+    def any(self):
+        return self.rng.choice(self.files)
+
+    def names(self, length):
+        """Names of so many bytes at least, for each number that is free, and no more than a script has room for."""
+        count = min(self.inodes - 4, ROUND_BYTES // (length + 12))
+        return [f"/{i:x}".ljust(length + 1, "n") for i in range(count)]
+
+
+def first_block(rng, past):
+    return rng.randrange(DIRECT, FILE_BLOCKS) if past else rng.randrange(DIRECT)
+
+
+def filled(run, past, name_length, blocks, sync, passes):
+    """Files are made and written until they are refused."""
+    for name in run.names(name_length):
+        run.file(name)
+        for _ in range(run.rng.choice(blocks)):
+            run.write(name, first_block(run.rng, past()))
+        run.sometimes("sync", sync)
+        run.sometimes("pass", passes)
+
+
+def worn(run, count, kinds, sync, passes):
+    """Cuts, Chmods and what else the kinds say, until they are refused."""
+    for _ in range(count):
+        path = run.any()
+        kind = run.rng.choice(kinds)
+        if kind == "cut":
+            run.cut(path)
+        elif kind == "chmod":
+            run.chmod(path)
+        elif kind == "unlink":
+            run.unlink(path)
+        elif kind == "make":
+            run.say(f"create {path} 0644")
+            run.sizes[path] = 0
+        elif kind == "direct":
+            run.write(path, run.rng.randrange(DIRECT))
+        elif kind == "past":
+            run.write(path, run.rng.randrange(DIRECT, FILE_BLOCKS))
+        run.sometimes("sync", sync)
+        run.sometimes("pass", passes)
+
+
+def small_files(run):
+    """Files of one or two blocks, then cuts and Chmods."""
+    rng = run.rng
+    filled(run, lambda: False, rng.choice([0, 0, 8, 60]), [1, 1, 2], rng.choice([0, 0.1, 0.5, 1]), 0)
+    worn(run, 400, ["cut", "chmod"], rng.choice([0, 0.1, 1]), rng.choice([0, 0.01, 0.05]))
+
+
+def past_the_twelfth(run):
+    """Files of one or two blocks past the twelfth, then cuts and Chmods, passes between."""
+    rng = run.rng
+    filled(run, lambda: True, rng.choice([0, 0, 8, 60]), [1, 1, 2], rng.choice([0, 0.1, 0.5, 1]), rng.choice([0, 0.02]))
+    worn(run, 400, ["cut", "chmod"], rng.choice([0, 0.1, 0.5, 1]), rng.choice([0, 0.01, 0.05]))
+
+
+def records(run):
+    """Empty files whose records are written over and over."""
+    rng = run.rng
+    filled(run, lambda: False, rng.choice([0, 8]), [0], rng.choice([0, 0.1]), 0)
+    worn(run, 1200, ["chmod"], rng.choice([0.05, 0.2, 1]), rng.choice([0, 0.005, 0.02]))
+
+
+def long_names(run):
+    """A root of many blocks."""
+    rng = run.rng
+    filled(run, lambda: rng.random() < 0.3, rng.choice([120, 251, 254]), [0, 1, 1], rng.choice([0, 0.2, 1]),
+           rng.choice([0, 0.02]))
+    worn(run, 400, ["cut", "chmod", "direct"], rng.choice([0, 0.1, 0.5]), rng.choice([0, 0.02]))
+
+
+def mixed(run):
+    """All kinds of calls in turns."""
+    rng = run.rng
+    filled(run, lambda: rng.random() < 0.5, rng.choice([0, 8, 60, 200]), [0, 1, 2, 3, 8], rng.choice([0, 0.1, 0.5]),
+           rng.choice([0, 0.02]))
+    for _ in range(rng.randrange(1, 6)):
+        kinds = rng.sample(["cut", "chmod", "unlink", "make", "direct", "past"], rng.randrange(1, 5))
+        worn(run, rng.choice([50, 200, 400]), kinds, rng.choice([0, 0.05, 0.3, 1]), rng.choice([0, 0.01, 0.05]))
+
+
+def removed_one_by_one(run):
+    """A full volume in which files are removed with a Sync behind each, until they are refused, and made anew."""
+    rng = run.rng
+    past = rng.random() < 0.5
+    filled(run, lambda: past, rng.choice([0, 8, 60, 200]), [1, 2, 4], rng.choice([0, 0.3]), 0)
+    for _ in range(rng.randrange(1, 4)):
+        worn(run, rng.choice([20, 60, 200]), ["unlink"], 1, rng.choice([0, 0.02, 0.1]))
+        worn(run, rng.choice([50, 200]), ["make", "past" if past else "direct"], rng.choice([0, 0.5]),
+             rng.choice([0, 0.02]))
+
+
+def cut_one_by_one(run):
+    """Cuts by a byte with a Sync behind each, until they are refused."""
+    rng = run.rng
+    share = rng.choice([0.2, 0.5, 0.8])
+    filled(run, lambda: rng.random() < share, rng.choice([0, 8]), [1, 1, 2], rng.choice([0, 1]), rng.choice([0, 0.03]))
+    worn(run, 300, ["cut"], rng.choice([0.3, 1]), rng.choice([0, 0.02, 0.1]))
+    worn(run, 200, ["chmod", "direct"], rng.choice([0, 0.3, 1]), rng.choice([0, 0.02, 0.1]))
+    worn(run, 200, ["cut", "chmod"], rng.choice([0, 0.3, 1]), rng.choice([0, 0.02, 0.1]))
+
+
+def directories(run):
+    """Files in directories, as many to each."""
+    rng = run.rng
+    count = rng.randrange(2, max(3, run.inodes // 4))
+    for i in range(count):
+        run.directory(f"/d{i}")
+    length = rng.choice([0, 0, 60, 200])
+    past = rng.random() < 0.5
+    for i in range(min(run.inodes - 4 - count, ROUND_BYTES // (length + 20))):
+        path = f"/d{rng.randrange(count)}/" + f"{i:x}".ljust(length, "n")
+        run.file(path)
+        for _ in range(rng.choice([0, 1, 1, 2])):
+            run.write(path, first_block(rng, past))
+        run.sometimes("sync", 0.1)
+    worn(run, 300, ["cut", "chmod", "direct"], rng.choice([0, 0.1, 1]), rng.choice([0, 0.02]))
+
+
+SHAPES = [small_files, past_the_twelfth, records, long_names, mixed, removed_one_by_one, cut_one_by_one, directories]
+
+
+def emptying(run):
+    """A round: each file and each directory is removed, and a pass is made."""
+    lines = [f"unlink {path}" for path in dict.fromkeys(run.files)]
+    lines += [f"rmdir {path}" for path in run.directories]
+    return lines + ["pass", "list /"]
+
+
+def filling(run):
+    """Blocks are written until they are refused."""
+    lines = ["pass"] * 4
+    for i in range(1 + run.segments * SEGMENT // FILE_BLOCKS):
+        lines.append(f"create /fill{i} 0644")
+        lines += [f"write /fill{i} at {block * BLOCK} 61" for block in range(FILE_BLOCKS)]
+    return lines
+
+
+def told(program, run, lines):
+    """What the program prints of its users' calls, a line for each."""
+    text = "\n".join(lines) + "\n"
+    done = subprocess.run([program, *run.arguments()], input=text.encode(), capture_output=True, timeout=SECONDS)
+    if done.returncode != 0:
+        raise RuntimeError(f"status {done.returncode}: {done.stderr[:200]}")
+    printed = done.stdout.decode().split("\n")
+    return [line for line in printed if line.startswith("0 ") and not line.startswith("0 cleaner ")]
+
+
+def served(answers):
+    return sum(answer == "0 ok" for answer in answers)
+
+
+def fill_alone(program, run, lines):
+    """How many calls of a fill are served behind these lines."""
+    fill = filling(run)
+    answers = told(program, run, lines + fill)
+    return served(answers[-sum(line != "pass" for line in fill):])
+
+
+@functools.lru_cache(maxsize=None)
+def fresh_fill(program, segments):
+    """How much a fresh volume takes."""
+    return fill_alone(program, Run(random.Random(0), segments), [])
+
+
+def fresh_named_fill(program, run):
+    """How much a volume takes in which the names of a run were made and removed, with what blocks their directory has."""
+    lines = [f"mkdir {path} 0755" for path in run.directories] + [f"create {path} 0644" for path in dict.fromkeys(run.files)]
+    return fill_alone(program, run, lines + 2 * [line for line in emptying(run) if line != "list /"])
+
+
+def made(seed, index, shape):
+    run = Run(random.Random(f"{seed} {index}"))
+    shape(run)
+    return run
+
+
+def emptied(program, run, rounds):
+    """In which of so many rounds behind a run its volume was empty, how many calls of a fill were served then, how many
+    of the run were refused, and the lines."""
+    fill = filling(run)
+    lines = run.lines + emptying(run) * rounds + fill
+    answers = told(program, run, lines)
+    user = [line for line in lines if line != "pass"]
+    if len(user) != len(answers):
+        raise RuntimeError(f"{len(answers)} answers to {len(user)} calls")
+    refused = sum(answer == "0 refused NoSpace" for answer in answers[:len(run.lines)])
+    lists = [answer for line, answer in zip(user, answers) if line == "list /"]
+    empty = lists.index("0 names") + 1 if "0 names" in lists else None
+    return empty, served(answers[-sum(line != "pass" for line in fill):]), refused, lines
+
+
+def tried(program, seed, index, shape):
+    """How many rounds it took to empty the run's volume, none where it was never empty; how many blocks less than a fresh
+    one it then takes; how many calls were refused; and its lines."""
+    run = made(seed, index, shape)
+    empty, filled_now, refused, lines = emptied(program, run, FEW_ROUNDS)
+    less = fresh_fill(program, run.segments) - filled_now
+    if empty is None or less > SEGMENT:
+        empty, filled_now, refused, lines = emptied(program, run, ROUNDS)
+        less = fresh_named_fill(program, run) - filled_now
+    return index, run, empty, less, refused, lines
+
+
+def main():
+    if len(sys.argv) < 2:
+        sys.exit(__doc__)
+    program = os.path.abspath(sys.argv[1])
+    count = int(sys.argv[2]) if len(sys.argv) > 2 else 1_000
+    seed = sys.argv[3] if len(sys.argv) > 3 else "1"
+    shapes = [it for it in SHAPES if len(sys.argv) < 5 or it.__name__ == sys.argv[4]]
+    start = time.monotonic()
+    runs, wedged, most, less_most, refusals = (collections.Counter() for _ in range(5))
+    folder = None
+    shape_of = lambda index: shapes[index % len(shapes)]
+    with ThreadPoolExecutor(max(1, (os.cpu_count() or 2) // 2)) as pool:
+        for index, run, rounds, less, refused, lines in pool.map(
+                lambda i: tried(program, seed, i, shape_of(i)), range(count)):
+            name = shape_of(index).__name__
+            runs[name] += 1
+            refusals[name] += refused > 0
+            most[name] = max(most[name], rounds or 0)
+            less_most[name] = max(less_most[name], less)
+            if rounds is None or less > SEGMENT:
+                wedged[name] += 1
+                folder = folder or tempfile.mkdtemp(prefix="full-")
+                with open(os.path.join(folder, f"{index}-{name}.lfs"), "w", encoding="ascii") as kept:
+                    kept.write("\n".join(lines) + "\n")
+                what = "never empty" if rounds is None else f"takes {less} blocks less than a fresh one"
+                print(f"{index} {name}: {what}; {' '.join(run.arguments())}", flush=True)
+    for shape in shapes:
+        name = shape.__name__
+        print(f"{name}: runs={runs[name]} refused-in={refusals[name]} rounds-at-most={most[name]} "
+              f"blocks-less-at-most={less_most[name]} wedged={wedged[name]}")
+    print(f"runs={count} seed={seed} wedged={sum(wedged.values())} seconds={time.monotonic() - start:.0f}")
+    if folder:
+        sys.exit(f"kept in {folder}")
+
+
+if __name__ == "__main__":
+    main()
