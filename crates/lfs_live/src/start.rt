@@ -1,7 +1,7 @@
 //! A talk over a fresh volume.
 
 ghost use Rattle.std.specs.Prelude.{◌≡◌, IfErr, OnOk};
-ghost use Rattle.lfs_audit.specs.Scripts.{IsInRange};
+ghost use Rattle.lfs_server.specs.Serving.{IsInRange};
 ghost use Rattle.lfs_audit.specs.declared.fault.RunFault.TheVariants.{Read as Failed};
 ghost use Rattle.lfs_live.specs.Scripts.{HasHeardOfLog, IsLogFault, IsLogTalk};
 
