@@ -9,6 +9,7 @@ pub mod Levels
 pub mod Naming
 pub mod Padded
 pub mod Paths
+pub mod Ranges
 pub mod RuleCodes
 pub mod Shown
 pub mod Splicing

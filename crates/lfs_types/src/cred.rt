@@ -1,6 +1,6 @@
 //! Credentials of callers.
 
-ghost use Rattle.std.specs.Prelude.{◌≡◌, ◌==◌, MatchResult, Some, None};
+ghost use Rattle.std.specs.Prelude.{◌≡◌, ◌==◌, ◌≤◌, true, length, MatchResult, Some, None};
 ghost use Rattle.std.specs.List.{list_any};
 ghost use Rattle.lfs_types.specs.Credentials.{cred_fault};
 
@@ -108,6 +108,16 @@ impl Cred {
         ensures { result ≡ list_any (λ g. g == gid) self.now.groups }
     {
         self.groups[..self.count].contains(&gid)
+    }
+
+    /// The groups, 1 to 16.
+    pub fn groups(&self) -> &[u32]
+        ensures value { result.now ≡ self.now.groups }
+        ensures some { 1 ≤ length result.now }
+        ensures few { length result.now ≤ 16 }
+        ensures init { self.now.init ≡ true → self.now.uid ≡ 0 }
+    {
+        &self.groups[..self.count]
     }
 
     /// Whether it is init.
