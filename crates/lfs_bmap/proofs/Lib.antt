@@ -8,4 +8,5 @@ pub mod PieceLemmas
 pub mod PlaceLemmas
 pub mod ReadingLemmas
 pub mod SegmentLemmas
+pub mod TableLemmas
 pub mod WayLemmas

@@ -91,13 +91,13 @@ taken_outside entry l spare number code place log stays may dirty =
 pub present_address-key : (l : LogState) (number code : ℕ) → number < l.numbers → code < BLOCK_CODES → present_address l number (l.version number) code ≡ l.at number code / 4
 unfolding present_address
 present_address-key l number code low below =
-    cond-true _ _ _ (and_from _ _ (lt-ltb number l.numbers low) (and_from _ _ (eq-eqb (l.version number) (l.version number) refl) (lt-ltb code 271 below)))
+    cond-true _ _ _ (and_from _ _ (lt-ltb number l.numbers low) (and_from _ _ (eq-eqb (l.version number) (l.version number) refl) (lt-ltb code BLOCK_CODES below)))
 
 pub present_address-other : (l : LogState) (number version code : ℕ) → (l.numbers ≤ number) ⊎ ((l.version number ≢ version) ⊎ (BLOCK_CODES ≤ code)) → present_address l number version code ≡ 0
 unfolding present_address
 present_address-other l number version code (inl past) = cond-false _ _ _ (and_left _ _ (le-ltb number l.numbers past))
 present_address-other l number version code (inr (inl ne)) = cond-false _ _ _ (and_right _ _ (and_left _ _ (ne_eqb (l.version number) version ne)))
-present_address-other l number version code (inr (inr past)) = cond-false _ _ _ (and_right _ _ (and_right _ _ (le-ltb code 271 past)))
+present_address-other l number version code (inr (inr past)) = cond-false _ _ _ (and_right _ _ (and_right _ _ (le-ltb code BLOCK_CODES past)))
 
 -- keys that stay have the addresses that they had
 pub present_address-same : (old new : LogState) → SameKeys old new → (number version code : ℕ) → present_address new number version code ≡ present_address old number version code
@@ -105,7 +105,7 @@ present_address-same old new keys number version code =
     elim (cases_lt number old.numbers) [
       | inr past ↦
           present_address-other new number version code (inl (let same = keys.numbers in omega arith)) ∙ sym (present_address-other old number version code (inl past))
-      | inl low ↦ elim (cases_lt code 271) [
+      | inl low ↦ elim (cases_lt code BLOCK_CODES) [
         | inr past ↦ present_address-other new number version code (inr (inr past)) ∙ sym (present_address-other old number version code (inr (inr past)))
         | inl below ↦
             let there : number < new.numbers = subst (λ m. number < m) (sym keys.numbers) low in

@@ -10,13 +10,15 @@ use Rattle.lfs_bmap.specs.Blocks.{code_of, logical_of}
 use Rattle.lfs_bmap.specs.Log.{Owner}
 use Rattle.lfs_bmap.specs.Owners.{owner_in, owner_at, NamesBlock, NamesRecord}
 use Rattle.lfs_bmap.specs.declared.blocks.FileBlock.{FileBlock}
-use Rattle.lfs_bmap.specs.declared.blocks.FileBlock.TheVariants.{Record, Single, Data}
+use Rattle.lfs_bmap.specs.declared.blocks.FileBlock.TheVariants.{Record, Single, Double, Child, Data}
 
 owner_in-block : (block : FileBlock) (number version : ℕ) (found : Option (ℕ × ℕ)) → code_of block ≢ 0
     → owner_in (logical_of block) number version 0 found ≡ Some (record { number = number; version = version; code = code_of block })
 unfolding owner_in
 owner_in-block Record number version found some = absurd (some refl)
 owner_in-block Single number version found some = refl
+owner_in-block Double number version found some = refl
+owner_in-block (Child index) number version found some = refl
 owner_in-block (Data index) number version found some = refl
 
 owner_in-record : (number version slot n v : ℕ) → owner_in logical.Inodes number version slot (Some (n, v)) ≡ Some (record { number = n; version = v; code = 0 })
@@ -80,6 +82,12 @@ unfolding owner_in
 owner_in-named logical.Inodes number version slot found o h =
     let s = in_slot found o h in inr (record { inodes = refl; found_there = s.0; code = s.1 })
 owner_in-named logical.Single number version slot found o h =
+    let s = first_unit slot o _ h in
+    inl (record { number = ap (λ (x : Owner). x.number) s.1; version = ap (λ (x : Owner). x.version) s.1; code = ap (λ (x : Owner). x.code) s.1; first = s.0 })
+owner_in-named logical.Double number version slot found o h =
+    let s = first_unit slot o _ h in
+    inl (record { number = ap (λ (x : Owner). x.number) s.1; version = ap (λ (x : Owner). x.version) s.1; code = ap (λ (x : Owner). x.code) s.1; first = s.0 })
+owner_in-named (logical.Child index) number version slot found o h =
     let s = first_unit slot o _ h in
     inl (record { number = ap (λ (x : Owner). x.number) s.1; version = ap (λ (x : Owner). x.version) s.1; code = ap (λ (x : Owner). x.code) s.1; first = s.0 })
 owner_in-named (logical.Data index) number version slot found o h =

@@ -2,9 +2,9 @@
 use Rattle.std.proofs.Common.{◌≡◌, ◌≢◌, ℕ, zero, suc, subst, lit<, ◌+◌, ◌-◌, ◌*◌, ◌/◌, ◌%◌, ◌<◌, ◌≤◌, ◌⊎◌, inl, inr, List, [], ◌∷◌, refl, sym, ap, ◌∙◌, arith}
 use Rattle.std.proofs.lemmas.Bool.{cases_lt, cases_eq, cond-true, cond-false, ne_eqb, lt-ltb, le-ltb}
 use Rattle.lfs_bmap.specs.declared.blocks.FileBlock.{FileBlock}
-use Rattle.lfs_bmap.specs.declared.blocks.FileBlock.TheVariants.{Record, Single, Data}
+use Rattle.lfs_bmap.specs.declared.blocks.FileBlock.TheVariants.{Record, Single, Double, Child, Data}
 use Rattle.lfs_bmap.specs.declared.blocks.TheConstants.{BLOCK_CODES}
-use Rattle.lfs_bmap.specs.Blocks.{code_of, way_to}
+use Rattle.lfs_bmap.specs.Blocks.{IsFileBlock, code_of, table_at, way_to}
 use Rattle.lfs_bmap.specs.Ways.{data_way, way_of, code_at, IsWay, IsKnown}
 
 -- the number of codes with the double indirect block: 131 and 16,524 data blocks
@@ -24,6 +24,20 @@ pub data_way-double : (n : ℕ) → 140 ≤ n → data_way n ≡ ((n - 140) % 12
 unfolding data_way
 data_way-double n h = cond-false _ _ _ (le-ltb n 12 (omega arith)) ∙ cond-false _ _ _ (le-ltb n 140 h)
 
+-- from block 12 on, the data blocks stand under their indirect blocks by 128
+pub data_way-under : (n : ℕ) → 12 ≤ n → data_way n ≡ ((n - 12) % 128) ∷ way_to (table_at ((n - 12) / 128))
+data_way-under n h =
+    elim (cases_lt n 140) [
+      | inl low ↦
+          let none : (n - 12) / 128 ≡ 0 = omega arith in
+          let same : (n - 12) % 128 ≡ n - 12 = omega arith in
+          data_way-single n h low ∙ ap (λ j. j ∷ 12 ∷ []) (sym same) ∙ ap (λ t. ((n - 12) % 128) ∷ way_to (table_at t)) (sym none)
+      | inr high ↦
+          let more : (n - 12) / 128 ≡ suc ((n - 140) / 128) = omega arith in
+          let same : (n - 12) % 128 ≡ (n - 140) % 128 = omega arith in
+          data_way-double n high ∙ ap (λ j. j ∷ ((n - 140) / 128) ∷ 13 ∷ []) (sym same) ∙ ap (λ t. ((n - 12) % 128) ∷ way_to (table_at t)) (sym more)
+    ]
+
 -- The way of a code, by cases.
 pub way_of-child : (k : ℕ) → k < 128 → way_of (3 + k) ≡ k ∷ 13 ∷ []
 unfolding way_of
@@ -40,11 +54,13 @@ way_of-data n =
     ∙ cond-false _ _ _ (ne_eqb (131 + n) 2 (λ p. omega arith)) ∙ cond-false _ _ _ (le-ltb (131 + n) 131 (omega arith)) ∙ ap data_way e
 
 -- the way of a block's code is its way
-pub way_of-code_of : (block : FileBlock) → way_of (code_of block) ≡ way_to block
+pub way_of-code_of : (block : FileBlock) → IsFileBlock block → way_of (code_of block) ≡ way_to block
 unfolding way_of
-way_of-code_of Record = refl
-way_of-code_of Single = refl
-way_of-code_of (Data n) = way_of-data n
+way_of-code_of Record is = refl
+way_of-code_of Single is = refl
+way_of-code_of Double is = refl
+way_of-code_of (Child k) is = way_of-child k is
+way_of-code_of (Data n) is = way_of-data n
 
 -- The code at a way, by cases.
 code_at-direct : (n : ℕ) → n < 12 → code_at (n ∷ []) ≡ 131 + n
@@ -116,7 +132,7 @@ up_code-place place (inl e) = subst (λ p. code_at (p ∷ []) < 131) (sym e) (li
 up_code-place place (inr e) = subst (λ p. code_at (p ∷ []) < 131) (sym e) (lit< tt)
 
 -- a data block's code is found at its way
-code_at-data : (n : ℕ) → code_at (data_way n) ≡ 131 + n
+pub code_at-data : (n : ℕ) → code_at (data_way n) ≡ 131 + n
 code_at-data n =
     elim (cases_lt n 12) [
       | inl direct ↦ ap code_at (data_way-direct n direct) ∙ code_at-direct n direct

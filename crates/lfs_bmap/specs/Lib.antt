@@ -6,3 +6,4 @@ pub mod Owners
 pub mod Pieces
 pub mod Reading
 pub mod Ways
+pub mod Tables

@@ -12,6 +12,10 @@ unfoldable pub owner_in : LogicalBlock → ℕ → ℕ → ℕ → Option (ℕ �
 owner_in logical.Inodes number version slot found = option_map (λ r. record { number = r.0; version = r.1; code = 0 }) found
 owner_in logical.Single number version slot found =
     if slot == 0 then Some (record { number = number; version = version; code = 1 }) else None
+owner_in logical.Double number version slot found =
+    if slot == 0 then Some (record { number = number; version = version; code = 2 }) else None
+owner_in (logical.Child index) number version slot found =
+    if slot == 0 then Some (record { number = number; version = version; code = 3 + index }) else None
 owner_in (logical.Data index) number version slot found =
     if slot == 0 then Some (record { number = number; version = version; code = 131 + index }) else None
 

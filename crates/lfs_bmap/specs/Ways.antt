@@ -3,7 +3,6 @@
 -- block's address in the block that holds it, then the way of that block.
 use Rattle.std.specs.Prelude.{◌≡◌, ℕ, ◌+◌, ◌-◌, ◌*◌, ◌/◌, ◌%◌, ◌<◌, ◌⊎◌, List, [], ◌∷◌, if◌then◌else◌, ◌==◌, nat_lt, ⊤}
 use Rattle.lfs_bmap.specs.declared.blocks.TheConstants.{DIRECT_BLOCKS, FIRST_DATA_CODE, BLOCK_CODES}
-use Rattle.lfs_types.specs.declared.block.TheConstants.{BLOCK_SIZE}
 
 -- the way of data block n: direct, under the single indirect block, or under a child of the double indirect block
 unfoldable pub data_way : ℕ → List ℕ
@@ -30,10 +29,6 @@ code_at (cell ∷ child ∷ place ∷ up) = 271 + 128 * child + cell
 unfoldable pub codes_on : List ℕ → List ℕ
 codes_on [] = []
 codes_on (i ∷ up) = code_at (i ∷ up) ∷ codes_on up
-
--- how many indirect blocks lead to the blocks of a file's bytes below one
-abbrev pub tables_below : ℕ → ℕ
-tables_below end = if nat_lt (DIRECT_BLOCKS * BLOCK_SIZE) end then 1 else 0
 
 -- the ways of blocks: 14 addresses in a record, 128 in an indirect block
 abbrev pub IsWay : List ℕ → Type 0

@@ -1,21 +1,29 @@
 //! The blocks of a file, their codes, and where the address of each one stands.
 
-ghost use Rattle.std.specs.Prelude.{◌≡◌, ◌∷◌, ◌<◌, IfSome, MatchOption, []};
-ghost use Rattle.lfs_bmap.specs.Blocks.{IsFileBlock, IsTable, code_of, file_block_of, logical_of, table_of, way_to};
+ghost use Rattle.std.specs.Prelude.{◌≡◌, ◌∷◌, ◌<◌, ◌≤◌, IfSome, MatchOption, []};
+ghost use Rattle.lfs_bmap.specs.Blocks.{IsFileBlock, IsTable, code_of, file_block_of, logical_of, table_at, table_of, way_to};
 
-use lfs_inodes::inode::DIRECT_COUNT;
+use lfs_inodes::inode::{DIRECT_COUNT, ENTRY_COUNT};
 use lfs_segments::entry::LogicalBlock;
 use lfs_types::limits::FILE_BLOCKS;
 
 /// The number of data blocks whose addresses stand in the inode record, as the code of a block counts them.
 pub const DIRECT_BLOCKS: u32 = DIRECT_COUNT as u32;
 
-/// The place among the addresses of a record where that of the single indirect block stands.
-pub const SINGLE_PLACE: u32 = 12;
+/// The number of addresses in an indirect block.
+pub const TABLE_CELLS: u32 = ENTRY_COUNT as u32;
 
-/// The code of a file's first data block (this project's profile). Codes 2 to 130 are kept for the
-/// double indirect block and its 128 children.
-pub const FIRST_DATA_CODE: u32 = 131;
+/// The place among the addresses of a record where that of the single indirect block stands.
+pub const SINGLE_PLACE: u32 = DIRECT_BLOCKS;
+
+/// The place among the addresses of a record where that of the double indirect block stands.
+pub const DOUBLE_PLACE: u32 = SINGLE_PLACE + 1;
+
+/// The code of the first child of the double indirect block (this project's profile).
+pub const FIRST_CHILD_CODE: u32 = 3;
+
+/// The code of a file's first data block.
+pub const FIRST_DATA_CODE: u32 = FIRST_CHILD_CODE + TABLE_CELLS;
 
 /// The number of codes of a file's blocks.
 pub const BLOCK_CODES: u32 = FIRST_DATA_CODE + FILE_BLOCKS;
@@ -27,7 +35,11 @@ pub enum FileBlock {
     Record,
     /// The single indirect block.
     Single,
-    /// A data block, by its index from 0 to 139.
+    /// The double indirect block.
+    Double,
+    /// A child of the double indirect block, by its index from 0 to 127.
+    Child(u8),
+    /// A data block, by its index, below `FILE_BLOCKS`.
     Data(u32),
 }
 
@@ -40,8 +52,21 @@ pub struct Cell {
     pub index: u32,
 }
 
+/// The indirect block that holds the addresses of the 128 data blocks from `12 + 128 * index` on.
+fn indirect_block(index: u32) -> FileBlock
+    requires { index ≤ TABLE_CELLS }
+    ensures { result ≡ table_at index }
+{
+    if index == 0 {
+        FileBlock::Single
+    } else {
+        FileBlock::Child((index - 1) as u8)
+    }
+}
+
 impl FileBlock {
-    /// The block's code: 0 the record, 1 the single indirect block, 131 + n data block n.
+    /// The block's code: 0 the record, 1 the single indirect block, 2 the double one, 3 + k its child k,
+    /// 131 + n data block n.
     pub fn code(self) -> u32
         requires { IsFileBlock self }
         ensures { result ≡ code_of self }
@@ -49,6 +74,8 @@ impl FileBlock {
         match self {
             FileBlock::Record => 0,
             FileBlock::Single => 1,
+            FileBlock::Double => 2,
+            FileBlock::Child(index) => FIRST_CHILD_CODE + u32::from(index),
             FileBlock::Data(index) => FIRST_DATA_CODE + index,
         }
     }
@@ -62,9 +89,11 @@ impl FileBlock {
         match code {
             0 => Some(FileBlock::Record),
             1 => Some(FileBlock::Single),
-            code if code >= FIRST_DATA_CODE && code < BLOCK_CODES => {
-                Some(FileBlock::Data(code - FIRST_DATA_CODE))
+            2 => Some(FileBlock::Double),
+            code if code < FIRST_DATA_CODE => {
+                Some(FileBlock::Child((code - FIRST_CHILD_CODE) as u8))
             }
+            code if code < BLOCK_CODES => Some(FileBlock::Data(code - FIRST_DATA_CODE)),
             _ => None,
         }
     }
@@ -76,6 +105,8 @@ impl FileBlock {
         match self {
             FileBlock::Record => LogicalBlock::Inodes,
             FileBlock::Single => LogicalBlock::Single,
+            FileBlock::Double => LogicalBlock::Double,
+            FileBlock::Child(index) => LogicalBlock::Child(index),
             FileBlock::Data(index) => LogicalBlock::Data(index),
         }
     }
@@ -87,6 +118,8 @@ impl FileBlock {
         match block {
             LogicalBlock::Inodes => FileBlock::Record,
             LogicalBlock::Single => FileBlock::Single,
+            LogicalBlock::Double => FileBlock::Double,
+            LogicalBlock::Child(index) => FileBlock::Child(index),
             LogicalBlock::Data(index) => FileBlock::Data(index),
         }
     }
@@ -103,8 +136,13 @@ impl FileBlock {
         let (table, index) = match self {
             FileBlock::Record => return None,
             FileBlock::Single => (FileBlock::Record, SINGLE_PLACE),
+            FileBlock::Double => (FileBlock::Record, DOUBLE_PLACE),
+            FileBlock::Child(index) => (FileBlock::Double, u32::from(index)),
             FileBlock::Data(index) if index < DIRECT_BLOCKS => (FileBlock::Record, index),
-            FileBlock::Data(index) => (FileBlock::Single, index - DIRECT_BLOCKS),
+            FileBlock::Data(index) => {
+                let past = index - DIRECT_BLOCKS;
+                (indirect_block(past / TABLE_CELLS), past % TABLE_CELLS)
+            }
         };
         Some(Cell { table, index })
     }

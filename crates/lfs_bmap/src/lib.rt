@@ -5,3 +5,5 @@
 
 pub mod blocks;
 pub mod pieces;
+pub mod sizes;
+pub mod tables;

@@ -1,11 +1,11 @@
 -- Addresses side by side in a block.
-use Rattle.std.proofs.Common.{◌≡◌, ◌≢◌, ℕ, ◌+◌, ◌-◌, ◌*◌, ◌<◌, ◌≤◌, List, cond, eqb, length, get_or, set, slice_index, refl, sym, ap, ◌∙◌, arith, inl, inr}
+use Rattle.std.proofs.Common.{◌≡◌, ◌≢◌, ℕ, ◌+◌, ◌-◌, ◌*◌, ◌/◌, ◌%◌, ◌<◌, ◌≤◌, List, cond, eqb, length, get_or, set, slice_index, refl, sym, ap, ◌∙◌, arith, inl, inr}
 use Rattle.std.proofs.lemmas.Bool.{cases_lt, cases_eq, lt-ltb, le-ltb, eq-eqb, ne_eqb}
 use Rattle.std.proofs.lemmas.List.{ext_get_or, length-set, get_or-set_same, get_or-set_other}
 use Rattle.std.proofs.lemmas.List.FromFn.{length-map-range_with_len, get_or-map-range_with_len}
 use Rattle.lfs_inodes.specs.Bytes.{number_at, AreBytes, SameBetween, Puts}
 use Rattle.lfs_inodes.specs.declared.inode.Inode.{Inode}
-use Rattle.lfs_inodes.specs.Addresses.{numbers, cells, address_of}
+use Rattle.lfs_inodes.specs.Addresses.{SameChild, numbers, cells, address_of}
 use Rattle.lfs_inodes.proofs.Numbers.{number_at-one}
 use Rattle.lfs_inodes.proofs.Grammar.{number_at-within, SameBetween-cells}
 
@@ -64,19 +64,43 @@ numbers-one count xs ys p q long same_long e = ext_get_or 0 xs ys (long ∙ sym 
         let at : 0 + 4 * k ≡ 4 * k = omega arith in
         rw at (number_at-one xs ys (4 * k) 4 p q same))
 
--- reading after one address of the indirect block was replaced
-pub address_of-indirect : (v : Inode) (old new : List ℕ) (n x m : ℕ) → 12 ≤ n → n < 140 → cells new ≡ set (cells old) (n - 12) x
-    → address_of v new m ≡ cond (eqb m n) x (address_of v old m)
-address_of-indirect v old new n x m low high e = elim (cases_lt m 12) [
+-- reading after one cell of a block was replaced
+cell-set : (old new : List ℕ) (j k x : ℕ) → j < 128 → cells new ≡ set (cells old) j x → slice_index (cells new) k ≡ cond (eqb k j) x (slice_index (cells old) k)
+cell-set old new j k x lt e = elim (cases_eq k j) [
+  | inl same ↦ rw (same, eq-eqb j j refl) (ap (λ (ns : List ℕ). slice_index ns j) e ∙ get_or-set_same (cells old) j x 0 (omega (arith, length-numbers old 0 128)))
+  | inr other ↦ rw (ne_eqb k j other) (ap (λ (ns : List ℕ). slice_index ns k) e ∙ get_or-set_other (cells old) j k x 0 other)
+]
+
+-- one cell is that of another block where its place is
+same_test : (j k m n : ℕ) → (j ≡ k → m ≡ n) → (m ≡ n → j ≡ k) → eqb j k ≡ eqb m n
+same_test j k m n to from = elim (cases_eq m n) [
+  | inl same ↦ eq-eqb j k (from same) ∙ sym (eq-eqb m n same)
+  | inr other ↦ ne_eqb j k (λ e. other (to e)) ∙ sym (ne_eqb m n other)
+]
+
+-- reading after one address of the single indirect block was replaced
+pub address_of-single : (v : Inode) (old new child : List ℕ) (n x m : ℕ) → 12 ≤ n → n < 140 → cells new ≡ set (cells old) (n - 12) x
+    → address_of v new child m ≡ cond (eqb m n) x (address_of v old child m)
+address_of-single v old new child n x m low high e = elim (cases_lt m 12) [
   | inl direct ↦ rw (ne_eqb m n (λ same. omega arith), lt-ltb m 12 direct) refl
-  | inr indirect ↦ elim (cases_eq m n) [
-    | inl same ↦
-        let read : slice_index (cells new) (n - 12) ≡ x =
-        ap (λ (ns : List ℕ). slice_index ns (n - 12)) e ∙ get_or-set_same (cells old) (n - 12) x 0 (omega (arith, length-numbers old 0 128)) in
-        rw (same, eq-eqb n n refl, le-ltb n 12 low) read
-    | inr other ↦
-        let read : slice_index (cells new) (m - 12) ≡ slice_index (cells old) (m - 12) =
-        ap (λ (ns : List ℕ). slice_index ns (m - 12)) e ∙ get_or-set_other (cells old) (n - 12) (m - 12) x 0 (λ same. other (omega arith)) in
-        rw (ne_eqb m n other, le-ltb m 12 indirect) read
+  | inr indirect ↦ elim (cases_lt m 140) [
+    | inl under ↦
+        rw (le-ltb m 12 indirect, lt-ltb m 140 under)
+        (cell-set old new (n - 12) (m - 12) x (omega arith) e
+        ∙ ap (λ b. cond b x (slice_index (cells old) (m - 12))) (same_test (m - 12) (n - 12) m n (λ same. omega arith) (λ same. omega arith)))
+    | inr behind ↦ rw (ne_eqb m n (λ same. omega arith), le-ltb m 12 indirect, le-ltb m 140 behind) refl
   ]
+]
+
+-- reading after one address of a child was replaced, below it or outside the double indirect block
+pub address_of-child : (v : Inode) (single old new : List ℕ) (n x m : ℕ) → 140 ≤ n → SameChild m n → cells new ≡ set (cells old) ((n - 140) % 128) x
+    → address_of v single new m ≡ cond (eqb m n) x (address_of v single old m)
+address_of-child v single old new n x m high shared e = elim (cases_lt m 140) [
+  | inl before ↦ rw (ne_eqb m n (λ same. omega arith), lt-ltb m 140 before) refl
+  | inr behind ↦
+      let child : (m - 140) / 128 ≡ (n - 140) / 128 = shared behind high in
+      rw (le-ltb m 12 (omega arith), le-ltb m 140 behind)
+      (cell-set old new ((n - 140) % 128) ((m - 140) % 128) x (omega arith) e
+      ∙ ap (λ b. cond b x (slice_index (cells old) ((m - 140) % 128)))
+      (same_test ((m - 140) % 128) ((n - 140) % 128) m n (λ same. omega arith) (λ same. omega arith)))
 ]

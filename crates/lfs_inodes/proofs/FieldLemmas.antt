@@ -1,15 +1,18 @@
 -- The bounds of what is read of a record.
 use Rattle.std.proofs.Common.{◌≡◌, ℕ, Bool, true, false, cond, List, [], ◌∷◌, ◌++◌, slice_index, take, refl, sym, ap, subst, ◌∙◌, arith, inl, inr}
 use Rattle.std.specs.Prelude.{Some, None}
-use Rattle.std.proofs.lemmas.Bool.{cases_lt, cases_eq, ne_eqb}
+use Rattle.std.proofs.lemmas.Bool.{cases_lt, cases_eq, cond-false, ne_eqb}
 use Rattle.std.proofs.lemmas.List.{take_at}
 use Rattle.lfs_types.specs.declared.attrs.Kind.{Kind}
 use Rattle.lfs_types.specs.declared.attrs.Kind.TheVariants.{File, Directory}
 use Rattle.lfs_inodes.specs.declared.inode.Inode.{Inode}
+use Rattle.std.specs.Prelude.{◌≤◌}
+use Rattle.lfs_inodes.specs.Addresses.{first_at}
+use Rattle.lfs_inodes.specs.Facts.{block_count}
 use Rattle.lfs_inodes.specs.Bytes.{number_at}
 use Rattle.lfs_inodes.specs.Record.{IsKindCode, IsRecord}
 use Rattle.lfs_inodes.specs.Reading.{AreFields, Fields, fields_as, fields_in, fields_of, is_record, read}
-use Rattle.lfs_inodes.proofs.AddressLemmas.{length-addresses, slice_index-direct, slice_index-single}
+use Rattle.lfs_inodes.proofs.AddressLemmas.{length-addresses, slice_index-direct, slice_index-double, slice_index-single}
 use Rattle.lfs_inodes.proofs.FieldTests.{record_decides}
 use Rattle.lfs_inodes.proofs.FieldsRead.{fields_in-by_kind, fields_in-is, made, made-record}
 use Rattle.lfs_inodes.proofs.SameInode.{same_inode}
@@ -25,11 +28,17 @@ AreFields-fields_of v = record {
   whole = length-addresses v;
   in_volume = λ n lt. elim (cases_lt n 12) [
     | inl direct ↦ rw (slice_index-direct v n direct) (v.addressed n direct).0
-    | inr last ↦ let same : n ≡ 12 = omega arith in rw (same, slice_index-single v) v.indirect.0
+    | inr past ↦ elim (cases_eq n 12) [
+      | inl same ↦ rw (same, slice_index-single v) v.indirect.0
+      | inr ne ↦ let last : n ≡ 13 = omega arith in rw (last, slice_index-double v) v.doubled.0
+    ]
   ];
   within = λ n lt past. elim (cases_lt n 12) [
-    | inl direct ↦ slice_index-direct v n direct ∙ (v.addressed n direct).1 past
-    | inr last ↦ let same : n ≡ 12 = omega arith in rw (same, slice_index-single v) (v.indirect.1 (omega arith))
+    | inl direct ↦ slice_index-direct v n direct ∙ (v.addressed n direct).1 (subst (λ m. block_count v.size ≤ m) (cond-false _ _ _ (ne_eqb n 13 (λ e. omega arith))) past)
+    | inr high ↦ elim (cases_eq n 12) [
+      | inl same ↦ rw (same, slice_index-single v) (v.indirect.1 (subst (λ m. block_count v.size ≤ first_at m) same past))
+      | inr ne ↦ let last : n ≡ 13 = omega arith in rw (last, slice_index-double v) (v.doubled.1 (subst (λ m. block_count v.size ≤ first_at m) last past))
+    ]
   ];
 }
 
@@ -65,10 +74,11 @@ AreFields-fields_in bytes f e =
 -- an inode is its fields
 pub fields_of-one : (v w : Inode) → fields_of v ≡ fields_of w → v ≡ w
 fields_of-one v w same =
-    let addresses : v.direct ++ v.single ∷ [] ≡ w.direct ++ w.single ∷ [] = ap (λ f. f.addresses) same in
+    let addresses : v.direct ++ v.single ∷ v.double ∷ [] ≡ w.direct ++ w.single ∷ w.double ∷ [] = ap (λ f. f.addresses) same in
     same_inode v w
     (ap (λ f. f.attributes.kind) same) (ap (λ f. f.attributes.number) same) (ap (λ f. f.attributes.version) same)
     (ap (λ f. f.attributes.owner) same) (ap (λ f. f.attributes.group) same) (ap (λ f. f.attributes.mode) same)
     (ap (λ f. f.attributes.flags) same) (ap (λ f. f.attributes.size) same)
-    (sym (take_at v.direct (v.single ∷ []) 12 v.whole) ∙ ap (take 12) addresses ∙ take_at w.direct (w.single ∷ []) 12 w.whole)
+    (sym (take_at v.direct (v.single ∷ v.double ∷ []) 12 v.whole) ∙ ap (take 12) addresses ∙ take_at w.direct (w.single ∷ w.double ∷ []) 12 w.whole)
     (sym (slice_index-single v) ∙ ap (λ xs. slice_index xs 12) addresses ∙ slice_index-single w)
+    (sym (slice_index-double v) ∙ ap (λ xs. slice_index xs 13) addresses ∙ slice_index-double w)

@@ -1,9 +1,9 @@
 -- What is read of a record's bytes is its inode.
-use Rattle.std.proofs.Common.{◌≡◌, ℕ, ◌+◌, ◌<◌, false, List, [], ◌∷◌, length, get_or, eqb, refl, sym, ap, ◌∙◌, arith, inl, inr}
+use Rattle.std.proofs.Common.{◌≡◌, ℕ, ◌<◌, false, List, length, get_or, eqb, refl, sym, ap, ◌∙◌, arith, inl, inr}
 use Rattle.std.specs.Prelude.{Option, Some, None, IfSome, IfNone, replicate}
 use Rattle.std.specs.Option.{option_map}
 use Rattle.std.proofs.lemmas.Bool.{cases_lt, cases_eq, eq-eqb, ne_eqb, false_from_ne_true}
-use Rattle.std.proofs.lemmas.List.{ext_get_or, length-append, get_or_append_left, get_or_at}
+use Rattle.std.proofs.lemmas.List.{ext_get_or}
 use Rattle.lfs_types.specs.declared.attrs.Kind.{Kind}
 use Rattle.lfs_types.specs.declared.attrs.Kind.TheVariants.{File, Directory}
 use Rattle.lfs_types.specs.Blocks.{zero_block}
@@ -16,13 +16,14 @@ use Rattle.lfs_inodes.proofs.Cells.{length-numbers, slice_index-numbers}
 use Rattle.lfs_inodes.specs.Slots.{slot_of}
 use Rattle.lfs_inodes.proofs.FourSlots.{slot_of-zeros}
 use Rattle.lfs_inodes.proofs.Grammar.{zeros_no_record}
+use Rattle.lfs_inodes.proofs.AddressLemmas.{length-addresses, slice_index-direct, slice_index-double, slice_index-single}
 use Rattle.lfs_inodes.proofs.FieldTests.{Holds, record_decides}
 
 -- the tests pass on a record
 Holds-from_record : (bytes : List ℕ) (v : Inode) → IsRecord bytes v → Holds v.kind bytes
 Holds-from_record bytes v h = record {
   whole = h.whole;
-  record_version = h.identity.record_version;
+  record_version = rw h.addresses.double h.record_version;
   number = rw h.identity.number v.numbered;
   version = rw h.identity.version v.versioned;
   mode = rw h.attributes.mode v.permitted;
@@ -31,22 +32,23 @@ Holds-from_record bytes v h = record {
   size = rw h.attributes.size v.sized;
   direct = λ n lt. rw (h.attributes.size, h.addresses.direct n lt) (v.addressed n lt);
   single = rw (h.attributes.size, h.addresses.single) v.indirect;
-  after_single = h.addresses.unnamed;
+  double = rw (h.attributes.size, h.addresses.double) v.doubled;
+  after_double = h.addresses.unnamed;
 }
 
 -- the addresses stand side by side
-addresses-read : (bytes : List ℕ) (v : Inode) → HasAddresses bytes v → numbers bytes 36 13 ≡ addresses v
-addresses-read bytes v h = ext_get_or 0 (numbers bytes 36 13) (addresses v)
-    (length-numbers bytes 36 13 ∙ sym (length-append v.direct (v.single ∷ []) ∙ ap (λ n. n + 1) v.whole)) each
+addresses-read : (bytes : List ℕ) (v : Inode) → HasAddresses bytes v → numbers bytes 36 14 ≡ addresses v
+addresses-read bytes v h = ext_get_or 0 (numbers bytes 36 14) (addresses v) (length-numbers bytes 36 14 ∙ sym (length-addresses v)) each
   where
-    each : (k : ℕ) → k < length (numbers bytes 36 13) → get_or (numbers bytes 36 13) k 0 ≡ get_or (addresses v) k 0
+    each : (k : ℕ) → k < length (numbers bytes 36 14) → get_or (numbers bytes 36 14) k 0 ≡ get_or (addresses v) k 0
     each k lt = elim (cases_lt k 12) [
-      | inl direct ↦
-          slice_index-numbers bytes 36 13 k (omega arith) ∙ h.direct k direct
-          ∙ sym (get_or_append_left v.direct (v.single ∷ []) 0 k (omega (arith, v.whole)))
-      | inr last ↦
-          let same : k ≡ 12 = omega (arith, length-numbers bytes 36 13) in
-          rw same (slice_index-numbers bytes 36 13 12 (omega arith) ∙ h.single ∙ sym (get_or_at v.direct v.single [] 0 12 v.whole))
+      | inl direct ↦ slice_index-numbers bytes 36 14 k (omega arith) ∙ h.direct k direct ∙ sym (slice_index-direct v k direct)
+      | inr past ↦ elim (cases_eq k 12) [
+        | inl same ↦ rw same (slice_index-numbers bytes 36 14 12 (omega arith) ∙ h.single ∙ sym (slice_index-single v))
+        | inr ne ↦
+            let last : k ≡ 13 = omega (arith, length-numbers bytes 36 14) in
+            rw last (slice_index-numbers bytes 36 14 13 (omega arith) ∙ h.double ∙ sym (slice_index-double v))
+      ]
     ]
 
 -- what is read of a record
@@ -92,6 +94,7 @@ made kind bytes h = record {
   size = number_at bytes 28 8;
   direct = numbers bytes 36 12;
   single = number_at bytes 84 4;
+  double = number_at bytes 88 4;
   numbered = h.number;
   versioned = h.version;
   permitted = h.mode;
@@ -100,18 +103,21 @@ made kind bytes h = record {
   whole = length-numbers bytes 36 12;
   addressed = λ n lt. rw (slice_index-numbers bytes 36 12 n lt) (h.direct n lt);
   indirect = h.single;
+  doubled = h.double;
 }
 
 pub made-record : (kind : Kind) (bytes : List ℕ) → IsKindCode (number_at bytes 2 2) kind → (h : Holds kind bytes) → IsRecord bytes (made kind bytes h)
 unfolding made
 made-record kind bytes e h = record {
   whole = h.whole;
-  identity = record { record_version = h.record_version; kind = e; number = refl; version = refl };
+  record_version = h.record_version;
+  identity = record { kind = e; number = refl; version = refl };
   attributes = record { owner = refl; group = refl; mode = refl; unnamed = h.after_mode; flags = refl; size = refl };
   addresses = record {
     direct = λ n lt. sym (slice_index-numbers bytes 36 12 n lt);
     single = refl;
-    unnamed = h.after_single;
+    double = refl;
+    unnamed = h.after_double;
   };
 }
 

@@ -42,7 +42,6 @@ number_at-before old new at n number i w p below = number_at-within new old 0 at
 -- the parts of a record depend on their own bytes alone
 pub HasIdentity-same : (xs ys : List ℕ) (v : Inode) → SameBetween ys xs 0 12 → HasIdentity xs v → HasIdentity ys v
 HasIdentity-same xs ys v same h = record {
-  record_version = number_at-within ys xs 0 12 0 2 same (omega arith) (omega arith) ∙ h.record_version;
   kind = rw (number_at-within ys xs 0 12 2 2 same (omega arith) (omega arith)) h.kind;
   number = number_at-within ys xs 0 12 4 4 same (omega arith) (omega arith) ∙ h.number;
   version = number_at-within ys xs 0 12 8 4 same (omega arith) (omega arith) ∙ h.version;
@@ -83,10 +82,11 @@ IsRecord-one bytes v w p q = same_inode v w
     (ext_get_or 0 v.direct w.direct (v.whole ∙ sym w.whole)
     (λ n lt. sym (p.addresses.direct n (omega (arith, v.whole))) ∙ q.addresses.direct n (omega (arith, v.whole))))
     (sym p.addresses.single ∙ q.addresses.single)
+    (sym p.addresses.double ∙ q.addresses.double)
 
--- an inode has one record
-pub IsRecord-same : (xs ys : List ℕ) (v : Inode) → AreBytes xs → AreBytes ys → IsRecord xs v → IsRecord ys v → xs ≡ ys
-IsRecord-same xs ys v p q a b = ext_get_or 0 xs ys (a.whole ∙ sym b.whole) (λ k lt. whole k (omega arith) (omega (arith, a.whole)))
+-- an inode has one record of a version
+pub IsRecord-same : (xs ys : List ℕ) (v : Inode) → AreBytes xs → AreBytes ys → number_at xs 0 2 ≡ number_at ys 0 2 → IsRecord xs v → IsRecord ys v → xs ≡ ys
+IsRecord-same xs ys v p q version a b = ext_get_or 0 xs ys (a.whole ∙ sym b.whole) (λ k lt. whole k (omega arith) (omega (arith, a.whole)))
   where
     at : (i n : ℕ) → number_at xs i n ≡ number_at ys i n → SameBetween xs ys i (i + n)
     at i n e = number_at-one xs ys i n p q e
@@ -97,7 +97,7 @@ IsRecord-same xs ys v p q a b = ext_get_or 0 xs ys (a.whole ∙ sym b.whole) (λ
     identity : SameBetween xs ys 0 12
     identity =
         then 8 12 (then 4 8 (then 2 4
-        (at 0 2 (a.identity.record_version ∙ sym b.identity.record_version))
+        (at 0 2 version)
         (at 2 2 (one_code (number_at xs 2 2) (number_at ys 2 2) v.kind a.identity.kind b.identity.kind)))
         (at 4 4 (a.identity.number ∙ sym b.identity.number)))
         (at 8 4 (a.identity.version ∙ sym b.identity.version))
@@ -114,10 +114,11 @@ IsRecord-same xs ys v p q a b = ext_get_or 0 xs ys (a.whole ∙ sym b.whole) (λ
 
     whole : SameBetween xs ys 0 128
     whole =
-        then 88 128 (then 84 88 (then 36 84 attributes
+        then 92 128 (then 88 92 (then 84 88 (then 36 84 attributes
         (SameBetween-cells xs ys 36 12 (λ n lt. at (36 + 4 * n) 4 (a.addresses.direct n lt ∙ sym (b.addresses.direct n lt)))))
         (at 84 4 (a.addresses.single ∙ sym b.addresses.single)))
-        (SameBetween-zero xs ys 88 128 a.addresses.unnamed b.addresses.unnamed)
+        (at 88 4 (a.addresses.double ∙ sym b.addresses.double)))
+        (SameBetween-zero xs ys 92 128 a.addresses.unnamed b.addresses.unnamed)
 
 -- a kind's number, wherever it stands
 pub IsKindCode-along : (a b : ℕ) (kind : Kind) → a ≡ b → IsKindCode b kind → IsKindCode a kind
@@ -128,7 +129,10 @@ pub zeros_no_record : (bytes : List ℕ) (v : Inode) → bytes ≡ replicate 128
 unfolding number_at
 zeros_no_record bytes v zeros h =
     let none : number_at bytes 0 2 ≡ 0 = ap (λ (xs : List ℕ). number_at xs 0 2) zeros in
-    absurd (omega (arith, sym none ∙ h.identity.record_version))
+    elim h.record_version [
+      | inl second ↦ absurd (omega (arith, sym none ∙ second))
+      | inr first ↦ absurd (omega (arith, sym none ∙ first.0))
+    ]
 
 pub IfNone-always : {X : Type 0} (r : Option X) (P : Type 0) → P → IfNone r P
 IfNone-always None P p = p

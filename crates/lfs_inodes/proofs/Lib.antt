@@ -2,6 +2,7 @@ pub mod Numbers
 pub mod SameInode
 pub mod Grammar
 pub mod Cells
+pub mod CutLemmas
 pub mod FieldTests
 pub mod FieldsRead
 pub mod FourSlots

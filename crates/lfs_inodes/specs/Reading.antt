@@ -4,12 +4,13 @@ use Rattle.lfs_types.specs.FlagNumbers.{IsKnown}
 use Rattle.lfs_types.specs.declared.attrs.Kind.{Kind}
 use Rattle.lfs_types.specs.declared.attrs.Kind.TheVariants.{File, Directory}
 use Rattle.lfs_types.specs.declared.block.TheConstants.{BLOCK_SIZE}
-use Rattle.lfs_types.specs.declared.limits.TheConstants.{FILE_BYTES, MOST_INODES}
+use Rattle.lfs_types.specs.declared.limits.TheConstants.{FILE_BYTES}
+use Rattle.lfs_types.specs.Ranges.{most_inodes}
 use Rattle.lfs_inodes.specs.declared.inode.Inode.{Inode}
-use Rattle.lfs_inodes.specs.declared.inode.TheConstants.{ADDRESS_LIMIT, DIRECT_COUNT, ROOT_COUNT}
+use Rattle.lfs_inodes.specs.declared.inode.TheConstants.{ADDRESS_LIMIT, DIRECT_COUNT, ROOT_COUNT, SINGLE_END}
 use Rattle.lfs_inodes.specs.Bytes.{number_at}
 use Rattle.lfs_inodes.specs.Facts.{IsInodeNumber, IsSizeOf, block_count}
-use Rattle.lfs_inodes.specs.Addresses.{addresses, numbers}
+use Rattle.lfs_inodes.specs.Addresses.{addresses, first_at, numbers}
 use Rattle.lfs_inodes.specs.Attributes.{Attributes, attributes}
 
 -- an inode without the facts that its type keeps
@@ -29,12 +30,12 @@ pub record AreFields (f : Fields) : Type 0 where
   pub sized : IsSizeOf f.attributes.kind f.attributes.size
   pub whole : length f.addresses ≡ ROOT_COUNT
   pub in_volume : (n : ℕ) → n < ROOT_COUNT → slice_index f.addresses n < ADDRESS_LIMIT
-  -- only blocks below the size have an address, and an indirect block is there with more than 12
-  pub within : (n : ℕ) → n < ROOT_COUNT → block_count f.attributes.size ≤ n → slice_index f.addresses n ≡ 0
+  -- only what leads to blocks below the size has an address
+  pub within : (n : ℕ) → n < ROOT_COUNT → block_count f.attributes.size ≤ first_at n → slice_index f.addresses n ≡ 0
 
 -- The tests of the fields.
 abbrev pub is_inode_number : ℕ → Bool
-is_inode_number n = nat_lt 1 n && (not (n == 3) && nat_lt n MOST_INODES)
+is_inode_number n = nat_lt 1 n && (not (n == 3) && nat_lt n most_inodes)
 
 abbrev pub is_flag_set : ℕ → Bool
 is_flag_set flags = bit_and flags 0x7_0007 == flags
@@ -49,6 +50,12 @@ is_direct size n address = nat_lt address ADDRESS_LIMIT && (nat_lt n (block_coun
 abbrev pub is_single : ℕ → ℕ → Bool
 is_single size single = nat_lt single ADDRESS_LIMIT && (nat_lt DIRECT_COUNT (block_count size) || single == 0)
 
+abbrev pub is_double : ℕ → ℕ → Bool
+is_double size double = nat_lt double ADDRESS_LIMIT && (nat_lt SINGLE_END (block_count size) || double == 0)
+
+abbrev pub is_version : ℕ → ℕ → Bool
+is_version version double = (version == 2) || ((version == 1) && (double == 0))
+
 unfoldable pub are_direct : List ℕ → ℕ → ℕ → Bool
 are_direct bytes size zero = true
 are_direct bytes size (suc n) = is_direct size n (number_at bytes (36 + 4 * n) 4) && are_direct bytes size n
@@ -61,7 +68,7 @@ are_zero bytes from (suc n) = slice_index bytes (from + n) == 0 && are_zero byte
 unfoldable pub is_record : Kind → List ℕ → Bool
 is_record kind bytes =
     length bytes == 128
-    && (number_at bytes 0 2 == 1
+    && (is_version (number_at bytes 0 2) (number_at bytes 88 4)
     && (is_inode_number (number_at bytes 4 4)
     && (nat_lt 0 (number_at bytes 8 4)
     && (nat_lt (number_at bytes 20 2) 4096
@@ -70,7 +77,8 @@ is_record kind bytes =
     && (is_size_of kind (number_at bytes 28 8)
     && (are_direct bytes (number_at bytes 28 8) DIRECT_COUNT
     && (is_single (number_at bytes 28 8) (number_at bytes 84 4)
-    && are_zero bytes 88 40)))))))))
+    && (is_double (number_at bytes 28 8) (number_at bytes 88 4)
+    && are_zero bytes 92 36))))))))))
 
 -- the fields where they stand
 unfoldable pub read : Kind → List ℕ → Fields

@@ -5,14 +5,14 @@ use Rattle.lfs_types.specs.declared.attrs.Kind.TheVariants.{File, Directory}
 use Rattle.lfs_inodes.specs.declared.inode.Inode.{Inode}
 use Rattle.lfs_inodes.specs.declared.inode.TheConstants.{DIRECT_COUNT}
 use Rattle.lfs_inodes.specs.Bytes.{number_at, AreZero}
+use Rattle.lfs_inodes.specs.Facts.{IsVersion}
 
 abbrev pub IsKindCode : ℕ → Kind → Type 0
 IsKindCode code File = code ≡ 1
 IsKindCode code Directory = code ≡ 2
 
--- bytes 0 to 11: the record version, and which file or directory it is
+-- bytes 2 to 11: which file or directory it is
 pub record HasIdentity (bytes : List ℕ) (v : Inode) : Type 0 where
-  pub record_version : number_at bytes 0 2 ≡ 1
   pub kind : IsKindCode (number_at bytes 2 2) v.kind
   pub number : number_at bytes 4 4 ≡ v.number
   pub version : number_at bytes 8 4 ≡ v.version
@@ -26,15 +26,17 @@ pub record HasAttributes (bytes : List ℕ) (v : Inode) : Type 0 where
   pub flags : number_at bytes 24 4 ≡ v.flags
   pub size : number_at bytes 28 8 ≡ v.size
 
--- bytes 36 to 127: the twelve direct addresses, the address of the indirect block, and zeros
+-- bytes 36 to 127: the twelve direct addresses, those of the single and of the double indirect block, and zeros
 pub record HasAddresses (bytes : List ℕ) (v : Inode) : Type 0 where
   pub direct : (n : ℕ) → n < DIRECT_COUNT → number_at bytes (36 + 4 * n) 4 ≡ slice_index v.direct n
   pub single : number_at bytes 84 4 ≡ v.single
-  pub unnamed : AreZero bytes 88 128
+  pub double : number_at bytes 88 4 ≡ v.double
+  pub unnamed : AreZero bytes 92 128
 
 -- the bytes are the record of the inode, whose type bounds its fields
 pub record IsRecord (bytes : List ℕ) (v : Inode) : Type 0 where
   pub whole : length bytes ≡ 128
+  pub record_version : IsVersion (number_at bytes 0 2) v.double
   pub identity : HasIdentity bytes v
   pub attributes : HasAttributes bytes v
   pub addresses : HasAddresses bytes v

@@ -30,6 +30,7 @@ impl Inode {
             size: 0,
             direct: [0; DIRECT_COUNT],
             single: 0,
+            double: 0,
         }
     }
 

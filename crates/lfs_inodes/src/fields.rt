@@ -4,11 +4,11 @@ ghost use Rattle.std.specs.Prelude.{◌≡◌, ◌≤◌, ◌<◌, ◌*◌, ◌+
 ghost use Rattle.std.specs.Option.{SomeIff};
 ghost use Rattle.lfs_types.specs.FlagNumbers.{IsKnown};
 ghost use Rattle.lfs_inodes.specs.Bytes.{number_at};
-ghost use Rattle.lfs_inodes.specs.Facts.{IsInodeNumber, IsSizeOf, AreDirect, IsSingle, block_count};
+ghost use Rattle.lfs_inodes.specs.Facts.{IsInodeNumber, IsSizeOf, AreDirect, IsDouble, IsSingle, block_count};
 ghost use Rattle.lfs_inodes.specs.Record.{IsKindCode};
 
 use crate::bytes::{u16_at, u32_at, u64_at};
-use crate::inode::{ADDRESS_LIMIT, DIRECT_COUNT};
+use crate::inode::{ADDRESS_LIMIT, DIRECT_COUNT, SINGLE_END};
 use lfs_types::attrs::Kind;
 use lfs_types::block::BLOCK_SIZE;
 use lfs_types::file_flags::FileFlags;
@@ -117,4 +117,11 @@ pub(crate) fn is_single(size: u64, single: u32) -> bool
     ensures { IsTrue result ↔ IsSingle size single }
 {
     single < ADDRESS_LIMIT && (blocks(size) > DIRECT_COUNT as u64 || single == 0)
+}
+
+/// Whether this may be the address of its double indirect block.
+pub(crate) fn is_double(size: u64, double: u32) -> bool
+    ensures { IsTrue result ↔ IsDouble size double }
+{
+    double < ADDRESS_LIMIT && (blocks(size) > SINGLE_END as u64 || double == 0)
 }

@@ -3,7 +3,7 @@
 ghost use Rattle.std.specs.Prelude.{◌≡◌, ◌≤◌, ◌<◌, length};
 ghost use Rattle.lfs_types.specs.FlagNumbers.{IsKnown};
 ghost use Rattle.lfs_inodes.specs.declared.inode.TheConstants.{DIRECT_COUNT};
-ghost use Rattle.lfs_inodes.specs.Facts.{IsInodeNumber, IsSizeOf, AreDirect, IsSingle};
+ghost use Rattle.lfs_inodes.specs.Facts.{IsInodeNumber, IsSizeOf, AreDirect, IsDouble, IsSingle};
 
 use lfs_types::attrs::Kind;
 use lfs_types::file_flags::FileFlags;
@@ -13,8 +13,20 @@ use lfs_types::mode::Mode;
 /// The number of blocks whose addresses stand in the record itself (this project's profile).
 pub const DIRECT_COUNT: usize = 12;
 
-/// The number of addresses in the record: those of its first blocks, then that of the indirect block.
-pub const ROOT_COUNT: usize = DIRECT_COUNT + 1;
+/// The number of addresses in an indirect block (this project's profile).
+pub const ENTRY_COUNT: usize = 128;
+
+/// The first block under the double indirect block: those before it stand in the record or in the
+/// single indirect block.
+pub const SINGLE_END: usize = DIRECT_COUNT + ENTRY_COUNT;
+
+/// The place among the addresses of the record where that of the double indirect block stands, behind
+/// that of the single one.
+pub const DOUBLE_PLACE: usize = DIRECT_COUNT + 1;
+
+/// The number of addresses in the record: those of its first blocks, then those of the single and of
+/// the double indirect block.
+pub const ROOT_COUNT: usize = DOUBLE_PLACE + 1;
 
 /// Addresses lie below this number, 65,536: those of the blocks of the largest volume.
 pub const ADDRESS_LIMIT: u32 = MOST_SEGMENTS * SEGMENT_BLOCKS;
@@ -37,12 +49,14 @@ pub struct Inode {
     pub mode: Mode,
     /// The file flags.
     pub flags: FileFlags,
-    /// The number of bytes, at most 71,680; for a directory a multiple of 512.
+    /// The number of bytes, at most `FILE_BYTES`; for a directory a multiple of 512.
     pub size: u64,
     /// The addresses of data blocks 0 to 11, each below 65,536; 0 is none.
     pub direct: [u32; DIRECT_COUNT],
-    /// The address of the indirect block, below 65,536; 0 is none.
+    /// The address of the single indirect block, below 65,536; 0 is none.
     pub single: u32,
+    /// The address of the double indirect block, below 65,536; 0 is none.
+    pub double: u32,
     ghost numbered: { IsInodeNumber number },
     ghost versioned: { 1 ≤ version },
     ghost permitted: { mode < 4096 },
@@ -51,4 +65,5 @@ pub struct Inode {
     ghost whole: { length direct ≡ DIRECT_COUNT },
     ghost addressed: { AreDirect size direct },
     ghost indirect: { IsSingle size single },
+    ghost doubled: { IsDouble size double },
 }

@@ -18,7 +18,7 @@ use Rattle.lfs_segments.proofs.NamesLemmas.{names_from-contains, names_from-name
 use Rattle.lfs_types.specs.declared.cleaner.BlockInfo.{BlockInfo}
 use Rattle.lfs_bmap.specs.Blocks.{code_of, logical_of}
 use Rattle.lfs_bmap.specs.declared.blocks.FileBlock.{FileBlock}
-use Rattle.lfs_bmap.specs.declared.blocks.FileBlock.TheVariants.{Record, Single, Data}
+use Rattle.lfs_bmap.specs.declared.blocks.FileBlock.TheVariants.{Record, Single, Double, Child, Data}
 use Rattle.lfs_bmap.specs.Counting.{seg_of}
 use Rattle.lfs_bmap.specs.Log.{Owner}
 use Rattle.lfs_bmap.specs.Owners.{owner_at, owner_in}
@@ -90,6 +90,20 @@ block_infos-owner address number version logical.Single bytes slot o low h =
       block = Single;
       code = ap (λ (x : Owner). x.code) same;
       there = subst (λ (x : Owner). Contains (info_of address number version logical.Single ∷ []) (info_of address x.number x.version logical.Single)) same (0, omega arith, refl);
+    }
+block_infos-owner address number version logical.Double bytes slot o low h =
+    let same = first_unit slot o _ h in
+    record {
+      block = Double;
+      code = ap (λ (x : Owner). x.code) same;
+      there = subst (λ (x : Owner). Contains (info_of address number version logical.Double ∷ []) (info_of address x.number x.version logical.Double)) same (0, omega arith, refl);
+    }
+block_infos-owner address number version (logical.Child index) bytes slot o low h =
+    let same = first_unit slot o _ h in
+    record {
+      block = Child index;
+      code = ap (λ (x : Owner). x.code) same;
+      there = subst (λ (x : Owner). Contains (info_of address number version (logical.Child index) ∷ []) (info_of address x.number x.version (logical.Child index))) same (0, omega arith, refl);
     }
 block_infos-owner address number version (logical.Data index) bytes slot o low h =
     let same = first_unit slot o _ h in
@@ -195,6 +209,24 @@ block_infos-only address number version logical.Single bytes i h = record {
   low = omega arith;
   owner = record { number = number; version = version; code = 1 };
   file = Single;
+  owned = refl;
+  code = refl;
+  same = one_item _ i h.0 h.1 h.2;
+}
+block_infos-only address number version logical.Double bytes i h = record {
+  slot = 0;
+  low = omega arith;
+  owner = record { number = number; version = version; code = 2 };
+  file = Double;
+  owned = refl;
+  code = refl;
+  same = one_item _ i h.0 h.1 h.2;
+}
+block_infos-only address number version (logical.Child index) bytes i h = record {
+  slot = 0;
+  low = omega arith;
+  owner = record { number = number; version = version; code = 3 + index };
+  file = Child index;
   owned = refl;
   code = refl;
   same = one_item _ i h.0 h.1 h.2;

@@ -1,5 +1,5 @@
 -- A segment scanned block by block: the infos so far, and what its log expects.
-use Rattle.std.proofs.Common.{◌≡◌, ℕ, suc, ◌+◌, ◌-◌, ◌*◌, ◌<◌, ◌≤◌, ◌⊎◌, inl, inr, ⊎_elim, List, [], ◌∷◌, ◌++◌, Option, Some, None, option_map, length, get_or, take, drop, append-nil, refl, sym, ap, ◌∙◌, arith}
+use Rattle.std.proofs.Common.{◌≡◌, ◌≢◌, ℕ, suc, ◌+◌, ◌-◌, ◌*◌, ◌<◌, ◌≤◌, ◌⊎◌, inl, inr, List, [], ◌∷◌, ◌++◌, Option, Some, None, option_map, length, get_or, take, drop, append-nil, refl, sym, ap, ◌∙◌, arith}
 use Rattle.std.specs.List.{cons_option, filter_map, flat_map}
 use Rattle.std.proofs.lemmas.Bool.{cases_eq}
 use Rattle.std.proofs.lemmas.List.{drop_all, drop_more, get_or-take, length-append, length-take, length-take-le, take_more}
@@ -9,7 +9,7 @@ use Rattle.lfs_inodes.specs.declared.inode.Inode.{Inode}
 use Rattle.lfs_inodes.specs.Reading.{fields_in, fields_of}
 use Rattle.lfs_inodes.specs.Slots.{slot_of, slots}
 use Rattle.lfs_segments.specs.declared.entry.LogicalBlock.{LogicalBlock}
-use Rattle.lfs_segments.specs.declared.entry.LogicalBlock.TheVariants.{Data, Single, Inodes}
+use Rattle.lfs_segments.specs.declared.entry.LogicalBlock.TheVariants.{Data, Single, Double, Child, Inodes}
 use Rattle.lfs_segments.specs.declared.entry.SummaryEntry.{SummaryEntry}
 use Rattle.lfs_segments.specs.declared.summary.Summary.{Summary}
 use Rattle.lfs_segments.specs.Entry.{unused}
@@ -41,11 +41,22 @@ unfolding slot_info
 slot_info-read address bytes None e = rw (← e) refl
 slot_info-read address bytes (Some v) e = rw (← e) refl
 
+-- which kinds of block are a file's
+pub file_kind : (block : LogicalBlock) → ((index : ℕ) × (block ≡ Data index)) ⊎ ((block ≡ Single) ⊎ ((block ≡ Double) ⊎ ((index : ℕ) × (block ≡ Child index)))) → block ≢ Inodes
+file_kind block (inl d) e = absurd (let bad : Data d.0 ≡ Inodes = sym d.1 ∙ e in cc)
+file_kind block (inr (inl s)) e = absurd (let bad : Single ≡ Inodes = sym s ∙ e in cc)
+file_kind block (inr (inr (inl s))) e = absurd (let bad : Double ≡ Inodes = sym s ∙ e in cc)
+file_kind block (inr (inr (inr d))) e = absurd (let bad : Child d.0 ≡ Inodes = sym d.1 ∙ e in cc)
+
 -- a file's block has one info
-pub block_infos-file : (address number version : ℕ) (block : LogicalBlock) (bytes : List ℕ) → ((index : ℕ) × (block ≡ Data index)) ⊎ (block ≡ Single)
+pub block_infos-file : (address number version : ℕ) (block : LogicalBlock) (bytes : List ℕ) → block ≢ Inodes
     → block_infos address number version block bytes ≡ info_of address number version block ∷ []
 unfolding block_infos
-block_infos-file address number version block bytes h = ⊎_elim (λ (d : (index : ℕ) × (block ≡ Data index)). rw d.1 refl) (λ (e : block ≡ Single). rw e refl) h
+block_infos-file address number version (Data index) bytes other = refl
+block_infos-file address number version Single bytes other = refl
+block_infos-file address number version Double bytes other = refl
+block_infos-file address number version (Child index) bytes other = refl
+block_infos-file address number version Inodes bytes other = absurd (other refl)
 
 -- the infos of one slot more
 pub slots_more : (address : ℕ) (block : List ℕ) (k : ℕ) → k < 4
@@ -59,6 +70,8 @@ block_infos-at_most : (address number version : ℕ) (block : LogicalBlock) (byt
 unfolding block_infos
 block_infos-at_most address number version (Data index) bytes = omega arith
 block_infos-at_most address number version Single bytes = omega arith
+block_infos-at_most address number version Double bytes = omega arith
+block_infos-at_most address number version (Child index) bytes = omega arith
 block_infos-at_most address number version Inodes bytes = length-filter_map (slot_info address) (slots bytes)
 
 -- and so has each of some names

@@ -4,7 +4,7 @@ use Rattle.std.specs.List.{Contains, filter_map, flat_map}
 use Rattle.lfs_inodes.specs.Slots.{slots}
 use Rattle.lfs_inodes.specs.Reading.{fields_in}
 use Rattle.lfs_segments.specs.declared.entry.LogicalBlock.{LogicalBlock}
-use Rattle.lfs_segments.specs.declared.entry.LogicalBlock.TheVariants.{Data, Single, Inodes}
+use Rattle.lfs_segments.specs.declared.entry.LogicalBlock.TheVariants.{Data, Single, Double, Child, Inodes}
 use Rattle.lfs_segments.specs.declared.entry.SummaryEntry.{SummaryEntry}
 use Rattle.lfs_segments.specs.Entry.{block_number}
 use Rattle.lfs_segments.specs.Log.{first_of, names_from}
@@ -29,6 +29,8 @@ slot_info address slot = option_map (λ f. info_of address f.attributes.number f
 unfoldable pub block_infos : ℕ → ℕ → ℕ → LogicalBlock → List ℕ → List BlockInfo
 block_infos address number version (Data index) block = info_of address number version (Data index) ∷ []
 block_infos address number version Single block = info_of address number version Single ∷ []
+block_infos address number version Double block = info_of address number version Double ∷ []
+block_infos address number version (Child index) block = info_of address number version (Child index) ∷ []
 block_infos address number version Inodes block = filter_map (slot_info address) (slots block)
 
 -- those of a name: an address with its entry

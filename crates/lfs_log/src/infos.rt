@@ -75,7 +75,10 @@ fn push_infos(infos: &mut InfoList, address: u32, entry: &SummaryEntry, block: &
 {
     match entry.block {
         LogicalBlock::Inodes => push_inode_infos(infos, address, block),
-        LogicalBlock::Data(_) | LogicalBlock::Single => {
+        LogicalBlock::Data(_)
+        | LogicalBlock::Single
+        | LogicalBlock::Double
+        | LogicalBlock::Child(_) => {
             infos.push(info_of(address, entry.number, entry.version, entry.block));
         }
     }

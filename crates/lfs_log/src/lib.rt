@@ -8,6 +8,7 @@ mod infos;
 mod live;
 mod log;
 pub mod packing;
+pub mod sizes;
 mod writing;
 
 pub use log::Log;

@@ -26,7 +26,10 @@ fn size_of(block: FileBlock) -> u32
 {
     match block {
         FileBlock::Record => BLOCK_SIZE as u32 / 4,
-        FileBlock::Single | FileBlock::Data(_) => BLOCK_SIZE as u32,
+        FileBlock::Single => BLOCK_SIZE as u32,
+        FileBlock::Double => BLOCK_SIZE as u32,
+        FileBlock::Child(_) => BLOCK_SIZE as u32,
+        FileBlock::Data(_) => BLOCK_SIZE as u32,
     }
 }
 

@@ -15,24 +15,9 @@ ghost use Rattle.lfs_log.specs.Names.{named_at, record_in};
 ghost use Rattle.lfs_log.specs.Parts.{IsParts, log_state, opened_parts, state_of};
 
 use crate::log::Log;
-use lfs_ifile::{Ifile, SegState};
+use lfs_ifile::SegState;
 use lfs_segments::entry::SummaryEntry;
 use lfs_types::block::Block;
-
-/// The first clean segment, if one is clean.
-fn first_clean(ifile: &Ifile) -> Option<u32>
-    ensures found { IfSome result (λ segment.
-        segment < length ifile.now.live × (state_of ifile.now segment ≡ Clean)) }
-    ensures none { IfNone result
-        ((s : ℕ) → s < length ifile.now.live → state_of ifile.now s ≢ Clean) }
-{
-    for segment in 0..ifile.segments() {
-        if ifile.usage(segment).state == SegState::Clean {
-            return Some(segment);
-        }
-    }
-    None
-}
 
 impl Log {
     /// Opens the first clean segment: it becomes the active one, that before it dirty, and it is
@@ -53,7 +38,7 @@ impl Log {
         ensures was_kept { IsParts self.old }
         ensures kept { IsParts self.new }
     {
-        let segment = first_clean(&self.ifile)?;
+        let segment = self.ifile.first_clean()?;
         self.activate(segment);
         Some(segment)
     }

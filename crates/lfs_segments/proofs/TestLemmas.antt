@@ -1,9 +1,11 @@
 -- What the tests on bytes say.
-use Rattle.std.proofs.Common.{◌≡◌, ℕ, zero, suc, ◌+◌, ◌*◌, ◌<◌, ◌≤◌, Bool, true, false, ◌&&◌, nat_lt, nat_le, ◌==◌, List, get_or, length, refl, sym, ap, ◌∙◌, ⊎_elim, arith}
-use Rattle.std.proofs.lemmas.Bool.{cases_lt, eqb-true, leb-true, ltb-true}
+use Rattle.std.proofs.Common.{◌≡◌, ℕ, zero, suc, ◌+◌, ◌*◌, ◌<◌, ◌≤◌, Bool, true, false, ◌&&◌, nat_lt, nat_le, ◌==◌, List, get_or, length, refl, sym, ap, ◌∙◌, ⊎_elim, inl, inr, arith}
+use Rattle.std.proofs.lemmas.Bool.{cases_lt, eqb-true, leb-true, ltb-true, le-leb, lt-leb, le-ltb, lt-ltb}
+use Rattle.std.specs.Prelude.{if◌then◌else◌, ◌-◌}
 use Rattle.std.proofs.lemmas.Bool.Decides.{eqb_tells, nat_tests}
+use Rattle.lfs_types.specs.declared.limits.TheConstants.{FILE_BLOCKS}
 use Rattle.lfs_segments.specs.declared.entry.LogicalBlock.{LogicalBlock}
-use Rattle.lfs_segments.specs.declared.entry.LogicalBlock.TheVariants.{Data, Single, Inodes}
+use Rattle.lfs_segments.specs.declared.entry.LogicalBlock.TheVariants.{Data, Single, Double, Child, Inodes}
 use Rattle.lfs_segments.specs.declared.entry.SummaryEntry.{SummaryEntry}
 use Rattle.lfs_segments.specs.Bytes.{word_at}
 use Rattle.lfs_segments.specs.Entry.{IsLogicalBlock, IsOwner, IsEntry, IsEntryAt, IsFileNumber, block_number}
@@ -34,15 +36,33 @@ all_below-from_each test (suc n) each =
 pub block_from-block_number : (block : LogicalBlock) → IsLogicalBlock block → block_from (block_number block) ≡ block
 block_from-block_number (Data index) inside = grind (arith, nat_tests)
 block_from-block_number Single inside = refl
+block_from-block_number Double inside = refl
+block_from-block_number (Child index) inside = grind (arith, nat_tests)
 block_from-block_number Inodes inside = refl
+
+-- the block of a number that none of the others has
+abbrev child_or_data : ℕ → LogicalBlock
+child_or_data number = if nat_le 0x8000_0100 number && nat_lt number 0x8000_0180 then Child (number - 0x8000_0100) else Data number
+
+block_number-child_or_data : (number : ℕ) → block_number (child_or_data number) ≡ number
+block_number-child_or_data number = elim (cases_lt number 0x8000_0100) as (λ w. block_number (child_or_data number) ≡ number) [
+  | inl low ↦ rw (lt-leb 0x8000_0100 number low) refl
+  | inr high ↦ elim (cases_lt number 0x8000_0180) as (λ w. block_number (child_or_data number) ≡ number) [
+    | inl low ↦ rw (le-leb 0x8000_0100 number high, lt-ltb number 0x8000_0180 low) (omega arith)
+    | inr past ↦ rw (le-leb 0x8000_0100 number high, le-ltb number 0x8000_0180 past) refl
+  ]
+]
 
 pub block_number-block_from : (number : ℕ) → block_number (block_from number) ≡ number
 block_number-block_from number = ⊎_elim
     (λ single. rw single.0 (sym single.1))
     (λ other. rw other.0 (⊎_elim
+    (λ double. rw double.0 (sym double.1))
+    (λ next. rw next.0 (⊎_elim
     (λ inodes. rw inodes.0 (sym inodes.1))
-    (λ index. rw index.0 refl)
+    (λ rest. rw rest.0 (block_number-child_or_data number))
     (eqb_tells number 0xffff_ffff)))
+    (eqb_tells number 0x8000_0001)))
     (eqb_tells number 0x8000_0000)
 
 pub file_number-true : (number : ℕ) → is_file_number number ≡ true → IsFileNumber number
@@ -53,12 +73,19 @@ true-file_number number p = let above = p.above in let below = p.below in let ot
 
 pub may_name-true : (block : LogicalBlock) (number version : ℕ) → may_name block number version ≡ true → IsLogicalBlock block × IsOwner block number version
 may_name-true (Data index) number version h =
-    let parts = both (nat_lt index 140) (is_file_number number && nat_le 1 version) h in
+    let parts = both (nat_lt index FILE_BLOCKS) (is_file_number number && nat_le 1 version) h in
     let owner = both (is_file_number number) (nat_le 1 version) parts.1 in
-    (ltb-true index 140 parts.0, (file_number-true number owner.0, leb-true 1 version owner.1))
+    (ltb-true index FILE_BLOCKS parts.0, (file_number-true number owner.0, leb-true 1 version owner.1))
 may_name-true Single number version h =
     let owner = both (is_file_number number) (nat_le 1 version) h in
     (tt, (file_number-true number owner.0, leb-true 1 version owner.1))
+may_name-true Double number version h =
+    let owner = both (is_file_number number) (nat_le 1 version) h in
+    (tt, (file_number-true number owner.0, leb-true 1 version owner.1))
+may_name-true (Child index) number version h =
+    let parts = both (nat_lt index 128) (is_file_number number && nat_le 1 version) h in
+    let owner = both (is_file_number number) (nat_le 1 version) parts.1 in
+    (ltb-true index 128 parts.0, (file_number-true number owner.0, leb-true 1 version owner.1))
 may_name-true Inodes number version h =
     let owner = both (number == 0) (version == 0) h in
     (tt, (eqb-true number 0 owner.0, eqb-true version 0 owner.1))
@@ -67,6 +94,10 @@ pub true-may_name : (block : LogicalBlock) (number version : ℕ) → IsLogicalB
 true-may_name (Data index) number version inside p =
     let file = true-file_number number p.0 in let some = p.1 in grind (arith, nat_tests)
 true-may_name Single number version inside p =
+    let file = true-file_number number p.0 in let some = p.1 in grind (arith, nat_tests)
+true-may_name Double number version inside p =
+    let file = true-file_number number p.0 in let some = p.1 in grind (arith, nat_tests)
+true-may_name (Child index) number version inside p =
     let file = true-file_number number p.0 in let some = p.1 in grind (arith, nat_tests)
 true-may_name Inodes number version inside p = rw (p.0, p.1) refl
 

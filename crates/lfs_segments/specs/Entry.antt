@@ -2,9 +2,10 @@
 use Rattle.std.specs.Prelude.{◌≡◌, ◌≢◌, ℕ, ◌+◌, ◌*◌, ◌<◌, ◌≤◌, List, length, slice_index_or, ⊤}
 use Rattle.std.specs.Coded.{Unit-prop, le_prop, ×_prop}
 use Rattle.std.proofs.Math.Nat.{ℕ_set}
-use Rattle.lfs_types.specs.declared.limits.TheConstants.{FILE_BLOCKS, MOST_INODES}
+use Rattle.lfs_types.specs.declared.limits.TheConstants.{FILE_BLOCKS}
+use Rattle.lfs_types.specs.Ranges.{most_inodes}
 use Rattle.lfs_segments.specs.declared.entry.LogicalBlock.{LogicalBlock}
-use Rattle.lfs_segments.specs.declared.entry.LogicalBlock.TheVariants.{Data, Single, Inodes}
+use Rattle.lfs_segments.specs.declared.entry.LogicalBlock.TheVariants.{Data, Single, Double, Child, Inodes}
 use Rattle.lfs_segments.specs.declared.entry.SummaryEntry.{SummaryEntry}
 use Rattle.lfs_segments.specs.declared.summary.TheConstants.{ENTRY_LIMIT}
 use Rattle.lfs_segments.specs.Bytes.{word_at}
@@ -13,18 +14,22 @@ use Rattle.lfs_segments.specs.Bytes.{word_at}
 pub record IsFileNumber (number : ℕ) : Type 0 where
   pub above : 2 ≤ number
   pub not_three : number ≢ 3
-  pub below : number < MOST_INODES
+  pub below : number < most_inodes
 
 -- a block that a file can have, or a block of inodes
 abbrev pub IsLogicalBlock : LogicalBlock → Type 0
 IsLogicalBlock (Data index) = index < FILE_BLOCKS
 IsLogicalBlock Single = ⊤
+IsLogicalBlock Double = ⊤
+IsLogicalBlock (Child index) = index < 128
 IsLogicalBlock Inodes = ⊤
 
 -- the number and version with which a block of this kind stands in an entry
 abbrev pub IsOwner : LogicalBlock → ℕ → ℕ → Type 0
 IsOwner (Data index) number version = IsFileNumber number × (1 ≤ version)
 IsOwner Single number version = IsFileNumber number × (1 ≤ version)
+IsOwner Double number version = IsFileNumber number × (1 ≤ version)
+IsOwner (Child index) number version = IsFileNumber number × (1 ≤ version)
 IsOwner Inodes number version = (number ≡ 0) × (version ≡ 0)
 
 -- an entry that names a block
@@ -40,6 +45,8 @@ unused = record { number = 0; version = 0; block = Data 0 }
 abbrev pub block_number : LogicalBlock → ℕ
 block_number (Data index) = index
 block_number Single = 0x8000_0000
+block_number Double = 0x8000_0001
+block_number (Child index) = 0x8000_0100 + index
 block_number Inodes = 0xffff_ffff
 
 -- twelve bytes spell the entry: number, version, logical block
@@ -66,11 +73,15 @@ IsFileNumber-prop number p q = λ i. record {
 IsLogicalBlock-prop : (block : LogicalBlock) → IsProp (IsLogicalBlock block)
 IsLogicalBlock-prop (Data index) = le_prop
 IsLogicalBlock-prop Single = Unit-prop
+IsLogicalBlock-prop Double = Unit-prop
+IsLogicalBlock-prop (Child index) = le_prop
 IsLogicalBlock-prop Inodes = Unit-prop
 
 IsOwner-prop : (block : LogicalBlock) (number version : ℕ) → IsProp (IsOwner block number version)
 IsOwner-prop (Data index) number version = ×_prop (IsFileNumber-prop number) le_prop
 IsOwner-prop Single number version = ×_prop (IsFileNumber-prop number) le_prop
+IsOwner-prop Double number version = ×_prop (IsFileNumber-prop number) le_prop
+IsOwner-prop (Child index) number version = ×_prop (IsFileNumber-prop number) le_prop
 IsOwner-prop Inodes number version = ×_prop (ℕ_set number 0) (ℕ_set version 0)
 
 IsEntry-prop : (e : SummaryEntry) → IsProp (IsEntry e)

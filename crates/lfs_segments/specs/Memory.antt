@@ -2,7 +2,8 @@
 use Rattle.std.specs.Prelude.{◌≡◌, ℕ, zero, suc, ◌+◌, ◌-◌, ◌*◌, ◌/◌, ◌<◌, ◌≤◌, List, [], ◌∷◌, ◌++◌, All, length, take, drop, replicate, slice_index_or}
 use Rattle.byteorder.specs.Endian.{big_bytes}
 use Rattle.lfs_types.specs.declared.block.TheConstants.{BLOCK_SIZE}
-use Rattle.lfs_types.specs.declared.limits.TheConstants.{LEAST_SEGMENTS, MOST_SEGMENTS, SEGMENT_BLOCKS}
+use Rattle.lfs_types.specs.declared.limits.TheConstants.{SEGMENT_BLOCKS}
+use Rattle.lfs_types.specs.Ranges.{least_segments, most_segments}
 use Rattle.lfs_types.specs.Blocks.{zero_block}
 
 -- How many segments there are, the active one, how many of its blocks are used, and every block by its address. The
@@ -24,8 +25,8 @@ log_start (suc _) = 0
 
 -- what holds of the memory after every call
 pub record IsLaidOut (m : SegmentMemory) : Type 0 where
-  pub at_least : LEAST_SEGMENTS ≤ m.segments
-  pub at_most : m.segments ≤ MOST_SEGMENTS
+  pub at_least : least_segments ≤ m.segments
+  pub at_most : m.segments ≤ most_segments
   pub whole : length m.blocks ≡ m.segments * SEGMENT_BLOCKS
   pub each : All (λ block. length block ≡ BLOCK_SIZE) m.blocks
   pub active : m.active < m.segments

@@ -1,8 +1,9 @@
 -- A summary block, read test by test: the entries that it names, or none where it is no summary.
 use Rattle.std.specs.Prelude.{ℕ, zero, suc, ◌+◌, ◌-◌, ◌*◌, Bool, true, ◌&&◌, not, if◌then◌else◌, ◌==◌, nat_lt, nat_le, List, [], ◌∷◌, Option, Some, None, take, slice_index}
-use Rattle.lfs_types.specs.declared.limits.TheConstants.{FILE_BLOCKS, MOST_INODES, MOST_SEGMENTS}
+use Rattle.lfs_types.specs.declared.limits.TheConstants.{FILE_BLOCKS}
+use Rattle.lfs_types.specs.Ranges.{most_inodes, most_segments}
 use Rattle.lfs_segments.specs.declared.entry.LogicalBlock.{LogicalBlock}
-use Rattle.lfs_segments.specs.declared.entry.LogicalBlock.TheVariants.{Data, Single, Inodes}
+use Rattle.lfs_segments.specs.declared.entry.LogicalBlock.TheVariants.{Data, Single, Double, Child, Inodes}
 use Rattle.lfs_segments.specs.declared.entry.SummaryEntry.{SummaryEntry}
 use Rattle.lfs_segments.specs.declared.summary.Summary.{Summary}
 use Rattle.lfs_segments.specs.declared.summary.TheConstants.{ENTRY_LIMIT}
@@ -11,7 +12,10 @@ use Rattle.lfs_segments.specs.Bytes.{half_at, word_at}
 -- the kind of block whose number it is
 abbrev pub block_from : ℕ → LogicalBlock
 block_from number =
-    if number == 0x8000_0000 then Single else (if number == 0xffff_ffff then Inodes else Data number)
+    if number == 0x8000_0000 then Single
+    else (if number == 0x8000_0001 then Double
+    else (if number == 0xffff_ffff then Inodes
+    else (if nat_le 0x8000_0100 number && nat_lt number 0x8000_0180 then Child (number - 0x8000_0100) else Data number)))
 
 -- the entry that would stand in twelve bytes
 abbrev pub entry_from : List ℕ → ℕ → SummaryEntry
@@ -25,12 +29,14 @@ entries_from bytes place (suc n) = entry_from bytes place ∷ entries_from bytes
 
 -- whether it is 2, or 4 to 4,095
 abbrev pub is_file_number : ℕ → Bool
-is_file_number number = nat_le 2 number && (not (number == 3) && nat_lt number MOST_INODES)
+is_file_number number = nat_le 2 number && (not (number == 3) && nat_lt number most_inodes)
 
 -- whether a block of this kind may stand in an entry with this number and version
 abbrev pub may_name : LogicalBlock → ℕ → ℕ → Bool
 may_name (Data index) number version = nat_lt index FILE_BLOCKS && (is_file_number number && nat_le 1 version)
 may_name Single number version = is_file_number number && nat_le 1 version
+may_name Double number version = is_file_number number && nat_le 1 version
+may_name (Child index) number version = nat_lt index 128 && (is_file_number number && nat_le 1 version)
 may_name Inodes number version = (number == 0) && (version == 0)
 
 -- whether each number below n passes
@@ -42,7 +48,7 @@ all_below test (suc n) = all_below test n && test n
 unfoldable pub is_summary : List ℕ → Bool
 is_summary bytes =
     (word_at bytes 0 == 0x4c46_5353)
-    && (nat_lt (word_at bytes 4) MOST_SEGMENTS
+    && (nat_lt (word_at bytes 4) most_segments
     && (nat_le 1 (half_at bytes 10)
     && (nat_le (half_at bytes 10) ENTRY_LIMIT
     && (nat_le (half_at bytes 8 + half_at bytes 10) 63

@@ -11,17 +11,29 @@ use lfs_types::limits::{FILE_BLOCKS, FIRST_INODE, MOST_INODES, ROOT_INODE};
 /// The number that spells the single indirect block.
 const SINGLE: u32 = 0x8000_0000;
 
+/// The number that spells the double indirect block.
+const DOUBLE: u32 = 0x8000_0001;
+
+/// The number that spells its first child.
+const FIRST_CHILD: u32 = 0x8000_0100;
+
+/// The number that spells its last child, the 128th.
+const LAST_CHILD: u32 = 0x8000_017f;
+
 /// The number that spells a block of inodes.
 const INODES: u32 = 0xffff_ffff;
 
-/// A block of a file, or a block of inodes (this project's profile). A later kind of block is a
-/// further variant here.
+/// A block of a file, or a block of inodes (this project's profile).
 #[derive(Clone, Copy, PartialEq, Eq, Debug)]
 pub enum LogicalBlock {
-    /// A data block of a file, by its index from 0 to 139.
+    /// A data block of a file, by its index, below `FILE_BLOCKS`.
     Data(u32),
     /// The single indirect block of a file.
     Single,
+    /// The double indirect block of a file.
+    Double,
+    /// A child of the double indirect block, by its index from 0 to 127.
+    Child(u8),
     /// A block of inodes, which belongs to no file.
     Inodes,
 }
@@ -34,6 +46,8 @@ impl LogicalBlock {
         match self {
             LogicalBlock::Data(index) => index,
             LogicalBlock::Single => SINGLE,
+            LogicalBlock::Double => DOUBLE,
+            LogicalBlock::Child(index) => FIRST_CHILD + u32::from(index),
             LogicalBlock::Inodes => INODES,
         }
     }
@@ -46,6 +60,8 @@ impl LogicalBlock {
     {
         match number {
             SINGLE => Some(LogicalBlock::Single),
+            DOUBLE => Some(LogicalBlock::Double),
+            FIRST_CHILD..=LAST_CHILD => Some(LogicalBlock::Child((number - FIRST_CHILD) as u8)),
             INODES => Some(LogicalBlock::Inodes),
             index if index < FILE_BLOCKS => Some(LogicalBlock::Data(index)),
             _ => None,
@@ -78,7 +94,10 @@ impl SummaryEntry {
     {
         match self.block {
             LogicalBlock::Inodes => self.number == 0 && self.version == 0,
-            LogicalBlock::Data(_) | LogicalBlock::Single => {
+            LogicalBlock::Data(_)
+            | LogicalBlock::Single
+            | LogicalBlock::Double
+            | LogicalBlock::Child(_) => {
                 (self.number == ROOT_INODE || self.number >= FIRST_INODE)
                     && self.number < MOST_INODES
                     && self.version >= 1

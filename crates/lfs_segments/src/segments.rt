@@ -2,7 +2,8 @@
 
 ghost use Rattle.std.specs.Prelude.{◌≡◌, ◌+◌, ◌-◌, ◌*◌, ◌<◌, ◌≤◌, ◌↔◌, IfOk, IsErrOf, [], length, replicate, vec_len};
 ghost use Rattle.lfs_types.specs.Blocks.{zero_block};
-ghost use Rattle.lfs_types.specs.declared.limits.TheConstants.{LEAST_SEGMENTS, MOST_SEGMENTS, SEGMENT_BLOCKS};
+ghost use Rattle.lfs_types.specs.declared.limits.TheConstants.{SEGMENT_BLOCKS};
+ghost use Rattle.lfs_types.specs.Ranges.{least_segments, most_segments};
 ghost use Rattle.lfs_segments.specs.Log.{Expects};
 ghost use Rattle.lfs_segments.specs.Memory.{IsLaidOut, appended, block_at, fresh, label, log_start, next_address, opened, room_of, written};
 
@@ -39,8 +40,8 @@ impl Segments {
     /// Lays out a volume of 6 to 1,024 segments, all zeros but the label in block 0, which names the
     /// number of inode numbers too. Segment 0 is active.
     pub fn format(alloc: Global, segments: u32, inodes: u32) -> Result<Segments, FormatFault>
-        ensures too_few { IsErrOf result FormatFault.TooFew ↔ (segments < LEAST_SEGMENTS) }
-        ensures too_many { IsErrOf result FormatFault.TooMany ↔ (MOST_SEGMENTS < segments) }
+        ensures too_few { IsErrOf result FormatFault.TooFew ↔ (segments < least_segments) }
+        ensures too_many { IsErrOf result FormatFault.TooMany ↔ (most_segments < segments) }
         ensures fresh { IfOk result (λ made. made ≡ fresh segments inodes) }
         ensures laid_out { IfOk result (λ made. IsLaidOut made) }
         // The log of segment 0 expects a summary.

@@ -1,7 +1,7 @@
 //! The summary block at the head of a partial segment.
 
 ghost use Rattle.std.specs.Prelude.{◌≡◌, ℕ, ◌+◌, ◌-◌, ◌*◌, ◌<◌, ◌≤◌, ◌++◌, List, All, length, replicate, IfSome, Some, option_map, slice_index, slice_index_or};
-ghost use Rattle.lfs_types.specs.declared.limits.TheConstants.{MOST_SEGMENTS};
+ghost use Rattle.lfs_types.specs.Ranges.{most_segments};
 ghost use Rattle.lfs_segments.specs.declared.summary.TheConstants.{ENTRY_LIMIT};
 ghost use Rattle.lfs_segments.specs.Bytes.{IsBlock};
 ghost use Rattle.lfs_segments.specs.Entry.{AreEntriesAt, AreNamed-prop, IsEntry, IsEntryAt, unused};
@@ -29,7 +29,7 @@ pub struct Summary {
     pub count: u32,
     /// The entries, and past `count` the unused entry.
     pub entries: [SummaryEntry; ENTRY_LIMIT],
-    ghost in_volume: { segment < MOST_SEGMENTS },
+    ghost in_volume: { segment < most_segments },
     ghost some: { 0 < count },
     ghost at_most: { count ≤ ENTRY_LIMIT },
     ghost in_segment: { offset + count ≤ 63 },
@@ -45,7 +45,7 @@ impl Summary {
     /// The summary of a partial segment of 1 to 40 blocks: its segment, its block in that segment,
     /// and an entry for each block that follows it there.
     pub fn new(segment: u32, offset: u32, entries: &[SummaryEntry]) -> Summary
-        requires in_volume { segment < MOST_SEGMENTS }
+        requires in_volume { segment < most_segments }
         requires some { 0 < length entries.now }
         requires at_most { length entries.now ≤ ENTRY_LIMIT }
         requires in_segment { offset + length entries.now ≤ 63 }

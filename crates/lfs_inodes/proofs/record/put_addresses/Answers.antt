@@ -17,9 +17,15 @@ loop-n-preserved c =
 pub returns-clause-addresses : goal.returns-clause-addresses
 returns-clause-addresses c =
     let old = c.loop-n.invariant in
-    let put = c.put_u32-2.ensures in
+    let single = c.put_u32-2.ensures in
+    let double = c.put_u32-3.ensures in
     record {
-      direct = λ n lt. number_at-before _ _ 84 4 _ (36 + 4 * n) 4 put (omega arith) ∙ old.written n (omega arith);
-      single = put.written;
-      unnamed = λ k low high. put.above k low (omega arith) ∙ old.after k (omega arith) high ∙ c.requires.unwritten k low high;
+      direct = λ n lt.
+          number_at-before _ _ 88 4 _ (36 + 4 * n) 4 double (omega arith)
+          ∙ number_at-before _ _ 84 4 _ (36 + 4 * n) 4 single (omega arith) ∙ old.written n (omega arith);
+      single = number_at-before _ _ 88 4 _ 84 4 double (omega arith) ∙ single.written;
+      double = double.written;
+      unnamed = λ k low high.
+          double.above k low (omega arith) ∙ single.above k (omega arith) (omega arith)
+          ∙ old.after k (omega arith) high ∙ c.requires.unwritten k low high;
     }

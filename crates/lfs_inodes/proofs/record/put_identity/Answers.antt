@@ -8,11 +8,6 @@ returns-clause-identity c =
     let number = c.put_u32.ensures in
     let version = c.put_u32-2.ensures in
     record {
-      record_version =
-          number_at-before _ _ 8 4 _ 0 2 version (omega arith)
-          ∙ number_at-before _ _ 4 4 _ 0 2 number (omega arith)
-          ∙ number_at-before _ _ 2 2 _ 0 2 kind (omega arith)
-          ∙ c.put_u16.ensures.written;
       kind = IsKindCode-along _ _ _
           (number_at-before _ _ 8 4 _ 2 2 version (omega arith)
           ∙ number_at-before _ _ 4 4 _ 2 2 number (omega arith)
@@ -20,3 +15,10 @@ returns-clause-identity c =
       number = number_at-before _ _ 8 4 _ 4 4 version (omega arith) ∙ number.written;
       version = version.written;
     }
+
+pub returns-clause-version : goal.returns-clause-version
+returns-clause-version c =
+    number_at-before _ _ 8 4 _ 0 2 c.put_u32-2.ensures (omega arith)
+    ∙ number_at-before _ _ 4 4 _ 0 2 c.put_u32.ensures (omega arith)
+    ∙ number_at-before _ _ 2 2 _ 0 2 c.put_u16-2.ensures (omega arith)
+    ∙ c.put_u16.ensures.written

@@ -8,4 +8,4 @@ returns-clause-attributes c = refl
 pub returns-clause-addresses : goal.returns-clause-addresses
 returns-clause-addresses c =
     let v = c.args.self.now in let inside : c.args.n < length v.direct = omega (arith, v.whole) in
-    sym (set-append_left v.direct (v.single ∷ []) c.args.n c.args.address inside)
+    sym (set-append_left v.direct (v.single ∷ v.double ∷ []) c.args.n c.args.address inside)

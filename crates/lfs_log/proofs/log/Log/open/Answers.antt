@@ -1,4 +1,4 @@
-use Rattle.std.proofs.Common.{rules, ◌≡◌, ◌<◌, ℕ, Option, Some, None, IfNone, ap, sym, subst, ◌∙◌}
+use Rattle.std.proofs.Common.{rules, arith, ◌≡◌, ◌<◌, ℕ, Option, Some, None, IfNone, ap, sym, subst, ◌∙◌}
 use Rattle.lfs_ifile.specs.declared.segment.SegState.TheVariants.{Clean}
 use Rattle.lfs_segments.specs.Memory.{block_at}
 use Rattle.lfs_segments.proofs.WritingLemmas.{block_at-opened_apart}
@@ -18,17 +18,17 @@ returns-in_err-segment-clause-none c =
     let view = c.self.view_is in
     if_none _ _ (sym (ap (λ (p : LogParts). p.clean) view) ∙ h.counted
     ∙ clean_count-none c.self.inside.ifile c.self.inside.segments.segments
-    (λ s below. c.in_err-segment.ensures.none s (subst (λ (n : ℕ). s < n) (sym h.agree) below)))
+    (λ s below. c.in_err-segment.ensures.none s (omega arith) (subst (λ (n : ℕ). s < n) (sym h.agree) below)))
 
 inside : (c : goal.After-activate) → c.in_ok-segment.segment < c.args.self.now.memory.segments
 inside c =
-    let found = c.in_ok-segment.ensures.found in
-    subst (λ (p : LogParts). c.in_ok-segment.segment < p.memory.segments) c.self.view_is (subst (λ (n : ℕ). c.in_ok-segment.segment < n) c.self.invariant.agree found.0)
+    let found = c.in_ok-segment.ensures.some in
+    subst (λ (p : LogParts). c.in_ok-segment.segment < p.memory.segments) c.self.view_is (subst (λ (n : ℕ). c.in_ok-segment.segment < n) c.self.invariant.agree found.in_range)
 
 was_clean : (c : goal.After-activate) → state_of c.args.self.now.tables c.in_ok-segment.segment ≡ Clean
 was_clean c =
-    let found = c.in_ok-segment.ensures.found in
-    subst (λ (p : LogParts). state_of p.tables c.in_ok-segment.segment ≡ Clean) c.self.view_is found.1
+    let found = c.in_ok-segment.ensures.some in
+    subst (λ (p : LogParts). state_of p.tables c.in_ok-segment.segment ≡ Clean) c.self.view_is found.clean
 
 pub returns-clause-blocks : goal.returns-clause-blocks
 returns-clause-blocks c = λ a apart.
