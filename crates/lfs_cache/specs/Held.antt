@@ -1,7 +1,7 @@
 -- The blocks that the frames of a cache hold.
 use Rattle.std.specs.Prelude.{◌≡◌, ◌≢◌, ℕ, ◌+◌, ◌<◌, ◌≤◌, List, [], length, map, Option, Some, None, IsSome, slice_index_or}
 use Rattle.lfs_types.specs.declared.block.TheConstants.{BLOCK_SIZE}
-use Rattle.lfs_types.specs.declared.limits.TheConstants.{LEAST_FRAMES}
+use Rattle.lfs_types.specs.Ranges.{least_frames}
 use Rattle.lfs_recency.specs.FrameLists.{FrameLists, frame_count, times, IsWhole}
 use Rattle.lfs_cache.specs.declared.cache.TheConstants.{LOCKED_LIMIT}
 use Rattle.lfs_cache.specs.declared.key.Key.{Key}
@@ -24,7 +24,7 @@ held_by l keys = record { locked = map (entry_at keys l.blocks) l.locked; lru = 
 pub record AreHeld (l : FrameLists) (keys : List (Option Key)) (but : ℕ) (names : List Key) : Type 0 where
   pub whole : IsWhole l
   pub sized : length keys ≡ frame_count l
-  pub many : LEAST_FRAMES ≤ frame_count l
+  pub many : least_frames ≤ frame_count l
   pub held : (f : ℕ) → f ≢ but → 0 < times f l.locked + times f l.lru → IsSome (key_at keys f)
   pub free : (f : ℕ) → f ≢ but → 0 < times f l.age + times f l.empty → key_at keys f ≡ None
   pub apart : (f g : ℕ) (k : Key) → key_at keys f ≡ Some k → key_at keys g ≡ Some k → f ≡ g

@@ -1,6 +1,6 @@
 -- The index of a cache: the key at each frame, and the places where a key's frame is found.
 use Rattle.std.specs.Prelude.{◌≡◌, ℕ, suc, ◌+◌, ◌*◌, ◌<◌, ◌≤◌, List, [], ◌∷◌, length, Option, Some, None, IsSome, slice_index_or}
-use Rattle.lfs_types.specs.declared.limits.TheConstants.{MOST_FRAMES}
+use Rattle.lfs_types.specs.Ranges.{most_frames}
 use Rattle.lfs_cache.specs.declared.key.Key.{Key}
 use Rattle.lfs_cache.specs.Keys.{start_of}
 
@@ -29,7 +29,7 @@ count_taken (Some f ∷ ps) = suc (count_taken ps)
 -- the places lead to the frame of each key, and enough of them are free
 pub record IsIndex (keys : List (Option Key)) (places : List (Option ℕ)) (taken : ℕ) : Type 0 where
   pub some : 0 < length keys
-  pub bounded : length keys ≤ MOST_FRAMES
+  pub bounded : length keys ≤ most_frames
   pub sized : length places ≡ 6 * length keys
   pub inside : (p f : ℕ) → frame_at places p ≡ Some f → f < length keys
   pub found : (f : ℕ) (k : Key) → key_at keys f ≡ Some k → IsReached places (start_of k (4 * length keys)) f

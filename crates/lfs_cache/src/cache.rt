@@ -5,6 +5,7 @@ ghost use Rattle.std.specs.Option.{is_some};
 ghost use Rattle.lfs_recency.specs.FrameLists.{fronted, oldest_of, listed, frame_count, IsWhole};
 ghost use Rattle.lfs_recency.specs.declared.queue.Queue.TheVariants.{Locked, Lru, Age, Empty};
 ghost use Rattle.lfs_recency.specs.Lending.{with_block};
+ghost use Rattle.lfs_types.specs.Ranges.{least_frames, most_frames};
 ghost use Rattle.lfs_cache.specs.declared.key.Key.{Key};
 ghost use Rattle.lfs_cache.specs.Frames.{next_of, names_after, names_without, HasRoom, IsListed};
 ghost use Rattle.lfs_cache.specs.Contents.{block_in, block_of, used, filled, written, settled, forgotten, IsLocked, keys_of, nothing_in, AreApart};
@@ -15,7 +16,6 @@ use crate::key::Key;
 use crate::names::{drop_name, name_first};
 use lfs_recency::{Frames, Queue};
 use lfs_types::block::Block;
-use lfs_types::limits::{LEAST_FRAMES, MOST_FRAMES};
 use std::alloc::{AllocError, Global};
 use std::marker::Model;
 
@@ -96,8 +96,8 @@ impl Cache {
 
     /// A cache of so many frames, which holds no block. All room is taken here.
     pub fn new(alloc: Global, frames: u32) -> Result<Cache, AllocError>
-        requires at_least { LEAST_FRAMES ≤ frames }
-        requires at_most { frames ≤ MOST_FRAMES }
+        requires at_least { least_frames ≤ frames }
+        requires at_most { frames ≤ most_frames }
         ensures contents { IfOk result (λ s. s ≡ nothing_in frames) }
         ensures formed { IfOk result IsContents }
     {

@@ -1,10 +1,10 @@
 //! The frame of each key, found by hashing.
 ghost use Rattle.std.specs.Prelude.{◌≡◌, ◌≢◌, ℕ, ◌+◌, ◌-◌, ◌*◌, ◌<◌, ◌≤◌, length, Some, None, IfOk, MatchOption, slice_set, vec_len};
+ghost use Rattle.lfs_types.specs.Ranges.{most_frames};
 ghost use Rattle.lfs_cache.specs.Keys.{start_of};
 ghost use Rattle.lfs_cache.specs.Index.{key_at, frame_at, IsFree, count_taken, IsIndex as IsIndexOf};
 
 use crate::key::{Key, same};
-use lfs_types::limits::MOST_FRAMES;
 use std::alloc::{AllocError, Global};
 use std::marker::Model;
 
@@ -66,7 +66,7 @@ fn free_all(places: &mut Vec<Option<u32>>)
 // Names the frames of all keys anew, and says how many there are.
 fn rebuild(places: &mut Vec<Option<u32>>, keys: &[Option<Key>]) -> usize
     requires some { 0 < length keys.now }
-    requires bounded { length keys.now ≤ MOST_FRAMES }
+    requires bounded { length keys.now ≤ most_frames }
     requires sized { length places.old.items ≡ 6 * length keys.now }
     ensures { IsIndexOf keys.now places.new.items result }
 {
@@ -86,7 +86,7 @@ impl Index {
     /// No key at any of so many frames. All room is taken here.
     pub(crate) fn new(alloc: Global, frames: u32) -> Result<Index, AllocError>
         requires some { 0 < frames }
-        requires bounded { frames ≤ MOST_FRAMES }
+        requires bounded { frames ≤ most_frames }
         ensures len { IfOk result (λ keys. length keys ≡ frames) }
         ensures none { IfOk result (λ keys. (f : ℕ) → key_at keys f ≡ None) }
     {

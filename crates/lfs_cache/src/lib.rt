@@ -5,6 +5,7 @@ mod cache;
 mod index;
 mod key;
 mod names;
+pub mod sizes;
 
 pub use cache::{Cache, LOCKED_LIMIT};
 pub use key::Key;

@@ -1,6 +1,7 @@
 -- what an ifile holds, and its changes at one place
 use Rattle.std.specs.Prelude.{◌≡◌, ◌≢◌, ℕ, ◌*◌, ◌<◌, ◌≤◌, ◌⊎◌, List, length, replicate, slice_index, slice_index_or, slice_set, true, false, Option, All}
-use Rattle.lfs_types.specs.declared.limits.TheConstants.{SEGMENT_BLOCKS, LEAST_SEGMENTS, MOST_SEGMENTS, LEAST_INODES, MOST_INODES, FIRST_INODE}
+use Rattle.lfs_types.specs.declared.limits.TheConstants.{SEGMENT_BLOCKS, FIRST_INODE}
+use Rattle.lfs_types.specs.Ranges.{least_segments, most_segments, least_inodes, most_inodes}
 use Rattle.lfs_ifile.specs.declared.segment.TheConstants.{SEGMENT_BYTES}
 use Rattle.lfs_ifile.specs.declared.segment.SegState.{SegState}
 use Rattle.lfs_ifile.specs.declared.segment.SegState.TheVariants.{Clean}
@@ -78,13 +79,23 @@ pub record IsLeastFree (rows : List InodeRow) (ino : ℕ) : Type 0 where
   pub unused : (row_at rows ino).used ≡ false
   pub used_below : AreUsed rows FIRST_INODE ino
 
+-- no segment from `low` up and below `high` is clean
+abbrev pub AreUnclean : List SegState → ℕ → ℕ → Type 0
+AreUnclean states low high = (seg : ℕ) → low ≤ seg → seg < high → slice_index_or states seg Clean ≢ Clean
+
+-- the first clean segment
+pub record IsFirstClean (tables : Tables) (seg : ℕ) : Type 0 where
+  pub in_range : seg < length tables.live
+  pub clean : (usage_of tables seg).state ≡ Clean
+  pub unclean_below : AreUnclean tables.states 0 seg
+
 -- what holds of every ifile
 pub record IsIfile (tables : Tables) : Type 0 where
-  pub segments_least : LEAST_SEGMENTS ≤ length tables.live
-  pub segments_most : length tables.live ≤ MOST_SEGMENTS
+  pub segments_least : least_segments ≤ length tables.live
+  pub segments_most : length tables.live ≤ most_segments
   pub states_length : length tables.states ≡ length tables.live
-  pub inodes_least : LEAST_INODES ≤ length tables.rows
-  pub inodes_most : length tables.rows ≤ MOST_INODES
+  pub inodes_least : least_inodes ≤ length tables.rows
+  pub inodes_most : length tables.rows ≤ most_inodes
   pub live_bytes : All (λ live. live ≤ SEGMENT_BYTES) tables.live
   pub each_row : All (IsRow (blocks_of tables)) tables.rows
 
@@ -96,9 +107,9 @@ fresh_tables segments inodes =
 -- too few segments, or, with segments in their range, too few inode numbers
 abbrev pub IsTooFew : ℕ → ℕ → Type 0
 IsTooFew segments inodes =
-    (segments < LEAST_SEGMENTS) ⊎ ((segments ≤ MOST_SEGMENTS) × (inodes < LEAST_INODES))
+    (segments < least_segments) ⊎ ((segments ≤ most_segments) × (inodes < least_inodes))
 
 -- too many segments, or, with segments in their range, too many inode numbers
 abbrev pub IsTooMany : ℕ → ℕ → Type 0
 IsTooMany segments inodes =
-    (MOST_SEGMENTS < segments) ⊎ ((LEAST_SEGMENTS ≤ segments) × (MOST_INODES < inodes))
+    (most_segments < segments) ⊎ ((least_segments ≤ segments) × (most_inodes < inodes))

@@ -1,8 +1,9 @@
 //! The ifile of a volume.
 
-ghost use Rattle.std.specs.Prelude.{◌≡◌, ◌+◌, ◌-◌, ◌*◌, ◌<◌, ◌≤◌, ◌↔◌, ℕ, length, slice_index, true, false, IfOk, IfNone, IfSome, IsErrOf, vec_len};
+ghost use Rattle.std.specs.Prelude.{◌≡◌, ◌+◌, ◌-◌, ◌*◌, ◌<◌, ◌≤◌, ◌↔◌, ℕ, length, slice_index, slice_index_or, true, false, IfOk, IfNone, IfSome, IsErrOf, vec_len};
+ghost use Rattle.lfs_ifile.specs.declared.segment.SegState.TheVariants.{Clean};
 ghost use Rattle.lfs_ifile.specs.Inode.{raised_version, given_row, placed_row, released_row, IsPlace};
-ghost use Rattle.lfs_ifile.specs.Tables.{blocks_of, usage_of, place_of, row_at, row_of, with_live, with_state, with_row, KeepsButLive, KeepsButState, KeepsButRow, AreUsed, IsLeastFree, IsIfile, IsTooFew, IsTooMany, fresh_tables};
+ghost use Rattle.lfs_ifile.specs.Tables.{blocks_of, usage_of, place_of, row_at, row_of, with_live, with_state, with_row, KeepsButLive, KeepsButState, KeepsButRow, AreUnclean, AreUsed, IsFirstClean, IsLeastFree, IsIfile, IsTooFew, IsTooMany, fresh_tables};
 ghost use Rattle.lfs_ifile.specs.Layout.{ifile_bytes, ReadsUse};
 
 use crate::inode::{InodePlace, InodeRow, raised_version};
@@ -26,12 +27,14 @@ pub struct Ifile {
     rows: Vec<InodeRow>,
     /// Every number from `FIRST_FREE` up and below this one is used.
     used_below: usize,
+    /// No segment below this one is clean.
+    unclean_below: usize,
 }
 
 impl Model for Ifile {
     ghost use Rattle.std.specs.Prelude.{◌≤◌, length};
     ghost use Rattle.lfs_types.specs.declared.limits.TheConstants.{FIRST_INODE};
-    ghost use Rattle.lfs_ifile.specs.Tables.{Tables, IsIfile, AreUsed};
+    ghost use Rattle.lfs_ifile.specs.Tables.{Tables, IsIfile, AreUnclean, AreUsed};
 
     ghost Value = { Tables };
 
@@ -40,7 +43,9 @@ impl Model for Ifile {
     ghost invariant = { λ file.
         IsIfile (record { live = file.live.items; states = file.states.items; rows = file.rows.items })
         × (FIRST_INODE ≤ file.used_below) × (file.used_below ≤ length file.rows.items)
-        × AreUsed file.rows.items FIRST_INODE file.used_below };
+        × AreUsed file.rows.items FIRST_INODE file.used_below
+        × (file.unclean_below ≤ length file.states.items)
+        × AreUnclean file.states.items 0 file.unclean_below };
 }
 
 /// The least unused number from `from` up, or the number of rows.
@@ -57,6 +62,23 @@ fn first_unused(rows: &[InodeRow], from: usize) -> usize
         }
     }
     rows.len()
+}
+
+/// The first clean segment from `from` up, or the number of segments.
+fn first_clean_from(states: &[SegState], from: usize) -> usize
+    requires { from ≤ length states.now }
+    ensures low { from ≤ result }
+    ensures high { result ≤ length states.now }
+    ensures unclean { AreUnclean states.now from result }
+    ensures clean { result < length states.now
+        → slice_index_or states.now result Clean ≡ Clean }
+{
+    for seg in from..states.len() {
+        if let SegState::Clean = states[seg] {
+            return seg;
+        }
+    }
+    states.len()
 }
 
 impl Ifile {
@@ -94,6 +116,7 @@ impl Ifile {
             states: vec![in alloc; SegState::Clean; segments as usize]?,
             rows: vec![in alloc; row; inodes as usize]?,
             used_below: FIRST_FREE,
+            unclean_below: 0,
         })
     }
 
@@ -122,6 +145,20 @@ impl Ifile {
         SegUse {
             live: self.live[seg as usize],
             state: self.states[seg as usize],
+        }
+    }
+
+    /// The first clean segment; `None` where none is clean.
+    pub fn first_clean(&self) -> Option<u32>
+        ensures some { IfSome result (IsFirstClean self.now) }
+        ensures none { IfNone result (AreUnclean self.now.states 0 (length self.now.live)) }
+        ensures formed { IsIfile self.now }
+    {
+        let clean = first_clean_from(&self.states, self.unclean_below);
+        if clean < self.states.len() {
+            Some(clean as u32)
+        } else {
+            None
         }
     }
 
@@ -247,7 +284,14 @@ impl Ifile {
         ensures kept { KeepsButState seg self.old self.new }
         ensures formed { IsIfile self.new }
     {
-        self.states[seg as usize] = state;
+        let at = seg as usize;
+        let clean = first_clean_from(&self.states, self.unclean_below);
+        self.states[at] = state;
+        // The segments that `clean` lies above need not be passed again.
+        self.unclean_below = match state {
+            SegState::Clean if at < clean => at,
+            _ => clean,
+        };
     }
 
     /// The ifile as bytes: `LFIF`, the numbers of segments and of inode numbers, then 8 bytes for

@@ -6,7 +6,7 @@ ghost use Rattle.lfs_types.specs.Changes.{CanApply};
 ghost use Rattle.lfs_types.specs.StoreStates.{Applies};
 ghost use Rattle.lfs_types.specs.Stored.{Reads, bytes_of, slice_of};
 ghost use Rattle.lfs_staging.specs.Filling.{SameButClean};
-ghost use Rattle.lfs_segwrite.specs.Applying.{LacksRoom, MakesChanges, WritesWaiting};
+ghost use Rattle.lfs_segwrite.specs.Applying.{HasRoomFor, MakesChanges, WritesWaiting};
 ghost use Rattle.lfs_staging.specs.Store.{IsSettled};
 ghost use Rattle.lfs_logstore.specs.States.{state_of};
 
@@ -54,7 +54,7 @@ impl FileStore for LogStore {
         ensures made { OnOk result (MakesChanges changes.now self.old self.new) }
         ensures refused { OnErr result (self.new ≡ self.old) }
         // There is no room, as the log stands.
-        ensures lacking { OnErr result (LacksRoom changes.now self.old) }
+        ensures lacking { OnErr result (HasRoomFor changes.now self.old → ⊥) }
     {
         apply(&mut self.parts, changes).map_err(|_| StoreRefusal::NoSpace)
     }

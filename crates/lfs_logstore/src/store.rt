@@ -1,7 +1,7 @@
 //! A store over a log, and how it is laid out.
 
 ghost use Rattle.std.specs.Prelude.{◌≡◌, ◌↔◌, IfOk, IsErrOf};
-ghost use Rattle.lfs_staging.specs.Opening.{IsTooFew, IsTooMany};
+ghost use Rattle.lfs_staging.specs.Opening.{IsOpening, IsTooFew, IsTooMany};
 ghost use Rattle.lfs_logstore.specs.States.{opening_state};
 
 use lfs_staging::parts::Parts;
@@ -39,6 +39,8 @@ impl LogStore {
             ↔ IsTooMany params.segments params.inodes params.frames }
         ensures opening { IfOk result (λ store. ⟦<LogStore as FileStore>⟧.state store
             ≡ opening_state params.segments params.inodes) }
+        // Its log: a summary at address 1, and at 2 the block with the root's record alone.
+        ensures laid_out { IfOk result (IsOpening params.segments params.inodes params.frames) }
     {
         let parts = Parts::format(alloc, params.segments, params.inodes, params.frames)?;
         Ok(LogStore { parts })

@@ -1,5 +1,5 @@
 -- A block of a file waits with what it has.
-use Rattle.std.proofs.Common.{◌≡◌, ◌≢◌, ℕ, zero, suc, ◌+◌, ◌*◌, ◌/◌, ◌%◌, ◌<◌, ◌≤◌, List, length, Some, IsSome, is_some, true, refl, sym, ap, ◌∙◌, subst, inl, inr, arith}
+use Rattle.std.proofs.Common.{◌≡◌, ◌≢◌, ◌⊎◌, ℕ, zero, suc, ◌+◌, ◌*◌, ◌/◌, ◌%◌, ◌<◌, ◌≤◌, List, length, Some, IsSome, is_some, true, refl, sym, ap, ◌∙◌, subst, inl, inr, arith}
 use Rattle.std.specs.Prelude.{slice_index}
 use Rattle.std.proofs.lemmas.Bool.{cases_Bool, cases_eq, cases_lt}
 use Rattle.lfs_ifile.specs.Tables.{row_of}
@@ -8,7 +8,7 @@ use Rattle.lfs_inodes.specs.Facts.{block_count}
 use Rattle.lfs_inodes.specs.Reading.{fields_of}
 use Rattle.lfs_cache.specs.Contents.{IsLocked}
 use Rattle.lfs_bmap.specs.declared.blocks.FileBlock.{FileBlock}
-use Rattle.lfs_bmap.specs.declared.blocks.FileBlock.TheVariants.{Record, Single, Data}
+use Rattle.lfs_bmap.specs.declared.blocks.FileBlock.TheVariants.{Record, Single, Double, Child, Data}
 use Rattle.lfs_bmap.specs.Blocks.{IsFileBlock, code_of, first_under, way_to}
 use Rattle.lfs_bmap.specs.Log.{HasPlace}
 use Rattle.lfs_bmap.specs.Pieces.{IsPadded}
@@ -21,16 +21,16 @@ use Rattle.lfs_staging.specs.declared.records.TheConstants.{WAITING_LIMIT}
 use Rattle.lfs_segwrite.specs.Flushing.{Waits}
 use Rattle.lfs_staging.specs.Keys.{log_state}
 use Rattle.lfs_segwrite.specs.Marking.{SameShown, StagesAgain}
-use Rattle.lfs_staging.specs.Staging.{IsStaged, IsZeroPast, MayStage, SameFiles, StagesData, StagesParents}
+use Rattle.lfs_staging.specs.Staging.{IsStaged, MayStage, SameFiles, StagesParents, StagesTable}
 use Rattle.lfs_staging.specs.Store.{IsFile, IsWithin}
 use Rattle.lfs_staging.specs.View.{key_of, record_of, tree_of, version_of, waiting_in}
 use Rattle.lfs_staging.specs.Waiting.{without}
 use Rattle.lfs_staging.proofs.FileLemmas.{free_place}
-use Rattle.lfs_staging.proofs.KeptLemmas.{StagesTable}
 use Rattle.lfs_staging.proofs.KeyLemmas.{lies_in, place-block, unused_nowhere}
-use Rattle.lfs_segwrite.proofs.NamedLemmas.{frames-one, frames-two}
+use Rattle.lfs_segwrite.proofs.NamedLemmas.{frames-block}
 use Rattle.lfs_staging.proofs.WaitingLemmas.{length-rest, length-without, waiting-without}
-use Rattle.lfs_bmap.proofs.HolderLemmas.{codes_on-most, codes_on-one, codes_on-record, table_of-direct}
+use Rattle.lfs_bmap.proofs.HolderLemmas.{codes_on-record}
+use Rattle.lfs_bmap.proofs.TableLemmas.{codes_on-long}
 use Rattle.lfs_staging.proofs.StagedLemmas.{parents_staged}
 use Rattle.lfs_staging.proofs.TakenLemmas.{taken_most}
 use Rattle.lfs_staging.proofs.FrameLemmas.{locked_most}
@@ -93,61 +93,21 @@ record_again old new v h = record {
   records = one_more old new v.number h.room;
 }
 
--- ---- an indirect block, staged with its parents
-pub single_again : (old new : Parts) (v : Inode) → StagesTable v.number Single old new → StagesAgain v.number 1 old new
-single_again old new v h = record {
+-- ---- another block, staged with its parents
+pub block_again : (old new : Parts) (v : Inode) (block : FileBlock) → IsFileBlock block → code_of block ≢ 0 → StagesTable v.number block old new
+    → StagesAgain v.number (code_of block) old new
+block_again old new v block is other h = record {
   same = shown_files old new h.same;
-  waits = h.takes.block_waits;
+  waits = waits_block new v.number (code_of block) other h.takes.block_waits;
   frames_still = h.takes.stays;
   records_still = still_waits old new v.number h.takes.records h.takes.waits.record_waits;
   frames =
-      let most = taken_most v.number (version_of old v.number) (codes_on (way_to Single)) old.cache new.cache h.files.cache h.takes.takes in
-      let few = codes_on-one Single tt (λ e. omega arith) refl in
-      let one = frames-one 1 (λ e. omega arith) (omega arith) in
+      let most = taken_most v.number (version_of old v.number) (codes_on (way_to block)) old.cache new.cache h.files.cache h.takes.takes in
+      let long = codes_on-long (way_to block) in
+      let many = frames-block block is in
       omega arith;
   records = one_more old new v.number h.takes.records;
 }
-
--- ---- a data block
-pub data_again : (old new : Parts) (number index : ℕ) (bytes : List ℕ) → index < 140 → IsContents new.cache → StagesData number index bytes old new → bytes ≡ data_block (tree_of old number) index
-    → StagesAgain number (131 + index) old new
-data_again old new number index bytes low formed h has = record {
-  same = record {
-    log = h.log;
-    records = h.records;
-    blocks = λ n m. elim (cases_eq n number) [
-      | inr other ↦ h.others n m (inl other)
-      | inl is ↦ elim (cases_eq m index) [
-        | inr other ↦ h.others n m (inr other)
-        | inl here ↦
-            ap (λ k. data_block (tree_of new k) m) is ∙ ap (data_block (tree_of new number)) here ∙ h.here ∙ has
-            ∙ sym (ap (λ k. data_block (tree_of old k) m) is ∙ ap (data_block (tree_of old number)) here)
-      ]
-    ];
-    addresses = h.addresses;
-  };
-  waits = waits_block new number (131 + index) (λ e. omega arith) h.takes.block_waits;
-  frames_still = h.takes.stays;
-  records_still = still_waits old new number h.takes.records h.takes.waits.record_waits;
-  frames =
-      let most = taken_most number (version_of old number) (codes_on (way_to (Data index))) old.cache new.cache formed h.takes.takes in
-      elim (cases_lt index 12) [
-        | inl direct ↦
-            let few = codes_on-one (Data index) low (λ e. omega arith) (table_of-direct index direct) in
-            let one = frames-one (131 + index) (λ e. omega arith) (omega arith) in
-            omega arith
-        | inr high ↦ let few = codes_on-most (Data index) low (λ e. omega arith) in let two = frames-two (131 + index) (omega arith) in omega arith
-      ];
-  records = one_more old new number h.takes.records;
-}
-
--- what a data block has is zero past the size
-pub zero_past : (blocks : ℕ → List ℕ) (index size : ℕ) (bytes : List ℕ) → IsPadded blocks size → bytes ≡ blocks index → IsZeroPast size index bytes
-zero_past blocks index size bytes padded is k low past =
-    let here : (512 * index + k) / 512 ≡ index = omega arith in
-    let at : (512 * index + k) % 512 ≡ k = omega arith in
-    let zeros = padded.zeros (512 * index + k) past in
-    ap (λ b. slice_index b k) is ∙ ap (λ n. slice_index (blocks n) k) (sym here) ∙ ap (slice_index (blocks ((512 * index + k) / 512))) (sym at) ∙ zeros
 
 -- ---- a block that has a place
 module _ (p : Parts) (number code : ℕ) (staged : IsStaged p 0) (there : HasPlace (log_state p) number code) where
@@ -175,14 +135,24 @@ module _ (p : Parts) (number code : ℕ) (staged : IsStaged p 0) (there : HasPla
           records = let fewer = length-without p.waiting v.number in omega arith;
         }
 
-    address_some : (block : FileBlock) → code_of block ≡ code → code ≢ 0 → address (tree_of p number) (way_to block) ≢ 0
-    address_some block is some none =
+    address_some : (block : FileBlock) → IsFileBlock block → code_of block ≡ code → code ≢ 0 → address (tree_of p number) (way_to block) ≢ 0
+    address_some block can is some none =
         there.somewhere (place-block p number code some
-        ∙ ap (λ w. 4 * address (tree_of p number) w) (ap way_of (sym is) ∙ way_of-code_of block) ∙ ap (λ a. 4 * a) none)
+        ∙ ap (λ w. 4 * address (tree_of p number) w) (ap way_of (sym is) ∙ way_of-code_of block can) ∙ ap (λ a. 4 * a) none)
+
+    -- its address is that of its place
+    pub place_address : (block : FileBlock) → IsFileBlock block → code_of block ≡ code → code ≢ 0 → (addr : ℕ)
+        → (log_state p).at number code / 4 ≡ addr
+        → address (tree_of p v.number) (way_to block) ≡ addr
+    place_address block can is some addr at =
+        let placed = place-block p number code some in
+        let same : address (tree_of p number) (way_of code) ≡ addr = omega (arith, placed, at) in
+        ap (λ n. address (tree_of p n) (way_to block)) file.own_number
+        ∙ sym (ap (address (tree_of p number)) (ap way_of (sym is) ∙ way_of-code_of block can)) ∙ same
 
     -- it lies within the size
     pub place_within : (block : FileBlock) → IsFileBlock block → code_of block ≡ code → code_of block ≢ 0 → IsWithin block v.size
     place_within block can is other = elim (cases_lt (first_under block) (block_count v.size)) [
       | inl more ↦ more
-      | inr past ↦ absurd (address_some block is (λ e. other (is ∙ e)) (file.none_past block can past))
+      | inr past ↦ absurd (address_some block can is (λ e. other (is ∙ e)) (file.none_past block can past))
     ]

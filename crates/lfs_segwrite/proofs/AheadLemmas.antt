@@ -1,6 +1,6 @@
 -- Room made, changes staged and all of it written, as one.
 use Rattle.std.proofs.Common.{◌≡◌, ◌≢◌, ◌⊎◌, ℕ, zero, suc, ◌+◌, ◌*◌, ◌/◌, ◌<◌, ◌≤◌, List, [], length, Option, None, Some, IsSome, refl, sym, ap, ◌∙◌, subst, inl, inr, arith}
-use Rattle.std.specs.Prelude.{slice_index_or, if◌then◌else◌, ◌==◌}
+use Rattle.std.specs.Prelude.{slice_index_or, if◌then◌else◌, ◌==◌, true}
 use Rattle.std.proofs.lemmas.Bool.{cases_eq, cases_lt, false≢true}
 use Rattle.lfs_types.specs.Changes.{applied}
 use Rattle.lfs_types.specs.declared.store.Change.{Change}
@@ -17,7 +17,7 @@ use Rattle.lfs_bmap.specs.Moves.{DirtyIn, Moves, StaysDirty}
 use Rattle.lfs_bmap.proofs.LogLemmas.{dirty_not_active}
 use Rattle.lfs_bmap.proofs.MoveLemmas.{StaysDirty-trans, moves-same, moves-trans}
 use Rattle.lfs_staging.specs.declared.parts.Parts.{Parts}
-use Rattle.lfs_segwrite.specs.Applying.{HasRoom, HasRoomFor, versions_after, MakesChanges, MakesWay, StagesAll, WritesAhead, WritesWaiting, blocks_for, frames_of_all, needs_of, records_of_all, waiting_blocks}
+use Rattle.lfs_segwrite.specs.Applying.{HasRoom, HasRoomFor, versions_after, MakesChanges, MakesWay, StagesAll, WritesAhead, WritesWaiting, blocks_for, frames_of_all, give_back, needs_of, records_of_all, waiting_blocks}
 use Rattle.lfs_segwrite.specs.Collecting.{blocks_of_entries, entries_of}
 use Rattle.lfs_staging.specs.Files.{content_of}
 use Rattle.lfs_segwrite.specs.Flushing.{Flushes, Waits}
@@ -30,7 +30,7 @@ use Rattle.lfs_ifile.specs.Tables.{row_at}
 use Rattle.lfs_inodes.specs.declared.inode.Inode.{Inode}
 use Rattle.lfs_segments.specs.Log.{Expects}
 use Rattle.lfs_staging.specs.View.{key_of, version_of, waiting_in}
-use Rattle.lfs_segwrite.proofs.BoundLemmas.{blocks_more, blocks_sum, reserve_least}
+use Rattle.lfs_segwrite.proofs.BoundLemmas.{blocks_more, blocks_sum}
 use Rattle.lfs_segwrite.proofs.ChangedLemmas.{stages_refl}
 use Rattle.lfs_segwrite.proofs.OrderLemmas.{entries_of-same}
 use Rattle.lfs_segwrite.proofs.CollectingLemmas.{entries_of-length}
@@ -178,7 +178,7 @@ pub waiting_same : (old a : Parts) → KeepsFiles old a → waiting_blocks a ≡
 waiting_same old a kept = ap blocks_of_entries (entries_of-same old a kept.cache kept.waiting)
 
 module _ (old a new : Parts) (blocks : ℕ) (is : blocks ≡ waiting_blocks old) (store : IsStore a) (kept : KeepsFiles old a) (enough : blocks ≤ room_of old.log.memory → a ≡ old)
-    (opened : room_of old.log.memory < blocks → (1 < old.log.clean) × (a.log.clean + 1 ≡ old.log.clean) × (state_of old.log.tables a.log.memory.active ≡ Clean))
+    (opened : room_of old.log.memory < blocks → (0 < old.log.clean) × (a.log.clean + 1 ≡ old.log.clean) × (state_of old.log.tables a.log.memory.active ≡ Clean))
     (fresh : room_of old.log.memory < blocks → 64 ≤ room_of a.log.memory + 1) (flushes : Flushes a new) where
   same : waiting_blocks a ≡ waiting_blocks old
   same = waiting_same old a kept
@@ -188,7 +188,7 @@ module _ (old a new : Parts) (blocks : ℕ) (is : blocks ≡ waiting_blocks old)
     store = flushes.store;
     settled = flushes.settled;
     content = flushes.content ∙ kept.content;
-    log = writes_ahead [] 1 old a a new kept (opened_or old a blocks 1 enough opened) (stages_refl a (store_staged a store)) flushes;
+    log = writes_ahead [] 0 old a a new kept (opened_or old a blocks 0 enough opened) (stages_refl a (store_staged a store)) flushes;
     used = λ n. flushes.used n ∙ ap (λ (rs : List InodeRow). (row_at rs n).used) kept.rows;
     versions = λ n. flushes.versions n ∙ ap (λ (rs : List InodeRow). (row_at rs n).version) kept.rows;
     still = λ n c low below none.
@@ -204,7 +204,7 @@ module _ (old a new : Parts) (blocks : ℕ) (is : blocks ≡ waiting_blocks old)
           | inl short ↦
               let o = opened short in
               let new_room = fresh short in
-              inr (omega (arith, is), omega (arith, o.1), o.0, omega (arith, is))
+              inr (omega (arith, is), omega (arith, o.1), omega (arith, is))
           | inr enough_room ↦
               let nothing = enough enough_room in
               let first : room_of a.log.memory ≡ room_of old.log.memory = ap (λ (p : Parts). room_of p.log.memory) nothing in
@@ -283,10 +283,31 @@ settled_none p settled =
     let none : length (entries_of p) ≡ 0 = let all = entries_of-length p in omega arith in
     ap (λ n. if n == 0 then 0 else n + 1) none
 
+-- changes that have room fit, or a segment is clean
+room_or : (changes : List Change) (p : Parts) → HasRoomFor changes p → (waiting_blocks p + needs_of changes ≤ room_of p.log.memory) ⊎ (0 < p.log.clean)
+room_or changes p has = elim has [
+  | inl giving ↦ elim giving.1 [
+    | inl more ↦ inr (omega arith)
+    | inr behind ↦ elim behind [
+      | inl fit ↦ inl fit.0
+      | inr beyond ↦ let fits = beyond.1.1.cleanable.fits in inr (omega (arith, fits))
+    ]
+  ]
+  | inr taking ↦ elim taking.1 [ inl more ↦ inr (omega arith) | inr both ↦ inl both.1 ]
+]
+
+-- those that don't fit give blocks back, or more than two segments are clean
+more_or : (changes : List Change) (p : Parts) → HasRoomFor changes p → room_of p.log.memory < waiting_blocks p
+    → (give_back (content_of p) changes ≡ true) ⊎ (2 < p.log.clean)
+more_or changes p has short = elim has [
+  | inl giving ↦ inl giving.0
+  | inr taking ↦ elim taking.1 [ inl more ↦ inr more | inr both ↦ absurd (omega (arith, both.1)) ]
+]
+
 pub makes_changes : (changes : List Change) (old a b : Parts) → HasRoom old → HasRoomFor changes old → waiting_blocks old ≤ 41 → needs_of changes ≤ 17
     → MakesWay changes old a → StagesAll changes a b → MakesChanges changes old b
 makes_changes changes old a b had has few most way stages =
-    let least = reserve_least (content_of old) changes in
+    let free_or = room_or changes old has in
     elim way.either [
       | inl nothing ↦
           let same : a ≡ old = nothing.1 in
@@ -297,7 +318,7 @@ makes_changes changes old a b had has few most way stages =
           let clean = from.log.clean in
           record {
             store = still_store changes old old b store from;
-            room = record { room = elim has [ inl enough ↦ inl (omega arith) | inr free ↦ inr (omega arith) ] };
+            room = record { room = elim free_or [ inl enough ↦ inl (omega arith) | inr free ↦ inr (omega arith) ] };
             content = from.content_is;
             versions = from.versions_are;
             log = stays_ahead old b from.log;
@@ -319,7 +340,7 @@ makes_changes changes old a b had has few most way stages =
                 | inl here ↦
                     let first = here.1 in
                     let second = here.2 in
-                    elim has [ inl enough ↦ inl (omega arith) | inr free ↦ inr (omega arith) ]
+                    elim free_or [ inl enough ↦ inl (omega arith) | inr free ↦ inr (omega arith) ]
                 | inr opened ↦ let first = opened.0 in inl (omega arith)
               ];
             };
@@ -328,7 +349,7 @@ makes_changes changes old a b had has few most way stages =
             log = ahead_stays old a b w.log stages.log;
             reserve = λ fewer. elim w.left [
               | inl here ↦ let second = here.2 in absurd (omega arith)
-              | inr opened ↦ let short = opened.3 in elim has [ inl enough ↦ absurd (omega arith) | inr free ↦ free ]
+              | inr opened ↦ (has, more_or changes old has opened.2)
             ];
             opened = elim w.left [
               | inl here ↦ let second = here.2 in omega arith
@@ -336,7 +357,7 @@ makes_changes changes old a b had has few most way stages =
             ];
             enough = λ fits. elim w.left [
               | inl here ↦ clean ∙ here.2
-              | inr opened ↦ let short = opened.3 in absurd (omega arith)
+              | inr opened ↦ let short = opened.2 in absurd (omega arith)
             ];
             delayed = λ no. absurd (false≢true (sym no ∙ written.0));
           }

@@ -1,66 +1,100 @@
 -- How much changes take at most, that may be asked for in one call.
-use Rattle.std.proofs.Common.{◌≡◌, ℕ, zero, suc, ◌+◌, ◌-◌, ◌*◌, ◌%◌, ◌<◌, ◌≤◌, List, [], ◌∷◌, All, length, refl, inl, inr, arith}
-use Rattle.std.specs.List.{list_any}
+use Rattle.std.proofs.Common.{◌≡◌, ℕ, zero, suc, ◌+◌, ◌-◌, ◌*◌, ◌/◌, ◌%◌, ◌<◌, ◌≤◌, List, [], ◌∷◌, All, length, refl, inl, inr, arith}
 use Rattle.std.specs.FinMap as map
-use Rattle.std.proofs.lemmas.Bool.{cases_Bool, cases_eq, cases_lt, cond-true, cond-false, eq-eqb, ne_eqb, lt-ltb, le-ltb}
+use Rattle.std.proofs.lemmas.Bool.{cases_eq, cond-true, cond-false, eq-eqb, ne_eqb}
 use Rattle.std.proofs.lemmas.List.Sums.{sum_by-cons}
 use Rattle.lfs_types.specs.Changes.{CanApply, CanChange, CanChangeAll, changed, lengths_of, put_bytes, puts_of}
 use Rattle.lfs_types.specs.Tree.{Content}
 use Rattle.lfs_types.specs.declared.store.Change.{Change}
 use Rattle.lfs_types.specs.declared.store.Change.TheVariants.{Make, Remove, SetAttrs, Put, SetLength}
-use Rattle.lfs_segwrite.specs.Applying.{IsInReach, blocks_for, frames_of_all, gives_back, needs_of, peak_of, peak_of_all, records_of_all, reserve_of}
-use Rattle.lfs_staging.specs.Changing.{frames_of, frames_of_length, records_of}
+use Rattle.lfs_segwrite.specs.Applying.{IsInReach, blocks_for, frames_of_all, needs_of, peak_of, peak_of_all, records_of_all}
+use Rattle.lfs_staging.specs.Changing.{frames_of, frames_of_length, length_table, records_of}
 use Rattle.lfs_segwrite.specs.Collecting.{inode_blocks}
 use Rattle.lfs_segwrite.proofs.AskedLemmas.{length_limit, put_limit}
 use Rattle.lfs_staging.specs.Putting.{frames_of_put}
-use Rattle.lfs_bmap.specs.Ways.{tables_below}
+use Rattle.lfs_inodes.specs.Facts.{block_count}
+use Rattle.lfs_bmap.specs.declared.blocks.FileBlock.TheVariants.{Data}
+use Rattle.lfs_bmap.specs.Blocks.{way_to}
+use Rattle.lfs_bmap.proofs.HolderLemmas.{codes_on-few}
+use Rattle.lfs_bmap.proofs.TableLemmas.{codes_on-long, tables_between-few}
+
+-- ---- changes within reach
+first_reach : (change : Change) (changes : List Change) → All IsInReach (change ∷ changes) → IsInReach change
+first_reach change changes reach = reach zero change (omega arith)
+
+rest_reach : (change : Change) (changes : List Change) → All IsInReach (change ∷ changes) → All IsInReach changes
+rest_reach change changes reach = λ k d low. reach (suc k) d (omega arith)
+
+in_reach : (numbers : ℕ) (change : Change) (c : Content) → put_bytes (change ∷ []) ≤ 4096 → CanChange numbers change c → IsInReach change
+in_reach numbers (Make ino attrs) c few can = tt
+in_reach numbers (Remove ino) c few can = tt
+in_reach numbers (SetAttrs ino attrs) c few can = tt
+in_reach numbers (Put ino off bytes) c few can = (omega arith, put_limit (map.get c ino) off bytes.now can)
+in_reach numbers (SetLength ino len) c few can = length_limit (map.get c ino) len can
+
+one_put : (change : Change) (changes : List Change) → put_bytes (change ∷ changes) ≡ put_bytes (change ∷ []) + put_bytes changes
+one_put (Make ino attrs) changes = omega arith
+one_put (Remove ino) changes = omega arith
+one_put (SetAttrs ino attrs) changes = omega arith
+one_put (Put ino off bytes) changes = omega arith
+one_put (SetLength ino len) changes = omega arith
+
+pub all_in_reach : (numbers : ℕ) (changes : List Change) (c : Content) → put_bytes changes ≤ 4096 → CanChangeAll numbers changes c → All IsInReach changes
+all_in_reach numbers [] c few can k d low = absurd (omega arith)
+all_in_reach numbers (change ∷ changes) c few can zero d low =
+    let parts = one_put change changes in in_reach numbers change c (omega arith) can.0
+all_in_reach numbers (change ∷ changes) c few can (suc k) d low =
+    let parts = one_put change changes in all_in_reach numbers changes (changed change c) (omega arith) can.1 k d (omega arith)
 
 -- ---- frames
-single_most : (end : ℕ) → tables_below end ≤ 1
-single_most end = elim (cases_lt 6144 end) [
-  | inl past ↦ let is = cond-true {A = ℕ} _ 1 0 (lt-ltb 6144 end past) in omega arith
-  | inr within ↦ let is = cond-false {A = ℕ} _ 1 0 (le-ltb 6144 end within) in omega arith
-]
+put_most : (start count : ℕ) → 0 < count → start + count ≤ 71680 → 512 * frames_of_put start count ≤ count + 1534
+put_most start count some low = let one = tables_between-few (start / 512) ((start + count - 1) / 512) (omega arith) (omega arith) in omega arith
 
-put_most : (start count : ℕ) → 512 * frames_of_put start count ≤ count + 1534
-put_most start count = let one = single_most (start + count) in omega arith
+length_most : (len : ℕ) → len ≤ 71680 → frames_of_length len ≤ 2
+length_most len low =
+    let near : block_count len - 1 < 140 = omega arith in
+    let few = codes_on-few (Data (block_count len - 1)) near (omega arith) in
+    let long = codes_on-long (way_to (length_table len)) in
+    elim (cases_eq (len % 512) 0) [
+      | inl e ↦ let is = cond-true {A = ℕ} _ 0 1 (eq-eqb (len % 512) 0 e) in omega arith
+      | inr ne ↦ let is = cond-false {A = ℕ} _ 0 1 (ne_eqb (len % 512) 0 ne) in omega arith
+    ]
 
-length_most : (len : ℕ) → frames_of_length len ≤ 2
-length_most len = let one = single_most len in elim (cases_eq (len % 512) 0) [
-  | inl e ↦ let is = cond-true {A = ℕ} _ 0 1 (eq-eqb (len % 512) 0 e) in omega arith
-  | inr ne ↦ let is = cond-false {A = ℕ} _ 0 1 (ne_eqb (len % 512) 0 ne) in omega arith
-]
-
-frames_sum : (changes : List Change) → 512 * frames_of_all changes ≤ put_bytes changes + 1534 * puts_of changes + 1024 * lengths_of changes
-frames_sum [] = omega arith
-frames_sum (Make ino attrs ∷ changes) = frames_sum changes
-frames_sum (Remove ino ∷ changes) = frames_sum changes
-frames_sum (SetAttrs ino attrs ∷ changes) = frames_sum changes
-frames_sum (Put ino off bytes ∷ changes) =
-    let rest = frames_sum changes in
+frames_sum : (changes : List Change) → All IsInReach changes → 512 * frames_of_all changes ≤ put_bytes changes + 1534 * puts_of changes + 1024 * lengths_of changes
+frames_sum [] reach = omega arith
+frames_sum (Make ino attrs ∷ changes) reach = frames_sum changes (rest_reach (Make ino attrs) changes reach)
+frames_sum (Remove ino ∷ changes) reach = frames_sum changes (rest_reach (Remove ino) changes reach)
+frames_sum (SetAttrs ino attrs ∷ changes) reach = frames_sum changes (rest_reach (SetAttrs ino attrs) changes reach)
+frames_sum (Put ino off bytes ∷ changes) reach =
+    let rest = frames_sum changes (rest_reach (Put ino off bytes) changes reach) in
     let sum = sum_by-cons frames_of (Put ino off bytes) changes in
+    let own = first_reach (Put ino off bytes) changes reach in
     let n = length bytes.now in
-    let most = put_most off n in
     elim (cases_eq n 0) [
       | inl e ↦ let is = cond-true {A = ℕ} _ 0 (frames_of_put off n) (eq-eqb n 0 e) in omega arith
-      | inr ne ↦ let is = cond-false {A = ℕ} _ 0 (frames_of_put off n) (ne_eqb n 0 ne) in omega arith
+      | inr ne ↦
+          let is = cond-false {A = ℕ} _ 0 (frames_of_put off n) (ne_eqb n 0 ne) in
+          let most = put_most off n (omega arith) (own.1 (omega arith)) in
+          omega arith
     ]
-frames_sum (SetLength ino len ∷ changes) =
-    let rest = frames_sum changes in
+frames_sum (SetLength ino len ∷ changes) reach =
+    let rest = frames_sum changes (rest_reach (SetLength ino len) changes reach) in
     let sum = sum_by-cons frames_of (SetLength ino len) changes in
-    let most = length_most len in
+    let most = length_most len (first_reach (SetLength ino len) changes reach) in
     omega arith
 
 pub frames_most : (numbers : ℕ) (changes : List Change) (c : Content) → CanApply numbers changes c → frames_of_all changes ≤ 15
-frames_most numbers changes c can = let sum = frames_sum changes in omega (arith, can.few_bytes, can.few_puts, can.few_lengths)
+frames_most numbers changes c can =
+    let sum = frames_sum changes (all_in_reach numbers changes c can.few_bytes can.each) in
+    omega (arith, can.few_bytes, can.few_puts, can.few_lengths)
 
 -- ---- frames while changes are staged
-pub peak_least : (change : Change) → frames_of change ≤ peak_of change
-peak_least (Make ino attrs) = omega arith
-peak_least (Remove ino) = omega arith
-peak_least (SetAttrs ino attrs) = omega arith
-peak_least (Put ino off bytes) = omega arith
-peak_least (SetLength ino len) = let most = length_most len in omega arith
+pub peak_least : (change : Change) → IsInReach change → frames_of change ≤ peak_of change
+peak_least (Make ino attrs) reach = omega arith
+peak_least (Remove ino) reach = omega arith
+peak_least (SetAttrs ino attrs) reach = omega arith
+peak_least (Put ino off bytes) reach = omega arith
+peak_least (SetLength ino len) reach = let most = length_most len reach in omega arith
 
 puts_few : (changes : List Change) → puts_of changes ≤ length changes
 puts_few [] = omega arith
@@ -70,24 +104,37 @@ puts_few (SetAttrs ino attrs ∷ changes) = let rest = puts_few changes in omega
 puts_few (Put ino off bytes ∷ changes) = let rest = puts_few changes in omega arith
 puts_few (SetLength ino len ∷ changes) = let rest = puts_few changes in omega arith
 
-peak_sum : (changes : List Change) → 512 * peak_of_all changes ≤ put_bytes changes + 1534 * puts_of changes + 1024 * (length changes - puts_of changes)
-peak_sum [] = omega arith
-peak_sum (Make ino attrs ∷ changes) = let rest = peak_sum changes in let sum = sum_by-cons peak_of (Make ino attrs) changes in let few = puts_few changes in omega arith
-peak_sum (Remove ino ∷ changes) = let rest = peak_sum changes in let sum = sum_by-cons peak_of (Remove ino) changes in let few = puts_few changes in omega arith
-peak_sum (SetAttrs ino attrs ∷ changes) = let rest = peak_sum changes in let sum = sum_by-cons peak_of (SetAttrs ino attrs) changes in let few = puts_few changes in omega arith
-peak_sum (Put ino off bytes ∷ changes) =
-    let rest = peak_sum changes in
+peak_sum : (changes : List Change) → All IsInReach changes → 512 * peak_of_all changes ≤ put_bytes changes + 1534 * puts_of changes + 1024 * (length changes - puts_of changes)
+peak_sum [] reach = omega arith
+peak_sum (Make ino attrs ∷ changes) reach =
+    let rest = peak_sum changes (rest_reach (Make ino attrs) changes reach) in
+    let sum = sum_by-cons peak_of (Make ino attrs) changes in let few = puts_few changes in omega arith
+peak_sum (Remove ino ∷ changes) reach =
+    let rest = peak_sum changes (rest_reach (Remove ino) changes reach) in
+    let sum = sum_by-cons peak_of (Remove ino) changes in let few = puts_few changes in omega arith
+peak_sum (SetAttrs ino attrs ∷ changes) reach =
+    let rest = peak_sum changes (rest_reach (SetAttrs ino attrs) changes reach) in
+    let sum = sum_by-cons peak_of (SetAttrs ino attrs) changes in let few = puts_few changes in omega arith
+peak_sum (Put ino off bytes ∷ changes) reach =
+    let rest = peak_sum changes (rest_reach (Put ino off bytes) changes reach) in
     let sum = sum_by-cons peak_of (Put ino off bytes) changes in
+    let own = first_reach (Put ino off bytes) changes reach in
     let n = length bytes.now in
-    let most = put_most off n in
     elim (cases_eq n 0) [
       | inl e ↦ let is = cond-true {A = ℕ} _ 0 (frames_of_put off n) (eq-eqb n 0 e) in omega arith
-      | inr ne ↦ let is = cond-false {A = ℕ} _ 0 (frames_of_put off n) (ne_eqb n 0 ne) in omega arith
+      | inr ne ↦
+          let is = cond-false {A = ℕ} _ 0 (frames_of_put off n) (ne_eqb n 0 ne) in
+          let most = put_most off n (omega arith) (own.1 (omega arith)) in
+          omega arith
     ]
-peak_sum (SetLength ino len ∷ changes) = let rest = peak_sum changes in let sum = sum_by-cons peak_of (SetLength ino len) changes in let few = puts_few changes in omega arith
+peak_sum (SetLength ino len ∷ changes) reach =
+    let rest = peak_sum changes (rest_reach (SetLength ino len) changes reach) in
+    let sum = sum_by-cons peak_of (SetLength ino len) changes in let few = puts_few changes in omega arith
 
 pub peak_most : (numbers : ℕ) (changes : List Change) (c : Content) → CanApply numbers changes c → peak_of_all changes ≤ 21
-peak_most numbers changes c can = let sum = peak_sum changes in omega (arith, can.few_bytes, can.few_puts, can.few)
+peak_most numbers changes c can =
+    let sum = peak_sum changes (all_in_reach numbers changes c can.few_bytes can.each) in
+    omega (arith, can.few_bytes, can.few_puts, can.few)
 
 -- ---- records
 pub record_most : (change : Change) → records_of change ≤ 1
@@ -147,38 +194,3 @@ blocks_sum f g r s = elim (cases_eq (f + inode_blocks r) 0) [
         omega arith
   ]
 ]
-
--- ---- the segments that stay clean
-pub reserve_least : (c : Content) (changes : List Change) → 1 ≤ reserve_of c changes
-reserve_least c changes = elim (cases_Bool (list_any (gives_back c) changes)) [
-  | inl some ↦ let is = cond-true {A = ℕ} _ 1 2 some in omega arith
-  | inr none ↦ let is = cond-false {A = ℕ} _ 1 2 none in omega arith
-]
-
-pub reserve_most : (c : Content) (changes : List Change) → reserve_of c changes ≤ 2
-reserve_most c changes = elim (cases_Bool (list_any (gives_back c) changes)) [
-  | inl some ↦ let is = cond-true {A = ℕ} _ 1 2 some in omega arith
-  | inr none ↦ let is = cond-false {A = ℕ} _ 1 2 none in omega arith
-]
-
--- ---- reach
-in_reach : (numbers : ℕ) (change : Change) (c : Content) → put_bytes (change ∷ []) ≤ 4096 → CanChange numbers change c → IsInReach change
-in_reach numbers (Make ino attrs) c few can = tt
-in_reach numbers (Remove ino) c few can = tt
-in_reach numbers (SetAttrs ino attrs) c few can = tt
-in_reach numbers (Put ino off bytes) c few can = (omega arith, put_limit (map.get c ino) off bytes.now can)
-in_reach numbers (SetLength ino len) c few can = length_limit (map.get c ino) len can
-
-one_put : (change : Change) (changes : List Change) → put_bytes (change ∷ changes) ≡ put_bytes (change ∷ []) + put_bytes changes
-one_put (Make ino attrs) changes = omega arith
-one_put (Remove ino) changes = omega arith
-one_put (SetAttrs ino attrs) changes = omega arith
-one_put (Put ino off bytes) changes = omega arith
-one_put (SetLength ino len) changes = omega arith
-
-pub all_in_reach : (numbers : ℕ) (changes : List Change) (c : Content) → put_bytes changes ≤ 4096 → CanChangeAll numbers changes c → All IsInReach changes
-all_in_reach numbers [] c few can k d low = absurd (omega arith)
-all_in_reach numbers (change ∷ changes) c few can zero d low =
-    let parts = one_put change changes in in_reach numbers change c (omega arith) can.0
-all_in_reach numbers (change ∷ changes) c few can (suc k) d low =
-    let parts = one_put change changes in all_in_reach numbers changes (changed change c) (omega arith) can.1 k d (omega arith)

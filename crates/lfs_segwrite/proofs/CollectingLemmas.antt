@@ -1,13 +1,10 @@
 -- What waits to be written, counted.
-use Rattle.std.proofs.Common.{◌≡◌, ℕ, ◌+◌, ◌<◌, ◌≤◌, List, [], ◌∷◌, ◌++◌, All, Bool, true, false, length, map, replicate, take, drop, get_or, cond, refl, sym, ap, ◌∙◌, subst, inl, inr, arith, length-append}
-use Rattle.std.specs.Prelude.{not}
+use Rattle.std.proofs.Common.{◌≡◌, ◌≢◌, ℕ, zero, suc, ◌+◌, ◌<◌, ◌≤◌, List, [], ◌∷◌, ◌++◌, All, Bool, true, false, length, map, replicate, take, drop, get_or, cond, refl, sym, ap, ◌∙◌, subst, inl, inr, arith, length-append}
 use Rattle.std.specs.List.{filter}
-use Rattle.std.specs.List.Sorted.{IsPermutation}
-use Rattle.std.proofs.lemmas.Bool.{cases_lt, cond-true, cond-false, false≢true, le-leb, lt-leb}
-use Rattle.std.proofs.lemmas.List.{append-nil, get_or_past, length-map, map-append, length-replicate, take-append-drop}
-use Rattle.std.proofs.lemmas.List.Elements.{All-append, All-filter, All-map, All-replicate, filter-append, filter_more}
-use Rattle.std.proofs.lemmas.List.Filters.{length-filter_both, length-filter_more}
-use Rattle.std.proofs.lemmas.List.Sorted.{IsPermutation-filter_both}
+use Rattle.std.proofs.lemmas.Bool.{cases_eq, cases_lt, eq-eqb, false≢true, ne_eqb}
+use Rattle.std.proofs.lemmas.List.{get_or_past, length-map, map-append, length-replicate, take-append-drop}
+use Rattle.std.proofs.lemmas.List.Elements.{All-append, All-filter, All-map, All-replicate, filter-append}
+use Rattle.std.proofs.lemmas.List.Filters.{length-filter_more}
 use Rattle.lfs_segments.specs.declared.entry.SummaryEntry.{SummaryEntry}
 use Rattle.lfs_cache.specs.declared.key.Key.{Key}
 use Rattle.lfs_segments.specs.Entry.{IsEntry, IsFileNumber}
@@ -17,11 +14,16 @@ use Rattle.lfs_ifile.specs.Tables.{row_of}
 use Rattle.lfs_cache.specs.Contents.{IsLocked, keys_of}
 use Rattle.lfs_cache.proofs.CallerLemmas.{listed_has_block}
 use Rattle.lfs_cache.proofs.Entries.{same_self}
-use Rattle.lfs_staging.specs.Store.{AreFiles}
+use Rattle.lfs_bmap.specs.declared.blocks.FileBlock.{FileBlock}
+use Rattle.lfs_bmap.specs.declared.blocks.FileBlock.TheVariants.{Record, Single, Double, Child, Data}
+use Rattle.lfs_bmap.specs.Blocks.{IsFileBlock, block_with, code_of, logical_of}
+use Rattle.lfs_bmap.specs.Tables.{rank_of}
+use Rattle.lfs_bmap.proofs.BlockLemmas.{block_with-code_of}
+use Rattle.lfs_bmap.proofs.TableLemmas.{rank_of-few}
+use Rattle.lfs_staging.specs.Store.{AreFiles, IsBlockCode}
 use Rattle.lfs_staging.specs.declared.parts.Parts.{Parts}
-use Rattle.lfs_segwrite.specs.Collecting.{entries_of, entry_of, in_order, inode_blocks, is_of}
+use Rattle.lfs_segwrite.specs.Collecting.{entries_of, entry_of, in_order, in_passes, inode_blocks, is_of}
 use Rattle.lfs_staging.specs.Opening.{inodes_entry}
-use Rattle.lfs_staging.proofs.CleanLemmas.{coded_below}
 
 -- a number in use is in the inode map
 in_range : (p : Parts) (n : ℕ) → (row_of p.log.tables n).used ≡ true → n < length p.log.tables.rows
@@ -31,17 +33,74 @@ in_range p n used = elim (cases_lt n (length p.log.tables.rows)) [
 ]
 
 -- ---- the order
-other_kind : (key : Key) → is_of false key ≡ not (is_of true key)
-other_kind key = refl
+pub filter_yes : (p : Key → Bool) (n : Key) (ns : List Key) → p n ≡ true → filter p (n ∷ ns) ≡ n ∷ filter p ns
+filter_yes p n ns holds = ap (λ b. cond b (n ∷ filter p ns) (filter p ns)) holds
+
+pub filter_no : (p : Key → Bool) (n : Key) (ns : List Key) → p n ≡ false → filter p (n ∷ ns) ≡ filter p ns
+filter_no p n ns fails = ap (λ b. cond b (n ∷ filter p ns) (filter p ns)) fails
+
+pub in_passes-none : (keys : List Key) → in_passes 0 keys ≡ []
+unfolding in_passes
+in_passes-none keys = refl
+
+pub in_passes-more : (n : ℕ) (keys : List Key) → in_passes (suc n) keys ≡ in_passes n keys ++ filter (is_of n) keys
+unfolding in_passes
+in_passes-more n keys = refl
+
+-- one key more is in the passes behind its own, once
+passes_length : (n : ℕ) (keys : List Key) → length (in_passes (suc n) keys) ≡ length (in_passes n keys) + length (filter (is_of n) keys)
+passes_length n keys = ap (λ (ks : List Key). length ks) (in_passes-more n keys) ∙ length-append (in_passes n keys) (filter (is_of n) keys)
+
+passes_without : (n : ℕ) (k : Key) (keys : List Key) → n ≤ rank_of k.lbn → length (in_passes n (k ∷ keys)) ≡ length (in_passes n keys)
+passes_without zero k keys past = ap (λ (ks : List Key). length ks) (in_passes-none (k ∷ keys) ∙ sym (in_passes-none keys))
+passes_without (suc n) k keys past =
+    let before = passes_without n k keys (omega arith) in
+    let same = ap (λ (ks : List Key). length ks) (filter_no (is_of n) k keys (ne_eqb (rank_of k.lbn) n (λ e. omega arith))) in
+    let first = passes_length n (k ∷ keys) in
+    let second = passes_length n keys in
+    omega arith
+
+passes_with : (n : ℕ) (k : Key) (keys : List Key) → rank_of k.lbn < n → length (in_passes n (k ∷ keys)) ≡ length (in_passes n keys) + 1
+passes_with zero k keys low = absurd (omega arith)
+passes_with (suc n) k keys low =
+    let first = passes_length n (k ∷ keys) in
+    let second = passes_length n keys in
+    elim (cases_eq (rank_of k.lbn) n) [
+      | inl is ↦
+          let before = passes_without n k keys (omega arith) in
+          let more = ap (λ (ks : List Key). length ks) (filter_yes (is_of n) k keys (eq-eqb (rank_of k.lbn) n is)) in
+          omega arith
+      | inr other ↦
+          let before = passes_with n k keys (omega arith) in
+          let same = ap (λ (ks : List Key). length ks) (filter_no (is_of n) k keys (ne_eqb (rank_of k.lbn) n other)) in
+          omega arith
+    ]
 
 pub in_order-length : (keys : List Key) → length (in_order keys) ≡ length keys
-unfolding in_order
-in_order-length keys =
-    length-append (filter (is_of true) keys) (filter (is_of false) keys) ∙ length-filter_both (is_of true) (is_of false) other_kind keys
+in_order-length [] = passes_empty 3
+  where
+    passes_empty : (n : ℕ) → length (in_passes n []) ≡ 0
+    passes_empty zero = ap (λ (ks : List Key). length ks) (in_passes-none [])
+    passes_empty (suc n) = let before = passes_empty n in let more = passes_length n [] in omega arith
+in_order-length (k ∷ keys) = let more = passes_with 3 k keys (rank_of-few k.lbn) in let rest = in_order-length keys in omega arith
 
-pub in_order-all : (keys : List Key) → IsPermutation keys (in_order keys)
-unfolding in_order
-in_order-all keys = IsPermutation-filter_both (is_of true) (is_of false) other_kind keys
+-- as far as a pass there are no more than in all
+passes_grow : (keys : List Key) (n m : ℕ) → n ≤ m → length (in_passes n keys) ≤ length (in_passes m keys)
+passes_grow keys n zero less = let none : n ≡ 0 = omega arith in subst (λ k. length (in_passes k keys) ≤ length (in_passes 0 keys)) (sym none) (omega arith)
+passes_grow keys n (suc m) less = elim (cases_eq n (suc m)) [
+  | inl is ↦ subst (λ k. length (in_passes k keys) ≤ length (in_passes (suc m) keys)) (sym is) (omega arith)
+  | inr other ↦ let before = passes_grow keys n m (omega arith) in let more = passes_length m keys in omega arith
+]
+
+pub passes_most : (n : ℕ) (keys : List Key) → n ≤ 3 → length (in_passes n keys) ≤ length keys
+passes_most n keys few = let whole = in_order-length keys in let grows = passes_grow keys n 3 few in omega arith
+
+-- what holds of the keys holds of them in order
+pub in_passes-each : (P : Key → Type 0) (n : ℕ) (keys : List Key) → All P keys → All P (in_passes n keys)
+in_passes-each P zero keys all = subst (All P) (sym (in_passes-none keys)) (λ k d low. absurd (omega arith))
+in_passes-each P (suc n) keys all =
+    subst (All P) (sym (in_passes-more n keys))
+    (All-append P (in_passes n keys) (filter (is_of n) keys) (in_passes-each P n keys all) (All-filter (is_of n) P keys all))
 
 -- how many entries there are
 pub entries_of-length : (p : Parts) → length (entries_of p) ≡ length p.cache.locked + inode_blocks (length p.waiting)
@@ -64,47 +123,44 @@ filter_part p xs n =
     let whole = length-append (filter p (take n xs)) (filter p (drop n xs)) in
     omega arith
 
--- one key more, which is of the kind or is not
-pub kind_more : (d : Bool) (keys : List Key) (i : ℕ) (key : Key) → i < length keys → key ≡ get_or keys i key → is_of d key ≡ true
-    → filter (is_of d) (take (i + 1) keys) ≡ filter (is_of d) (take i keys) ++ key ∷ []
-kind_more d keys i key low at is =
-    filter_more (is_of d) keys i key low
-    ∙ ap (λ (k : Key). filter (is_of d) (take i keys) ++ cond (is_of d k) (k ∷ []) []) (sym at)
-    ∙ ap (λ b. filter (is_of d) (take i keys) ++ cond b (key ∷ []) []) is
-
-pub kind_less : (d : Bool) (keys : List Key) (i : ℕ) (key : Key) → i < length keys → key ≡ get_or keys i key → is_of d key ≡ false
-    → filter (is_of d) (take (i + 1) keys) ≡ filter (is_of d) (take i keys)
-kind_less d keys i key low at is =
-    filter_more (is_of d) keys i key low
-    ∙ ap (λ (k : Key). filter (is_of d) (take i keys) ++ cond (is_of d k) (k ∷ []) []) (sym at)
-    ∙ ap (λ b. filter (is_of d) (take i keys) ++ cond b (key ∷ []) []) is ∙ append-nil (filter (is_of d) (take i keys))
-
--- room for a key of the kind that is still to come
-pub kind_room : (d : Bool) (keys : List Key) (i : ℕ) (key : Key) → i < length keys → is_of d (get_or keys i key) ≡ true
-    → length (filter (is_of d) (take i keys)) + 1 ≤ length (filter (is_of d) keys)
-kind_room d keys i key low is =
-    let more = length-filter_more (is_of d) keys i key low in
-    let one : cond {A = ℕ} (is_of d (get_or keys i key)) 1 0 ≡ 1 = ap (λ b. cond {A = ℕ} b 1 0) is in
-    let part = filter_part (is_of d) keys (i + 1) in
+-- room for a key of the pass that is still to come
+pub pass_room : (n : ℕ) (keys : List Key) (i : ℕ) (key : Key) → i < length keys → is_of n (get_or keys i key) ≡ true
+    → length (filter (is_of n) (take i keys)) + 1 ≤ length (filter (is_of n) keys)
+pass_room n keys i key low is =
+    let more = length-filter_more (is_of n) keys i key low in
+    let one : cond {A = ℕ} (is_of n (get_or keys i key)) 1 0 ≡ 1 = ap (λ b. cond {A = ℕ} b 1 0) is in
+    let part = filter_part (is_of n) keys (i + 1) in
     omega arith
 
--- both kinds together
-pub kinds : (keys : List Key) → length (filter (is_of true) keys) + length (filter (is_of false) keys) ≡ length keys
-kinds keys = length-filter_both (is_of true) (is_of false) other_kind keys
+-- one pass more is collected
+pub collected_more : (l m : List SummaryEntry) (n : ℕ) (keys : List Key) → l ≡ map entry_of (in_passes n keys) → m ≡ l ++ map entry_of (filter (is_of n) keys)
+    → m ≡ map entry_of (in_passes (n + 1) keys)
+collected_more l m n keys before more =
+    let next : suc n ≡ n + 1 = omega arith in
+    more ∙ ap (λ es. es ++ map entry_of (filter (is_of n) keys)) before ∙ sym (map-append entry_of (in_passes n keys) (filter (is_of n) keys))
+    ∙ ap (map entry_of) (sym (in_passes-more n keys)) ∙ ap (λ k. map entry_of (in_passes k keys)) next
 
--- what is collected step by step
-pub collected : (p : Parts) (l0 l1 l2 l3 : List SummaryEntry) (keys : List Key) (blocks : ℕ) → l0 ≡ [] → l1 ≡ l0 ++ map entry_of (filter (is_of true) keys)
-    → l2 ≡ l1 ++ map entry_of (filter (is_of false) keys) → l3 ≡ l2 ++ replicate blocks inodes_entry → keys ≡ keys_of p.cache.locked
-    → blocks ≡ inode_blocks (length p.waiting) → l3 ≡ entries_of p
-unfolding entries_of in_order
-collected p l0 l1 l2 l3 keys blocks none first second third is many =
-    let ds = filter (is_of true) keys in
-    let ss = filter (is_of false) keys in
-    let front : l2 ≡ map entry_of (ds ++ ss)
-    = second ∙ ap (λ l. l ++ map entry_of ss) (first ∙ ap (λ l. l ++ map entry_of ds) none) ∙ sym (map-append entry_of ds ss) in
-    third ∙ ap (λ l. l ++ replicate blocks inodes_entry) front
-    ∙ ap (λ (ks : List Key). map entry_of (filter (is_of true) ks ++ filter (is_of false) ks) ++ replicate blocks inodes_entry) is
-    ∙ ap (λ n. map entry_of (filter (is_of true) (keys_of p.cache.locked) ++ filter (is_of false) (keys_of p.cache.locked)) ++ replicate n inodes_entry) many
+-- and fits
+pub collected_room : (l : List SummaryEntry) (n : ℕ) (keys : List Key) → l ≡ map entry_of (in_passes n keys) → n < 3 → length keys ≤ 24
+    → length l + length (filter (is_of n) keys) ≤ 40
+collected_room l n keys is low few =
+    let many = ap (λ (es : List SummaryEntry). length es) is in
+    let mapped = length-map (in_passes n keys) entry_of in
+    let more = passes_length n keys in
+    let most = passes_most (suc n) keys (omega arith) in
+    omega arith
+
+pub collected_none : (keys : List Key) → map entry_of (in_passes 0 keys) ≡ []
+collected_none keys = ap (map entry_of) (in_passes-none keys)
+
+-- with the records that is all
+pub collected : (p : Parts) (l m : List SummaryEntry) (keys : List Key) (blocks : ℕ) → l ≡ map entry_of (in_order keys) → m ≡ l ++ replicate blocks inodes_entry
+    → keys ≡ keys_of p.cache.locked → blocks ≡ inode_blocks (length p.waiting) → m ≡ entries_of p
+unfolding entries_of
+collected p l m keys blocks before more is many =
+    more ∙ ap (λ es. es ++ replicate blocks inodes_entry) before
+    ∙ ap (λ (ks : List Key). map entry_of (in_order ks) ++ replicate blocks inodes_entry) is
+    ∙ ap (λ n. map entry_of (in_order (keys_of p.cache.locked)) ++ replicate n inodes_entry) many
 
 -- ---- each entry is one that a summary can have
 number_of : (p : Parts) (number : ℕ) → AreFiles p → (row_of p.log.tables number).used ≡ true → IsFileNumber number
@@ -120,26 +176,32 @@ number_of p number files used = record {
 version_from : (p : Parts) (number : ℕ) → AreFiles p → (row_of p.log.tables number).used ≡ true → 1 ≤ (row_of p.log.tables number).version
 version_from p number files used = (files.parts.formed.each_row number fresh_row (in_range p number used)).given_out used
 
+-- what a summary says of a key that waits names a block that a file can have
+pub coded_entry : (key : Key) → (h : IsBlockCode key.lbn) → block_with key.lbn ≡ h.block
+coded_entry key h = ap block_with (sym h.coded) ∙ block_with-code_of h.block h.is
+
+entry_block : (b : FileBlock) → IsFileBlock b → code_of b ≢ 0 → (number version : ℕ) → IsFileNumber number → 1 ≤ version
+    → IsEntry (record { number = number; version = version; block = logical_of b })
+entry_block Record is other number version named given = absurd (other refl)
+entry_block Single is other number version named given = record { block = tt; owner = (named, given) }
+entry_block Double is other number version named given = record { block = tt; owner = (named, given) }
+entry_block (Child k) is other number version named given = record { block = is; owner = (named, given) }
+entry_block (Data k) is other number version named given = record { block = is; owner = (named, given) }
+
 key_entry : (p : Parts) (key : Key) → AreFiles p → IsLocked key p.cache → IsEntry (entry_of key)
 key_entry p key files locked =
     let there = files.frames key locked in
     let number = number_of p key.ino files there.in_use in
     let version : 1 ≤ key.version = subst (λ v. 1 ≤ v) (sym there.at_version) (version_from p key.ino files there.in_use) in
-    elim (cases_lt key.lbn 131) [
-      | inl low ↦ subst (λ b. IsEntry (record { number = key.ino; version = key.version; block = b })) (sym (cond-false _ _ _ (lt-leb 131 key.lbn low)))
-          (record { block = tt; owner = (number, version) })
-      | inr high ↦
-          let below = coded_below key.lbn (files.coded key locked) in
-          subst (λ b. IsEntry (record { number = key.ino; version = key.version; block = b })) (sym (cond-true _ _ _ (le-leb 131 key.lbn high)))
-          (record { block = omega arith; owner = (number, version) })
-    ]
+    let h = files.coded key locked in
+    subst (λ b. IsEntry (record { number = key.ino; version = key.version; block = logical_of b })) (sym (coded_entry key h))
+    (entry_block h.block h.is (λ e. h.other (sym h.coded ∙ e)) key.ino key.version number version)
 
 pub all_entries : (p : Parts) → AreFiles p → All IsEntry (entries_of p)
-unfolding entries_of in_order
+unfolding entries_of
 all_entries p files =
     let keys = keys_of p.cache.locked in
     let each : All (λ (key : Key). IsEntry (entry_of key)) keys = λ k d low. key_entry p (get_or keys k d) files (listed_has_block (get_or keys k d) p.cache.locked k d low (same_self (get_or keys k d))) in
     All-append IsEntry (map entry_of (in_order keys)) (replicate (inode_blocks (length p.waiting)) inodes_entry)
-    (All-map IsEntry entry_of (in_order keys) (All-append (λ (key : Key). IsEntry (entry_of key)) (filter (is_of true) keys) (filter (is_of false) keys)
-    (All-filter (is_of true) (λ (key : Key). IsEntry (entry_of key)) keys each) (All-filter (is_of false) (λ (key : Key). IsEntry (entry_of key)) keys each)))
+    (All-map IsEntry entry_of (in_order keys) (in_passes-each (λ (key : Key). IsEntry (entry_of key)) 3 keys each))
     (All-replicate IsEntry (inode_blocks (length p.waiting)) inodes_entry (record { block = tt; owner = (refl, refl) }))

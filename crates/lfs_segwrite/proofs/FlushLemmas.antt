@@ -1,39 +1,37 @@
 -- All that waits is written: the blocks in their order, then the records.
 use Rattle.std.proofs.Common.{◌≡◌, ◌≢◌, ℕ, zero, suc, ◌+◌, ◌-◌, ◌<◌, ◌≤◌, List, [], ◌∷◌, length, map, replicate, take, drop, get_or, IsSome, is_some, true, false, refl, sym, ap, ◌∙◌, subst, inl, inr, arith}
-use Rattle.std.specs.Prelude.{not, ◌==◌, Bool, if◌then◌else◌}
+use Rattle.std.specs.Prelude.{◌==◌, Bool, if◌then◌else◌}
 use Rattle.std.proofs.lemmas.Bool.Decides.{nat_tests}
-use Rattle.std.proofs.lemmas.Bool.{cases_eq, cond-true, cond-false, eq-eqb, ne_eqb, false≢true, le-leb, lt-leb}
+use Rattle.std.proofs.lemmas.Bool.{cases_eq, cond-true, cond-false, eq-eqb, ne_eqb, false≢true}
 use Rattle.std.proofs.lemmas.List.{drop_at, drop_more, get_or-take, length-map, length-take-le, get_or_default}
 use Rattle.lfs_cache.specs.declared.key.Key.{Key}
 use Rattle.lfs_cache.specs.Contents.{AreApart, Contents, IsLocked, Lacks, block_in, keys_of}
 use Rattle.lfs_cache.specs.Keys.{same_key}
 use Rattle.lfs_cache.proofs.Entries.{same_cases, same_is, same_self}
 use Rattle.lfs_segments.specs.declared.entry.SummaryEntry.{SummaryEntry}
-use Rattle.lfs_segments.specs.declared.entry.LogicalBlock.TheVariants as logical
 use Rattle.lfs_segments.specs.Log.{Expects}
 use Rattle.lfs_segments.specs.Memory.{next_address}
 use Rattle.lfs_bmap.specs.declared.blocks.FileBlock.{FileBlock}
-use Rattle.lfs_bmap.specs.declared.blocks.FileBlock.TheVariants.{Single}
-use Rattle.lfs_bmap.specs.Blocks.{IsFileBlock, code_of, file_block_of, logical_of, way_to}
+use Rattle.lfs_bmap.specs.Blocks.{IsFileBlock, block_with, code_of, file_block_of, logical_of, table_of, way_to}
+use Rattle.lfs_bmap.specs.Tables.{rank_of}
+use Rattle.lfs_bmap.proofs.HolderLemmas.{table_of-is, table_of-way}
+use Rattle.lfs_bmap.proofs.TableLemmas.{rank_of-table}
 use Rattle.lfs_staging.specs.declared.parts.Parts.{Parts}
-use Rattle.lfs_segwrite.specs.Collecting.{blocks_of_entries, entries_of, entry_of, in_order, inode_blocks, is_of}
+use Rattle.lfs_segwrite.specs.Collecting.{blocks_of_entries, entries_of, entry_of, in_order, inode_blocks}
 use Rattle.lfs_segwrite.specs.Flushing.{Flushes, Waits}
 use Rattle.lfs_staging.specs.Opening.{inodes_entry}
 use Rattle.lfs_segwrite.specs.Recording.{Advances, entry_at_version}
 use Rattle.lfs_staging.specs.Staging.{IsStaged}
-use Rattle.lfs_staging.specs.Store.{AreFiles, IsSettled}
+use Rattle.lfs_staging.specs.Store.{AreFiles, IsBlockCode, IsSettled}
 use Rattle.lfs_staging.specs.View.{key_of, version_of, waiting_in}
-use Rattle.lfs_bmap.proofs.BlockLemmas.{logical_of-file_block}
-use Rattle.lfs_segwrite.proofs.CollectingLemmas.{entries_of-length, in_order-length}
+use Rattle.lfs_bmap.proofs.BlockLemmas.{file_block_of-logical, logical_of-file_block}
+use Rattle.lfs_segwrite.proofs.CollectingLemmas.{coded_entry, entries_of-length, in_order-length}
 use Rattle.lfs_segwrite.proofs.OrderLemmas.{entries_of-block, in_order-after, in_order-locked}
 use Rattle.lfs_segwrite.proofs.AdvanceLemmas.{Advances-refl, Advances-trans}
 use Rattle.lfs_staging.proofs.HeldLemmas.{locked_apart}
 use Rattle.lfs_staging.proofs.KeptLemmas.{staged_store}
-use Rattle.lfs_staging.proofs.CleanLemmas.{coded_below, coded_cases}
-use Rattle.lfs_bmap.proofs.WayLemmas.{code_at-way_of, up_code, way_of-code_of, way_of-known, way_of-zero}
-use Rattle.lfs_bmap.specs.Ways.{IsWay, code_at, way_of}
-use Rattle.lfs_staging.proofs.ViewLemmas.{code_at-way_to}
-use Rattle.lfs_bmap.specs.declared.blocks.TheConstants.{BLOCK_CODES}
+use Rattle.lfs_bmap.proofs.WayLemmas.{same_code, way_of-code_of}
+use Rattle.lfs_bmap.specs.Ways.{way_of}
 
 -- ---- the records
 -- how many blocks are to come, and one of them less
@@ -125,16 +123,10 @@ record NamesKey (key : Key) (block : FileBlock) : Type 0 where
   pub code : code_of block ≡ key.lbn
 
 names_key : (p : Parts) (key : Key) → AreFiles p → IsLocked key p.cache → NamesKey key (file_block_of (entry_of key).block)
-names_key p key files locked = elim (coded_cases key.lbn (files.coded key locked)) [
-  | inl one ↦
-      let block : (entry_of key).block ≡ logical.Single = cond-false _ _ _ (lt-leb 131 key.lbn (omega arith)) in
-      subst (λ b. NamesKey key (file_block_of b)) (sym block) (record { can = tt; other = λ e. absurd (omega arith); code = sym one })
-  | inr among ↦
-      let from : 131 ≤ key.lbn = among.0 in
-      let below : key.lbn < 271 = among.1 in
-      let block : (entry_of key).block ≡ logical.Data (key.lbn - 131) = cond-true _ _ _ (le-leb 131 key.lbn from) in
-      subst (λ b. NamesKey key (file_block_of b)) (sym block) (record { can = omega arith; other = λ e. absurd (omega arith); code = omega arith })
-]
+names_key p key files locked =
+    let h = files.coded key locked in
+    subst (NamesKey key) (sym (file_block_of-logical (block_with key.lbn) ∙ coded_entry key h))
+    (record { can = h.is; other = λ e. h.other (sym h.coded ∙ e); code = h.coded })
 
 -- the next entry is of a key that waits, of this block of its number
 pub record IsNext (old p : Parts) (k : ℕ) (entry : SummaryEntry) (block : FileBlock) : Type 0 where
@@ -146,26 +138,15 @@ pub record IsNext (old p : Parts) (k : ℕ) (entry : SummaryEntry) (block : File
   pub split : drop k (entries_of old) ≡ entry ∷ drop (k + 1) (entries_of old)
   pub key : (d : Key) → get_or (ordered old) k d ≡ key_of entry.number (version_of p entry.number) (code_of block)
 
--- a key that is no data block's is of a single indirect block
-single_code : (p : Parts) (key : Key) → AreFiles p → IsLocked key p.cache → is_of false key ≡ true → key.lbn ≡ 1
-single_code p key files locked kind = elim (coded_cases key.lbn (files.coded key locked)) [
-  | inl one ↦ one
-  | inr among ↦ absurd (false≢true (sym (ap not (le-leb 131 key.lbn among.0)) ∙ kind))
-]
-
--- a block that holds an address is none of the data blocks
-holds_low : (block : FileBlock) (lbn i : ℕ) → lbn < BLOCK_CODES → way_of lbn ≡ i ∷ way_to block → code_of block < 131
-holds_low block lbn i low way =
-    subst (λ c. c < 131) (code_at-way_to block) (up_code i (way_to block) (subst IsWay way (way_of-known lbn low).leads))
-
--- that of a single indirect block stands in the record
-top_code : (block : FileBlock) (i : ℕ) → way_of 1 ≡ i ∷ way_to block → code_of block ≡ 0
-top_code block i way =
-    let rest : way_to block ≡ [] = same_rest (sym (way_of-code_of Single) ∙ way) in
-    sym (code_at-way_to block) ∙ ap code_at (rest ∙ sym way_of-zero) ∙ code_at-way_of 0
-  where
-    same_rest : 12 ∷ [] ≡ i ∷ way_to block → way_to block ≡ []
-    same_rest e = cc
+-- a block that holds the address of another one has a later pass
+later_pass : (block : FileBlock) (code i : ℕ) → IsFileBlock block → IsBlockCode code → code_of block ≢ 0 → way_of code ≡ i ∷ way_to block → rank_of code < rank_of (code_of block)
+later_pass block code i can h other way =
+    let up : way_to (table_of h.block) ≡ way_to block = table_of-way h.block h.is i (way_to block) (sym (way_of-code_of h.block h.is) ∙ ap way_of h.coded ∙ way) in
+    let same : code_of (table_of h.block) ≡ code_of block = same_code (code_of (table_of h.block)) (code_of block) (way_of-code_of (table_of h.block) (table_of-is h.block h.is) ∙ up ∙ sym (way_of-code_of block can)) in
+    let less = rank_of-table h.block h.is (λ e. other (sym same ∙ e)) in
+    let first = ap rank_of h.coded in
+    let second = ap rank_of same in
+    omega arith
 
 next_key : (old p : Parts) (k : ℕ) (entry : SummaryEntry) → LandsKeys old p k → k < length old.cache.locked → entry ≡ get_or (entries_of old) k entry
     → IsNext old p k entry (file_block_of entry.block)
@@ -186,11 +167,12 @@ next_key old p k entry h low at =
       other = names.other;
       waits = subst (λ x. IsLocked x p.cache) (sym here) locked;
       free = λ other waits number i way.
-          let kind : is_of false key ≡ true = ap not (lt-leb 131 key.lbn (subst (λ c. c < 131) names.code (holds_low block other.lbn i (coded_below other.lbn (h.staged.whole.coded other waits)) way))) in
           let there = h.each other waits in
-          let after : is_of false (get_or (ordered old) there.0 d) ≡ true = in_order-after (keys_of old.cache.locked) k there.0 d there.1 there.2 kind in
-          let one = single_code p other h.staged.whole waits (subst (λ x. is_of false x ≡ true) (get_or_default (ordered old) there.0 d other there.2 ∙ there.3) after) in
-          names.other (top_code block i (sym (ap way_of one) ∙ way));
+          let less = later_pass block other.lbn i names.can (h.staged.whole.coded other waits) names.other way in
+          let after = in_order-after (keys_of old.cache.locked) k there.0 d there.1 there.2 in
+          let at = ap (λ (x : Key). rank_of x.lbn) (get_or_default (ordered old) there.0 d other there.2 ∙ there.3) in
+          let own = ap rank_of names.code in
+          omega arith;
       same = ap (λ m. record { number = key.ino; version = m; block = logical_of block }) (sym present.at_version)
           ∙ ap (λ b. record { number = key.ino; version = key.version; block = b }) (logical_of-file_block (entry_of key).block);
       split = drop_more (entries_of old) k entry (omega arith) ∙ ap (λ e. e ∷ drop (k + 1) (entries_of old)) (sym at ∙ is);

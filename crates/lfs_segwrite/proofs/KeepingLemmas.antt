@@ -17,7 +17,7 @@ use Rattle.lfs_cache.proofs.Entries.{same_cases, same_is}
 use Rattle.lfs_segments.specs.Memory.{block_at}
 use Rattle.lfs_log.specs.Parts.{IsParts}
 use Rattle.lfs_bmap.specs.declared.blocks.FileBlock.{FileBlock}
-use Rattle.lfs_bmap.specs.Blocks.{code_of, first_under}
+use Rattle.lfs_bmap.specs.Blocks.{IsFileBlock, code_of, first_under}
 use Rattle.lfs_bmap.specs.Pieces.{IsPadded}
 use Rattle.lfs_bmap.specs.Reading.{address, data_block}
 use Rattle.lfs_bmap.specs.Ways.{code_at, way_of}
@@ -70,15 +70,15 @@ module _ (p r s q : Parts) (v : Inode) (block : FileBlock) (a i : ℕ) (up : Lis
 
   -- a file that has blocks of its own at the addresses that they had
   file_after : (number : ℕ) (f g : Fields) → number < length p.log.tables.rows → IsFile p number f → f.attributes ≡ g.attributes
-      → ((b : FileBlock) → block_count f.attributes.size ≤ first_under b → (number ≢ v.number) ⊎ (code_of b ≢ code_of block)) → AreFields g → IsFile q number g
+      → ((b : FileBlock) → IsFileBlock b → block_count f.attributes.size ≤ first_under b → (number ≢ v.number) ⊎ (code_of b ≢ code_of block)) → AreFields g → IsFile q number g
   file_after number f g low was same apart formed = record {
     formed = formed;
     own_number = sym (ap (λ (x : Attributes). x.number) same) ∙ was.own_number;
     own_version = sym (ap (λ (x : Attributes). x.version) same) ∙ was.own_version ∙ sym (version_same p r s q v block a i up h number);
     none_past = λ b is past.
         let from : block_count f.attributes.size ≤ first_under b = subst (λ (x : Attributes). block_count x.size ≤ first_under b) (sym same) past in
-        ap (address (tree_of q number)) (sym (way_of-code_of b)) ∙ address_same p r s q v block a i up h waited number (code_of b) low (code_of-below b is) (apart b from)
-        ∙ ap (address (tree_of p number)) (way_of-code_of b) ∙ was.none_past b is from;
+        ap (address (tree_of q number)) (sym (way_of-code_of b is)) ∙ address_same p r s q v block a i up h waited number (code_of b) low (code_of-below b is) (apart b is from)
+        ∙ ap (address (tree_of p number)) (way_of-code_of b is) ∙ was.none_past b is from;
     padded = subst (λ (x : Attributes). IsPadded (data_block (tree_of q number)) x.size) same
         (padded_same (data_block (tree_of p number)) (data_block (tree_of q number)) f.attributes.size (λ n. data_same p r s q v block a i up h waited number n low) was.padded);
   }
@@ -90,10 +90,10 @@ module _ (p r s q : Parts) (v : Inode) (block : FileBlock) (a i : ℕ) (up : Lis
             let same : fields_of stays.after ≡ f = same_Some _ f (sym record_here ∙ ap (record_of q) (sym e) ∙ is) in
             subst (IsFile q number) same (file_after number (fields_of v) (fields_of stays.after) (in_volume number f is)
             (subst (λ n. IsFile p n (fields_of v)) (sym e) (files.files v.number (fields_of v) (waiting_record p v h.is))) (sym stays.same)
-            (λ b past. inr (within_apart block b v.size within past)) (AreFields-fields_of stays.after))
+            (λ b can past. inr (within_apart block b v.size h.can can within past)) (AreFields-fields_of stays.after))
         | inr ne ↦
             let was = files.files number f (sym (record_other p r s q v block a i up h number ne) ∙ is) in
-            file_after number f f (in_volume number f is) was refl (λ b past. inl ne) was.formed
+            file_after number f f (in_volume number f is) was refl (λ b can past. inl ne) was.formed
       ]
 
   -- what is locked was locked, or holds the address

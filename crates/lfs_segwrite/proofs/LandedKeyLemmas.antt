@@ -107,13 +107,14 @@ may_land p v block staged is can other locked = record {
   can = can;
   other = other;
   within = staged.within v.number block (fields_of v) (waiting_record p v is) can (subst (λ n. IsLocked (key_of v.number n (code_of block)) p.cache) is.at_version locked);
-  parent = λ i up way. staged.parents.holders (key_of v.number v.version (code_of block)) locked i up (way_of-code_of block ∙ way);
+  parent = λ i up way. staged.parents.holders (key_of v.number v.version (code_of block)) locked i up (way_of-code_of block can ∙ way);
 }
 
 -- ---- what it makes when it landed
 pub record LandsKey (p q : Parts) (v : Inode) (block : FileBlock) (a : ℕ) : Type 0 where
   pub staged : IsStaged p 0
   pub is : IsWaiting p v
+  pub can : IsFileBlock block
   pub other : code_of block ≢ 0
   pub waits : IsLocked (key_of v.number v.version (code_of block)) p.cache
   pub free : (key : Key) → IsLocked key p.cache → key.ino ≡ v.number → (i : ℕ) → way_of key.lbn ≡ i ∷ way_to block → ⊥
@@ -151,7 +152,7 @@ module _ (p q : Parts) (v : Inode) (block : FileBlock) (a : ℕ) (h : LandsKey p
         | inl same ↦
             let e = same_is (key_of v.number v.version (code_of block)) holder same in
             let known = subst IsKnown way (way_of-known key.lbn (coded_below key.lbn (h.staged.whole.coded key before))) in
-            let to : way_to block ≡ j ∷ above = sym (way_of-code_of block) ∙ ap way_of (ap (λ (k : Key). k.lbn) e) ∙ known_way_of (j ∷ above) (up_known i (j ∷ above) known) in
+            let to : way_to block ≡ j ∷ above = sym (way_of-code_of block h.can) ∙ ap way_of (ap (λ (k : Key). k.lbn) e) ∙ known_way_of (j ∷ above) (up_known i (j ∷ above) known) in
             absurd (h.free key before (sym (ap (λ (k : Key). k.ino) e)) i (way ∙ ap (λ w. i ∷ w) (sym to)))
         | inr apart ↦ h.frames holder apart (h.staged.parents.holders key before i (j ∷ above) way)
       ]

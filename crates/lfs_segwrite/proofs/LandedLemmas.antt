@@ -58,7 +58,7 @@ pub record Steps (p r s q : Parts) (v : Inode) (block : FileBlock) (a i : ℕ) (
 -- a block has another code than what holds its address
 code_over : (block : FileBlock) (i : ℕ) (up : List ℕ) → IsFileBlock block → way_to block ≡ i ∷ up → code_of block ≢ code_at up
 code_over block i up can way e =
-    let here : way_of (code_of block) ≡ i ∷ up = way_of-code_of block ∙ way in
+    let here : way_of (code_of block) ≡ i ∷ up = way_of-code_of block can ∙ way in
     let known : IsKnown (i ∷ up) = subst IsKnown here (way_of-known (code_of block) (code_of-below block can)) in
     longer i up (sym (known_way_of up (up_known i up known)) ∙ ap way_of (sym e) ∙ here)
 
@@ -92,7 +92,7 @@ module _ (p r s q : Parts) (v : Inode) (block : FileBlock) (a i : ℕ) (up : Lis
   code_here = ap code_at (sym h.way) ∙ code_at-way_to block
 
   pub way_here : way_of (code_of block) ≡ i ∷ up
-  way_here = way_of-code_of block ∙ h.way
+  way_here = way_of-code_of block h.can ∙ h.way
 
   pub known : IsKnown (i ∷ up)
   known = subst IsKnown way_here (way_of-known (code_of block) (code_of-below block h.can))

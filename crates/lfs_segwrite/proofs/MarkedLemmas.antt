@@ -22,7 +22,7 @@ use Rattle.lfs_segwrite.specs.Collecting.{blocks_of_entries, entries_of}
 use Rattle.lfs_staging.specs.Files.{content_of}
 use Rattle.lfs_segwrite.specs.Flushing.{Flushes, Waits}
 use Rattle.lfs_staging.specs.Keys.{log_state}
-use Rattle.lfs_segwrite.specs.Marking.{AreNamed, IsRewritten, MarksAgain, MarksSettled, SameShown, StagesNamed, blocks_to_mark, code_named}
+use Rattle.lfs_segwrite.specs.Marking.{AreNamed, HasRoomToMark, IsRewritten, MarksAgain, MarksSettled, SameShown, StagesNamed, blocks_to_mark, code_named}
 use Rattle.lfs_segwrite.specs.Room.{KeepsFiles}
 use Rattle.lfs_staging.specs.Store.{IsSettled, IsStore}
 use Rattle.lfs_staging.specs.View.{key_of, version_of, waiting_in}
@@ -237,8 +237,8 @@ marks_none p marks named are none = record {
 
 -- what waits was written, and then the blocks were
 pub marks_after : (marks : List BlockInfo) (count : ℕ) (old mid new : Parts) → IsStore old → IsStore mid → IsStore new → WritesWaiting old mid → MarksSettled marks count mid new
-    → MarksAgain marks count old new
-marks_after marks count old mid new first before store w m =
+    → (old.log.clean ≤ 1 → new.log.clean < mid.log.clean → HasRoomToMark marks mid) → MarksAgain marks count old new
+marks_after marks count old mid new first before store w m last =
     let still : (s : ℕ) → s < old.log.memory.segments → DirtyIn (log_state old) s → DirtyIn (log_state mid) s = w.log.dirty.dirty in
     let all : new.log.memory.segments ≡ old.log.memory.segments = m.segments ∙ w.log.segments in
     let inside : (n c : ℕ) → HasPlace (log_state new) n c → seg_of ((log_state new).at n c) < old.log.memory.segments
@@ -247,6 +247,7 @@ marks_after marks count old mid new first before store w m =
       between = mid;
       written = w;
       again = m;
+      last = last;
       opened =
           let second = m.opened in
           elim w.left [

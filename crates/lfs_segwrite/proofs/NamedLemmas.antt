@@ -1,88 +1,121 @@
 -- The block that an info names, and that it is there.
-use Rattle.std.proofs.Common.{◌≡◌, ◌≢◌, ◌⊎◌, ℕ, ◌+◌, ◌/◌, ◌<◌, ◌≤◌, refl, sym, ap, ◌∙◌, inl, inr, arith}
-use Rattle.std.proofs.lemmas.Bool.{cases_eq, cases_lt, cond-true, cond-false, eq-eqb, ne_eqb, lt-ltb, le-ltb}
+use Rattle.std.proofs.Common.{◌≡◌, ◌≢◌, ◌⊎◌, ℕ, ◌+◌, ◌-◌, ◌/◌, ◌<◌, ◌≤◌, List, length, min, refl, sym, ap, ◌∙◌, subst, inl, inr, arith}
+use Rattle.std.specs.Prelude.{◌&&◌, if◌then◌else◌, nat_le, nat_lt}
+use Rattle.std.proofs.lemmas.Bool.{cases_eq, cases_lt, cond-true, cond-false, eq-eqb, ne_eqb, lt-leb, lt-ltb, le-leb, le-ltb}
 use Rattle.lfs_types.specs.declared.cleaner.BlockInfo.{BlockInfo}
 use Rattle.lfs_segments.specs.declared.entry.LogicalBlock.{LogicalBlock}
-use Rattle.lfs_segments.specs.declared.entry.LogicalBlock.TheVariants.{Data, Single, Inodes}
+use Rattle.lfs_segments.specs.declared.entry.LogicalBlock.TheVariants.{Data, Single, Double, Child, Inodes}
 use Rattle.lfs_segments.specs.Entry.{IsLogicalBlock, block_number}
+use Rattle.lfs_segments.specs.Reading.{block_from}
+use Rattle.lfs_segments.proofs.TestLemmas.{block_from-block_number, block_number-block_from}
 use Rattle.lfs_bmap.specs.declared.blocks.FileBlock.{FileBlock}
-use Rattle.lfs_bmap.specs.Blocks.{IsFileBlock, code_of, file_block_of, logical_of}
+use Rattle.lfs_bmap.specs.Blocks.{IsFileBlock, code_of, file_block_of, logical_of, way_to}
+use Rattle.lfs_bmap.specs.Ways.{way_of}
+use Rattle.lfs_bmap.proofs.TableLemmas.{way_length}
+use Rattle.lfs_bmap.proofs.WayLemmas.{way_of-code_of, way_of-known}
 use Rattle.lfs_bmap.specs.Log.{HasPlace, LogState, SameKeys}
 use Rattle.lfs_bmap.specs.Moves.{present_address}
-use Rattle.lfs_bmap.proofs.BlockLemmas.{file_block_of-is, logical_of-file_block, same_block}
+use Rattle.lfs_bmap.proofs.BlockLemmas.{code_of-below, file_block_of-is, logical_of-file_block, same_block}
 use Rattle.lfs_bmap.proofs.MoveLemmas.{present_address-key, present_address-other, present_address-same}
 use Rattle.lfs_segwrite.specs.Marking.{IsNamed, code_named, frames_of_code}
 
 -- ---- codes
-pub code_named-single : code_named 0x8000_0000 ≡ 1
+code_named-is : (lbn : ℕ) → code_named lbn ≡ min (code_of (file_block_of (block_from lbn))) 271
 unfolding code_named
-code_named-single = refl
-
-pub code_named-inodes : code_named 0xffff_ffff ≡ 0
-unfolding code_named
-code_named-inodes = refl
-
-pub code_named-data : (n : ℕ) → n < 140 → code_named n ≡ 131 + n
-unfolding code_named
-code_named-data n low =
-    cond-false _ _ _ (ne_eqb n 0x8000_0000 (λ e. omega arith)) ∙ cond-false _ _ _ (ne_eqb n 0xffff_ffff (λ e. omega arith)) ∙ cond-true _ _ _ (lt-ltb n 140 low)
-
-pub code_named-other : (n : ℕ) → n ≢ 0x8000_0000 → n ≢ 0xffff_ffff → 140 ≤ n → code_named n ≡ 271
-unfolding code_named
-code_named-other n single inodes past =
-    cond-false _ _ _ (ne_eqb n 0x8000_0000 single) ∙ cond-false _ _ _ (ne_eqb n 0xffff_ffff inodes) ∙ cond-false _ _ _ (le-ltb n 140 past)
+code_named-is lbn = refl
 
 pub code_named-block : (block : LogicalBlock) → IsLogicalBlock block → code_named (block_number block) ≡ code_of (file_block_of block)
-code_named-block (Data n) low = code_named-data n low
-code_named-block Single is = code_named-single
-code_named-block Inodes is = code_named-inodes
+code_named-block block is =
+    let low = code_of-below (file_block_of block) (file_block_of-is block is) in
+    let same = ap (λ b. code_of (file_block_of b)) (block_from-block_number block is) in
+    let named = code_named-is (block_number block) in
+    omega arith
 
-pub code_named-none : (lbn : ℕ) → ((block : LogicalBlock) → IsLogicalBlock block → block_number block ≡ lbn → ⊥) → code_named lbn ≡ 271
-code_named-none lbn none =
-    code_named-other lbn (λ e. none Single tt (sym e)) (λ e. none Inodes tt (sym e))
-    (elim (cases_lt lbn 140) [
-      | inl low ↦ absurd (none (Data lbn) low refl)
-      | inr past ↦ past
-    ])
+-- a number of no block
+record IsOther (n : ℕ) : Type 0 where
+  pub single : n ≢ 0x8000_0000
+  pub double : n ≢ 0x8000_0001
+  pub inodes : n ≢ 0xffff_ffff
+  pub data_ : 140 ≤ n
+  pub child : (n < 0x8000_0100) ⊎ (0x8000_0180 ≤ n)
+
+other_data : (n : ℕ) → (n < 0x8000_0100) ⊎ (0x8000_0180 ≤ n) → (if nat_le 0x8000_0100 n && nat_lt n 0x8000_0180 then Child (n - 0x8000_0100) else Data n) ≡ Data n
+other_data n (inl low) = rw (lt-leb 0x8000_0100 n low) refl
+other_data n (inr past) = rw (le-leb 0x8000_0100 n (omega arith), le-ltb n 0x8000_0180 past) refl
+
+block_from-other : (n : ℕ) → IsOther n → block_from n ≡ Data n
+block_from-other n h =
+    cond-false _ _ _ (ne_eqb n 0x8000_0000 h.single) ∙ cond-false _ _ _ (ne_eqb n 0x8000_0001 h.double)
+    ∙ cond-false _ _ _ (ne_eqb n 0xffff_ffff h.inodes) ∙ other_data n h.child
+
+code_named-other : (n : ℕ) → IsOther n → code_named n ≡ 271
+code_named-other n h =
+    let named = code_named-is n in
+    let is = ap (λ b. code_of (file_block_of b)) (block_from-other n h) in
+    let past = h.data_ in
+    omega arith
+
+-- no block has such a number
+other_none : (n : ℕ) → IsOther n → (block : LogicalBlock) → IsLogicalBlock block → block_number block ≡ n → ⊥
+other_none n h (Data k) low e = let past = h.data_ in omega arith
+other_none n h Single is e = h.single (sym e)
+other_none n h Double is e = h.double (sym e)
+other_none n h (Child k) low e = elim h.child [ inl below ↦ omega arith | inr past ↦ omega arith ]
+other_none n h Inodes is e = h.inodes (sym e)
 
 -- every number names a block, or none
-pub named_cases : (lbn : ℕ) → ((block : LogicalBlock) × IsLogicalBlock block × (block_number block ≡ lbn))
-    ⊎ ((block : LogicalBlock) → IsLogicalBlock block → block_number block ≡ lbn → ⊥)
-named_cases lbn = elim (cases_eq lbn 0x8000_0000) [
+abbrev NamedBlock : ℕ → Type 0
+NamedBlock lbn = (block : LogicalBlock) × IsLogicalBlock block × (block_number block ≡ lbn)
+
+kinds : (lbn : ℕ) → NamedBlock lbn ⊎ IsOther lbn
+kinds lbn = elim (cases_eq lbn 0x8000_0000) [
   | inl single ↦ inl (Single, tt, sym single)
-  | inr not_single ↦ elim (cases_eq lbn 0xffff_ffff) [
-    | inl inodes ↦ inl (Inodes, tt, sym inodes)
-    | inr not_inodes ↦ elim (cases_lt lbn 140) [
-      | inl low ↦ inl (Data lbn, low, refl)
-      | inr past ↦ inr (λ block. elim block as (λ b. IsLogicalBlock b → block_number b ≡ lbn → ⊥) [
-        | Data n ↦ λ low e. omega arith
-        | Single ↦ λ is e. not_single (sym e)
-        | Inodes ↦ λ is e. not_inodes (sym e)
-      ])
+  | inr not_single ↦ elim (cases_eq lbn 0x8000_0001) [
+    | inl double ↦ inl (Double, tt, sym double)
+    | inr not_double ↦ elim (cases_eq lbn 0xffff_ffff) [
+      | inl inodes ↦ inl (Inodes, tt, sym inodes)
+      | inr not_inodes ↦ elim (cases_lt lbn 140) [
+        | inl low ↦ inl (Data lbn, low, refl)
+        | inr past ↦ elim (cases_lt lbn 0x8000_0100) [
+          | inl low ↦ inr (record { single = not_single; double = not_double; inodes = not_inodes; data_ = past; child = inl low })
+          | inr from ↦ elim (cases_lt lbn 0x8000_0180) [
+            | inl to ↦ inl (Child (lbn - 0x8000_0100), omega arith, omega arith)
+            | inr behind ↦ inr (record { single = not_single; double = not_double; inodes = not_inodes; data_ = past; child = inr behind })
+          ]
+        ]
+      ]
     ]
   ]
 ]
 
+pub named_cases : (lbn : ℕ) → ((block : LogicalBlock) × IsLogicalBlock block × (block_number block ≡ lbn))
+    ⊎ ((block : LogicalBlock) → IsLogicalBlock block → block_number block ≡ lbn → ⊥)
+named_cases lbn = elim (kinds lbn) [
+  | inl named ↦ inl named
+  | inr other ↦ inr (other_none lbn other)
+]
+
+pub code_named-none : (lbn : ℕ) → ((block : LogicalBlock) → IsLogicalBlock block → block_number block ≡ lbn → ⊥) → code_named lbn ≡ 271
+code_named-none lbn none = elim (kinds lbn) [
+  | inl named ↦ absurd (none named.0 named.1 named.2)
+  | inr other ↦ code_named-other lbn other
+]
+
 -- ---- frames
-pub frames-record : (code : ℕ) → code ≡ 0 → frames_of_code code ≡ 0
+pub frames-block : (block : FileBlock) → IsFileBlock block → frames_of_code (code_of block) ≡ length (way_to block)
 unfolding frames_of_code
-frames-record code is = cond-true _ _ _ (eq-eqb code 0 is)
+frames-block block is =
+    cond-true _ _ _ (lt-ltb (code_of block) 271 (code_of-below block is)) ∙ ap (λ (way : List ℕ). length way) (way_of-code_of block is)
 
-pub frames-one : (code : ℕ) → code ≢ 0 → code < 143 → frames_of_code code ≡ 1
+pub frames-none : frames_of_code 271 ≡ 0
 unfolding frames_of_code
-frames-one code some low = cond-false _ _ _ (ne_eqb code 0 some) ∙ cond-true _ _ _ (lt-ltb code 143 low)
-
-pub frames-two : (code : ℕ) → 143 ≤ code → frames_of_code code ≡ 2
-unfolding frames_of_code
-frames-two code high = cond-false _ _ _ (ne_eqb code 0 (λ e. omega arith)) ∙ cond-false _ _ _ (le-ltb code 143 high)
+frames-none = refl
 
 pub frames-most : (code : ℕ) → frames_of_code code ≤ 2
-frames-most code = elim (cases_eq code 0) [
-  | inl is ↦ let e = frames-record code is in omega arith
-  | inr some ↦ elim (cases_lt code 143) [
-    | inl low ↦ let e = frames-one code some low in omega arith
-    | inr high ↦ let e = frames-two code high in omega arith
-  ]
+unfolding frames_of_code
+frames-most code = elim (cases_lt code 271) [
+  | inl low ↦ subst (λ n. n ≤ 2) (sym (cond-true _ _ _ (lt-ltb code 271 low))) (way_length (way_of code) (way_of-known code low))
+  | inr past ↦ subst (λ n. n ≤ 2) (sym (cond-false _ _ _ (le-ltb code 271 past))) (omega arith)
 ]
 
 -- ---- what an info names
@@ -117,6 +150,13 @@ named_there l info h =
       ]
     ]
 
+-- its place is at the address that the info names
+pub named_place : (l : LogState) (info : BlockInfo) → IsNamed l info → l.at info.ino (code_named info.lbn) / 4 ≡ info.addr
+named_place l info h =
+    let there = named_there l info h in
+    sym (present_address-key l info.ino (code_named info.lbn) there.0.number_below there.0.code_below)
+    ∙ ap (λ v. present_address l info.ino v (code_named info.lbn)) there.1 ∙ h.present
+
 -- the same keys, the same names
 pub named_kept : (old new : LogState) (info : BlockInfo) → SameKeys old new → IsNamed old info → IsNamed new info
 named_kept old new info keys h = record {
@@ -141,7 +181,7 @@ same_lbn m n below same =
         | inl b ↦
             let codes : code_of (file_block_of a.0) ≡ code_of (file_block_of b.0)
             = sym (code_named-block a.0 a.1) ∙ ap code_named a.2 ∙ same ∙ sym (ap code_named b.2) ∙ code_named-block b.0 b.1 in
-            let blocks : a.0 ≡ b.0 = sym (logical_of-file_block a.0) ∙ ap logical_of (same_block (file_block_of a.0) (file_block_of b.0) codes) ∙ logical_of-file_block b.0 in
+            let blocks : a.0 ≡ b.0 = sym (logical_of-file_block a.0) ∙ ap logical_of (same_block (file_block_of a.0) (file_block_of b.0) (file_block_of-is a.0 a.1) (file_block_of-is b.0 b.1) codes) ∙ logical_of-file_block b.0 in
             sym a.2 ∙ ap block_number blocks ∙ b.2
       ]
     ]

@@ -1,28 +1,22 @@
 -- The order in which what waits is written names each key once.
-use Rattle.std.proofs.Common.{◌<◌, ◌≤◌, refl, ◌-◌, length-append, get_or, sym, ◌≡◌, ℕ, zero, suc, List, [], ◌∷◌, ◌++◌, All, map, replicate, Bool, true, false, cond, length, Some, IsSome, ap, ◌∙◌, subst, inl, inr, arith}
-use Rattle.std.specs.Prelude.{not}
+use Rattle.std.proofs.Common.{◌<◌, ◌≤◌, refl, ◌-◌, length-append, get_or, sym, ◌≡◌, ◌≢◌, ℕ, zero, suc, List, [], ◌∷◌, ◌++◌, All, map, replicate, Bool, true, false, cond, length, Some, IsSome, ap, ◌∙◌, subst, inl, inr, arith}
 use Rattle.std.specs.List.{Contains, filter}
-use Rattle.std.proofs.lemmas.Bool.{cases_Bool, cases_lt, false≢true}
+use Rattle.std.proofs.lemmas.Bool.{cases_Bool, cases_eq, cases_lt, eq-eqb, eqb-true, false≢true, ne_eqb}
 use Rattle.std.proofs.lemmas.List.{get_or-append_right, get_or-map, get_or-replicate, get_or_append_left, length-map}
-use Rattle.std.proofs.lemmas.List.Elements.{All-append, All-filter}
-use Rattle.std.proofs.lemmas.List.Sorted.{Contains-permutation}
+use Rattle.std.proofs.lemmas.List.Elements.{All-append, Contains-append_left, Contains-append_right}
 use Rattle.lfs_cache.specs.declared.key.Key.{Key}
 use Rattle.lfs_cache.specs.Contents.{AreApart, Contents, IsLocked, Lacks, block_in, keys_of}
 use Rattle.lfs_cache.specs.Keys.{same_key}
 use Rattle.lfs_cache.proofs.Entries.{same_cases, same_is, same_self}
 use Rattle.lfs_cache.proofs.CallerLemmas.{listed_has_block}
 use Rattle.lfs_inodes.specs.declared.inode.Inode.{Inode}
+use Rattle.lfs_bmap.specs.Tables.{rank_of}
+use Rattle.lfs_bmap.proofs.TableLemmas.{rank_of-few}
 use Rattle.lfs_staging.specs.declared.parts.Parts.{Parts}
-use Rattle.lfs_segwrite.specs.Collecting.{AreLocked, entries_of, entry_of, in_order, inode_blocks, is_of}
+use Rattle.lfs_segwrite.specs.Collecting.{AreLocked, entries_of, entry_of, in_order, in_passes, inode_blocks, is_of}
 use Rattle.lfs_staging.specs.Opening.{inodes_entry}
-use Rattle.lfs_segwrite.proofs.CollectingLemmas.{entries_of-length, in_order-all, in_order-length}
+use Rattle.lfs_segwrite.proofs.CollectingLemmas.{entries_of-length, filter_no, filter_yes, in_order-length, in_passes-each, in_passes-more, in_passes-none}
 use Rattle.lfs_segments.specs.declared.entry.SummaryEntry.{SummaryEntry}
-
-filter_yes : (p : Key → Bool) (n : Key) (ns : List Key) → p n ≡ true → filter p (n ∷ ns) ≡ n ∷ filter p ns
-filter_yes p n ns holds = ap (λ b. cond b (n ∷ filter p ns) (filter p ns)) holds
-
-filter_no : (p : Key → Bool) (n : Key) (ns : List Key) → p n ≡ false → filter p (n ∷ ns) ≡ filter p ns
-filter_no p n ns fails = ap (λ b. cond b (n ∷ filter p ns) (filter p ns)) fails
 
 -- a key that a list lacks is lacked by a part of it, and by it and another one that lacks it
 lacks_filter : (p : Key → Bool) (k : Key) (ns : List Key) → Lacks k ns → Lacks k (filter p ns)
@@ -43,69 +37,7 @@ apart_filter p (n ∷ ns) h = elim (cases_Bool (p n)) [
   | inr fails ↦ subst AreApart (sym (filter_no p n ns fails)) (apart_filter p ns h.1)
 ]
 
--- no key is of both kinds
-clash : (n k : Key) → is_of true k ≡ true → is_of false n ≡ true → same_key n k ≡ true → ⊥
-clash n k is other same =
-    let e : is_of true n ≡ true = ap (is_of true) (same_is n k same) ∙ is in
-    false≢true (sym (ap not e) ∙ other)
-
-lacks_kind : (k : Key) (ns : List Key) → is_of true k ≡ true → Lacks k (filter (is_of false) ns)
-lacks_kind k [] is = tt
-lacks_kind k (n ∷ ns) is = elim (cases_Bool (is_of false n)) [
-  | inl holds ↦
-      let other : same_key n k ≡ false = elim (same_cases n k) [ inl same ↦ absurd (clash n k is holds same) | inr fails ↦ fails ] in
-      subst (Lacks k) (sym (filter_yes (is_of false) n ns holds)) (other, lacks_kind k ns is)
-  | inr fails ↦ subst (Lacks k) (sym (filter_no (is_of false) n ns fails)) (lacks_kind k ns is)
-]
-
-both_apart : (ms ns : List Key) → AreApart ms → AreApart ns → AreApart (filter (is_of true) ms ++ filter (is_of false) ns)
-both_apart [] ns h g = apart_filter (is_of false) ns g
-both_apart (m ∷ ms) ns h g = elim (cases_Bool (is_of true m)) [
-  | inl holds ↦
-      subst (λ l. AreApart (l ++ filter (is_of false) ns)) (sym (filter_yes (is_of true) m ms holds))
-      (lacks_append m (filter (is_of true) ms) (filter (is_of false) ns) (lacks_filter (is_of true) m ms h.0) (lacks_kind m ns holds), both_apart ms ns h.1 g)
-  | inr fails ↦ subst (λ l. AreApart (l ++ filter (is_of false) ns)) (sym (filter_no (is_of true) m ms fails)) (both_apart ms ns h.1 g)
-]
-
--- in order, no key comes twice
-pub in_order-apart : (keys : List Key) → AreApart keys → AreApart (in_order keys)
-unfolding in_order
-in_order-apart keys h = both_apart keys keys h h
-
--- what waits is listed
-waits_listed : (es : List (Key × List ℕ)) (key : Key) → IsSome (block_in key es) → Contains (keys_of es) key
-waits_listed [] key h = absurd (false≢true h)
-waits_listed (e ∷ es) key h =
-    elim (same_cases e.0 key) [
-      | inl same ↦ (zero, omega arith, same_is e.0 key same)
-      | inr other ↦
-          let there = waits_listed es key (subst IsSome (ap (λ b. cond b (Some e.1) (block_in key es)) other) h) in
-          (suc there.0, let low = there.1 in omega arith, there.2)
-    ]
-
-listed_waits : (c : Contents) → All (λ (key : Key). IsLocked key c) (keys_of c.locked)
-listed_waits c = λ k d low. listed_has_block (get_or (keys_of c.locked) k d) c.locked k d low (same_self (get_or (keys_of c.locked) k d))
-
--- so the keys in order are those that wait, each once
-pub in_order-locked : (c : Contents) → AreApart (keys_of c.locked) → AreLocked (in_order (keys_of c.locked)) c
-unfolding in_order
-in_order-locked c apart =
-    let keys = keys_of c.locked in
-    record {
-      each = λ key waits. Contains-permutation keys (in_order keys) key (in_order-all keys) (waits_listed c.locked key waits);
-      only = All-append (λ (key : Key). IsLocked key c) (filter (is_of true) keys) (filter (is_of false) keys)
-          (All-filter (is_of true) (λ (key : Key). IsLocked key c) keys (listed_waits c)) (All-filter (is_of false) (λ (key : Key). IsLocked key c) keys (listed_waits c));
-      once = in_order-apart keys apart;
-    }
-
--- where the same waits, the entries are the same
-pub entries_of-same : (old new : Parts) → new.cache ≡ old.cache → new.waiting ≡ old.waiting → entries_of new ≡ entries_of old
-unfolding entries_of
-entries_of-same old new cache waiting =
-    ap (λ (c : Contents). map entry_of (in_order (keys_of c.locked)) ++ replicate (inode_blocks (length new.waiting)) inodes_entry) cache
-    ∙ ap (λ (vs : List Inode). map entry_of (in_order (keys_of old.cache.locked)) ++ replicate (inode_blocks (length vs)) inodes_entry) waiting
-
--- ---- places in the order
+-- each key of a filtered list passes
 first_passes : (p : Key → Bool) (n : Key) (l : List Key) (d : Key) → p n ≡ true → ((k : ℕ) → k < length l → p (get_or l k d) ≡ true)
     → (k : ℕ) → k < length (n ∷ l) → p (get_or (n ∷ l) k d) ≡ true
 first_passes p n l d holds rest zero low = holds
@@ -120,22 +52,127 @@ each_passes p (n ∷ ns) d = elim (cases_Bool (p n)) [
   | inr fails ↦ subst (λ (l : List Key). (k : ℕ) → k < length l → p (get_or l k d) ≡ true) (sym (filter_no p n ns fails)) (each_passes p ns d)
 ]
 
--- behind a block that is no data block there is none: when an indirect block is written, its data blocks are
-pub in_order-after : (keys : List Key) (j i : ℕ) (d : Key) → j ≤ i → i < length (in_order keys) → is_of false (get_or (in_order keys) j d) ≡ true
-    → is_of false (get_or (in_order keys) i d) ≡ true
-unfolding in_order
-in_order-after keys j i d before low kind =
-    let ds = filter (is_of true) keys in
-    let ss = filter (is_of false) keys in
-    let whole = length-append ds ss in
-    elim (cases_lt i (length ds)) [
-      | inl among ↦
-          let here : is_of true (get_or ds j d) ≡ true = each_passes (is_of true) keys d j (omega arith) in
-          let there : is_of false (get_or ds j d) ≡ true = ap (is_of false) (sym (get_or_append_left ds ss d j (omega arith))) ∙ kind in
-          absurd (false≢true (sym (ap not here) ∙ there))
-      | inr behind ↦
-          ap (is_of false) (get_or-append_right ds ss (length ds) i d refl behind) ∙ each_passes (is_of false) keys d (i - length ds) (omega arith)
+-- two lists whose keys are apart from one another
+lists_apart : (xs ys : List Key) → AreApart xs → AreApart ys → All (λ (x : Key). Lacks x ys) xs → AreApart (xs ++ ys)
+lists_apart [] ys h g each = g
+lists_apart (x ∷ xs) ys h g each =
+    (lacks_append x xs ys h.0 (each 0 x (omega arith)), lists_apart xs ys h.1 g (λ k d low. each (suc k) d (omega arith)))
+
+-- a key of another pass
+lacks_pass : (n : ℕ) (k : Key) (ns : List Key) → rank_of k.lbn ≢ n → Lacks k (filter (is_of n) ns)
+lacks_pass n k [] other = tt
+lacks_pass n k (m ∷ ns) other = elim (cases_eq (rank_of m.lbn) n) [
+  | inl is ↦
+      let apart : same_key m k ≡ false = elim (same_cases m k) [
+        | inl same ↦ absurd (other (ap (λ (x : Key). rank_of x.lbn) (sym (same_is m k same)) ∙ is))
+        | inr fails ↦ fails
+      ] in
+      subst (Lacks k) (sym (filter_yes (is_of n) m ns (eq-eqb (rank_of m.lbn) n is))) (apart, lacks_pass n k ns other)
+  | inr ne ↦ subst (Lacks k) (sym (filter_no (is_of n) m ns (ne_eqb (rank_of m.lbn) n ne))) (lacks_pass n k ns other)
+]
+
+pass_is : (n : ℕ) (ks : List Key) (k : ℕ) (d : Key) → k < length (filter (is_of n) ks) → rank_of (get_or (filter (is_of n) ks) k d).lbn ≡ n
+pass_is n ks k d low = eqb-true (rank_of (get_or (filter (is_of n) ks) k d).lbn) n (each_passes (is_of n) ks d k low)
+
+-- in the passes below one there are keys of those alone
+pub passes_below : (n : ℕ) (keys : List Key) → All (λ (k : Key). rank_of k.lbn < n) (in_passes n keys)
+passes_below zero keys = subst (All (λ (k : Key). rank_of k.lbn < 0)) (sym (in_passes-none keys)) (λ k d low. absurd (omega arith))
+passes_below (suc n) keys =
+    subst (All (λ (k : Key). rank_of k.lbn < suc n)) (sym (in_passes-more n keys))
+    (All-append (λ (k : Key). rank_of k.lbn < suc n) (in_passes n keys) (filter (is_of n) keys)
+    (λ k d low. let less = passes_below n keys k d low in omega arith)
+    (λ k d low. let is = pass_is n keys k d low in omega arith))
+
+-- in order, no key comes twice
+passes_apart : (n : ℕ) (keys : List Key) → AreApart keys → AreApart (in_passes n keys)
+passes_apart zero keys h = subst AreApart (sym (in_passes-none keys)) tt
+passes_apart (suc n) keys h =
+    subst AreApart (sym (in_passes-more n keys))
+    (lists_apart (in_passes n keys) (filter (is_of n) keys) (passes_apart n keys h) (apart_filter (is_of n) keys h)
+    (λ k d low. lacks_pass n (get_or (in_passes n keys) k d) keys (λ e. let less = passes_below n keys k d low in omega arith)))
+
+pub in_order-apart : (keys : List Key) → AreApart keys → AreApart (in_order keys)
+in_order-apart keys h = passes_apart 3 keys h
+
+-- and each comes
+filter_has : (n : ℕ) (key : Key) (ks : List Key) → rank_of key.lbn ≡ n → Contains ks key → Contains (filter (is_of n) ks) key
+filter_has n key [] is has = let low = has.1 in absurd (omega arith)
+filter_has n key (k ∷ ks) is (zero, low, e) =
+    let here : is_of n k ≡ true = eq-eqb (rank_of k.lbn) n (ap (λ (x : Key). rank_of x.lbn) e ∙ is) in
+    subst (λ xs. Contains xs key) (sym (filter_yes (is_of n) k ks here)) (0, omega arith, e)
+filter_has n key (k ∷ ks) is (suc i, low, e) =
+    let rest = filter_has n key ks is (i, omega arith, e) in
+    elim (cases_Bool (is_of n k)) [
+      | inl holds ↦ subst (λ xs. Contains xs key) (sym (filter_yes (is_of n) k ks holds)) (suc rest.0, let few = rest.1 in omega arith, rest.2)
+      | inr fails ↦ subst (λ xs. Contains xs key) (sym (filter_no (is_of n) k ks fails)) rest
     ]
+
+passes_have : (n : ℕ) (keys : List Key) (key : Key) → rank_of key.lbn < n → Contains keys key → Contains (in_passes n keys) key
+passes_have zero keys key low has = absurd (omega arith)
+passes_have (suc n) keys key low has =
+    subst (λ xs. Contains xs key) (sym (in_passes-more n keys)) (elim (cases_eq (rank_of key.lbn) n) [
+      | inl is ↦ Contains-append_right (in_passes n keys) (filter (is_of n) keys) key (filter_has n key keys is has)
+      | inr other ↦ Contains-append_left (in_passes n keys) (filter (is_of n) keys) key (passes_have n keys key (omega arith) has)
+    ])
+
+-- what waits is listed
+waits_listed : (es : List (Key × List ℕ)) (key : Key) → IsSome (block_in key es) → Contains (keys_of es) key
+waits_listed [] key h = absurd (false≢true h)
+waits_listed (e ∷ es) key h =
+    elim (same_cases e.0 key) [
+      | inl same ↦ (zero, omega arith, same_is e.0 key same)
+      | inr other ↦
+          let there = waits_listed es key (subst IsSome (ap (λ b. cond b (Some e.1) (block_in key es)) other) h) in
+          (suc there.0, let low = there.1 in omega arith, there.2)
+    ]
+
+pub listed_waits : (c : Contents) → All (λ (key : Key). IsLocked key c) (keys_of c.locked)
+listed_waits c = λ k d low. listed_has_block (get_or (keys_of c.locked) k d) c.locked k d low (same_self (get_or (keys_of c.locked) k d))
+
+-- so the keys in order are those that wait, each once
+pub in_order-locked : (c : Contents) → AreApart (keys_of c.locked) → AreLocked (in_order (keys_of c.locked)) c
+in_order-locked c apart =
+    let keys = keys_of c.locked in
+    record {
+      each = λ key waits. passes_have 3 keys key (rank_of-few key.lbn) (waits_listed c.locked key waits);
+      only = in_passes-each (λ (key : Key). IsLocked key c) 3 keys (listed_waits c);
+      once = in_order-apart keys apart;
+    }
+
+-- where the same waits, the entries are the same
+pub entries_of-same : (old new : Parts) → new.cache ≡ old.cache → new.waiting ≡ old.waiting → entries_of new ≡ entries_of old
+unfolding entries_of
+entries_of-same old new cache waiting =
+    ap (λ (c : Contents). map entry_of (in_order (keys_of c.locked)) ++ replicate (inode_blocks (length new.waiting)) inodes_entry) cache
+    ∙ ap (λ (vs : List Inode). map entry_of (in_order (keys_of old.cache.locked)) ++ replicate (inode_blocks (length vs)) inodes_entry) waiting
+
+-- ---- places in the order
+-- behind a block of a pass there is none of one before: when an indirect block is written, the blocks are whose addresses it holds
+passes_after : (n : ℕ) (keys : List Key) (j i : ℕ) (d : Key) → j ≤ i → i < length (in_passes n keys)
+    → rank_of (get_or (in_passes n keys) j d).lbn ≤ rank_of (get_or (in_passes n keys) i d).lbn
+passes_after zero keys j i d before low = let none = ap (λ (ks : List Key). length ks) (in_passes-none keys) in absurd (omega arith)
+passes_after (suc n) keys j i d before low =
+    let xs = in_passes n keys in
+    let ys = filter (is_of n) keys in
+    let long = length-append xs ys in
+    let split = ap (λ (ks : List Key). length ks) (in_passes-more n keys) in
+    subst (λ ks. rank_of (get_or ks j d).lbn ≤ rank_of (get_or ks i d).lbn) (sym (in_passes-more n keys)) (elim (cases_lt i (length xs)) [
+      | inl first ↦
+          let at_i = ap (λ (k : Key). rank_of k.lbn) (get_or_append_left xs ys d i first) in
+          let at_j = ap (λ (k : Key). rank_of k.lbn) (get_or_append_left xs ys d j (omega arith)) in
+          let less = passes_after n keys j i d before first in
+          omega arith
+      | inr last ↦
+          let there = passes_below (suc n) keys j d (omega arith) in
+          let same = ap (λ ks. rank_of (get_or ks j d).lbn) (in_passes-more n keys) in
+          let at_i = ap (λ (k : Key). rank_of k.lbn) (get_or-append_right xs ys (length xs) i d refl last) in
+          let own = pass_is n keys (i - length xs) d (omega arith) in
+          omega arith
+    ])
+
+pub in_order-after : (keys : List Key) (j i : ℕ) (d : Key) → j ≤ i → i < length (in_order keys)
+    → rank_of (get_or (in_order keys) j d).lbn ≤ rank_of (get_or (in_order keys) i d).lbn
+in_order-after keys j i d before low = passes_after 3 keys j i d before low
 
 entries_of-split : (p : Parts) → entries_of p ≡ map entry_of (in_order (keys_of p.cache.locked)) ++ replicate (inode_blocks (length p.waiting)) inodes_entry
 unfolding entries_of

@@ -1,10 +1,13 @@
 -- Changes of a store's content, made one after another, and written all together.
-use Rattle.std.specs.Prelude.{◌≡◌, ◌≢◌, ◌⊎◌, ◌||◌, ℕ, ◌+◌, ◌/◌, ◌<◌, ◌≤◌, Bool, true, false, List, [], ◌∷◌, length, nat_lt, if◌then◌else◌, ◌==◌, sum_by}
+use Rattle.std.specs.Prelude.{◌≡◌, ◌≢◌, ◌⊎◌, ◌||◌, ℕ, ◌+◌, ◌*◌, ◌/◌, ◌<◌, ◌≤◌, Bool, true, false, List, [], ◌∷◌, length, nat_lt, if◌then◌else◌, ◌==◌, sum_by}
 use Rattle.std.specs.List.{list_any}
 use Rattle.lfs_types.specs.Changes.{applied, changed}
 use Rattle.lfs_types.specs.Stored.{bytes_of}
 use Rattle.lfs_types.specs.Tree.{Content}
 use Rattle.lfs_types.specs.declared.limits.TheConstants.{FILE_BYTES, SEGMENT_BLOCKS, TRANSFER_BYTES}
+use Rattle.lfs_inodes.specs.Facts.{block_count}
+use Rattle.lfs_segwrite.specs.Room.{HasCleanable}
+use Rattle.lfs_segwrite.specs.declared.room.TheConstants.{SPARE, WHOLE}
 use Rattle.lfs_types.specs.declared.store.Change.{Change}
 use Rattle.lfs_types.specs.declared.store.Change.TheVariants.{Make, Remove, SetAttrs, Put, SetLength}
 use Rattle.lfs_ifile.specs.declared.segment.SegState.TheVariants.{Clean}
@@ -18,6 +21,7 @@ use Rattle.lfs_segwrite.specs.Flushing.{Waits}
 use Rattle.lfs_ifile.specs.Tables.{row_of}
 use Rattle.lfs_cache.specs.declared.cache.TheConstants.{LOCKED_LIMIT}
 use Rattle.lfs_bmap.specs.declared.blocks.TheConstants.{BLOCK_CODES}
+use Rattle.lfs_staging.specs.declared.cutting.TheConstants.{CUT_FRAMES}
 use Rattle.lfs_staging.specs.declared.records.TheConstants.{WAITING_LIMIT}
 use Rattle.lfs_staging.specs.View.{version_of}
 use Rattle.lfs_staging.specs.Files.{content_of}
@@ -50,17 +54,17 @@ blocks_for frames records = if frames + inode_blocks records == 0 then 0 else fr
 abbrev pub needs_of : List Change → ℕ
 needs_of changes = blocks_for (frames_of_all changes) (records_of_all changes)
 
--- a change gives blocks back: it removes a file, or cuts one
+-- a change gives blocks back: it removes a file, or cuts one to fewer blocks
 abbrev pub gives_back : Content → Change → Bool
 gives_back c (Make ino attrs) = false
 gives_back c (Remove ino) = true
 gives_back c (SetAttrs ino attrs) = false
 gives_back c (Put ino off bytes) = false
-gives_back c (SetLength ino len) = nat_lt len (length (bytes_of c ino))
+gives_back c (SetLength ino len) = nat_lt (block_count len) (block_count (length (bytes_of c ino)))
 
--- how many segments stay clean when changes open one: one where they give blocks back, else two
-abbrev pub reserve_of : Content → List Change → ℕ
-reserve_of c changes = if list_any (gives_back c) changes then 1 else 2
+-- changes give blocks back
+abbrev pub give_back : Content → List Change → Bool
+give_back c changes = list_any (gives_back c) changes
 
 -- the version of a number after changes, in order
 abbrev pub versions_after : List Change → ℕ → ℕ → ℕ
@@ -101,13 +105,13 @@ pub record WritesAhead (old new : Parts) : Type 0 where
 abbrev pub waiting_blocks : Parts → ℕ
 waiting_blocks p = blocks_of_entries (entries_of p)
 
--- What waits has room: the active segment has enough left for it, or one may be opened that leaves one clean.
+-- What waits has room: the active segment has enough left for it, or one may be opened.
 pub record HasRoom (p : Parts) : Type 0 where
-  pub room : (waiting_blocks p ≤ room_of p.log.memory) ⊎ (1 < p.log.clean)
+  pub room : (waiting_blocks p ≤ room_of p.log.memory) ⊎ (0 < p.log.clean)
 
 -- All that waited was written as one partial segment: where the log ended, or at the start of a segment that was opened for
--- it, where it had no room, and which left one clean. The content is the same, nothing waits, and each key that did not wait
--- has the place that it had.
+-- it, where it had no room. The content is the same, nothing waits, and each key that did not wait has the place that it
+-- had.
 pub record WritesWaiting (old new : Parts) : Type 0 where
   pub store : IsStore new
   pub settled : IsSettled new
@@ -120,15 +124,15 @@ pub record WritesWaiting (old new : Parts) : Type 0 where
   pub left : ((next_address new.log.memory ≡ next_address old.log.memory + waiting_blocks old)
       × (room_of old.log.memory ≤ room_of new.log.memory + waiting_blocks old) × (new.log.clean ≡ old.log.clean))
       ⊎ ((SEGMENT_BLOCKS ≤ room_of new.log.memory + waiting_blocks old + 1) × (new.log.clean + 1 ≡ old.log.clean)
-      × (1 < old.log.clean) × (room_of old.log.memory < waiting_blocks old))
+      × (room_of old.log.memory < waiting_blocks old))
 
--- the frames that a change takes at most while it is staged: a cut has the single indirect block wait, and the last block
+-- the frames that a change takes at most while it is staged: a cut has more wait than it leaves waiting
 abbrev pub peak_of : Change → ℕ
 peak_of (Make ino attrs) = 0
-peak_of (Remove ino) = 2
+peak_of (Remove ino) = CUT_FRAMES
 peak_of (SetAttrs ino attrs) = 0
 peak_of (Put ino off bytes) = if length bytes.now == 0 then 0 else frames_of_put off (length bytes.now)
-peak_of (SetLength ino len) = 2
+peak_of (SetLength ino len) = CUT_FRAMES
 
 -- those that changes take at most
 abbrev pub peak_of_all : List Change → ℕ
@@ -139,9 +143,29 @@ abbrev pub passes_limits : Parts → List Change → Bool
 passes_limits p changes =
     nat_lt LOCKED_LIMIT (length p.cache.locked + peak_of_all changes) || nat_lt WAITING_LIMIT (length p.waiting + length changes)
 
--- There is room for what waits and for changes, or a segment may be opened.
+-- There is room for so many blocks that are to be written for changes that take room: more than two segments are clean, or
+-- two, and the blocks fit the active one.
+abbrev pub HasRoomToTake : ℕ → Parts → Type 0
+HasRoomToTake blocks p = (2 < p.log.clean) ⊎ ((p.log.clean ≡ 2) × (blocks ≤ room_of p.log.memory))
+
+-- There is room for so many blocks that are to be written for changes that give blocks back: more than one segment is
+-- clean, or behind these blocks some segment can still be cleaned and leaves some to spare.
+abbrev pub HasRoomToGive : ℕ → Parts → Type 0
+HasRoomToGive blocks p =
+    (1 < p.log.clean)
+    ⊎ (((blocks ≤ room_of p.log.memory)
+    × ((s : ℕ) × HasCleanable p false (blocks + SPARE) (room_of p.log.memory + WHOLE * p.log.clean) s))
+    ⊎ ((room_of p.log.memory < blocks) × ((s : ℕ) × HasCleanable p true (blocks + SPARE) (WHOLE * p.log.clean) s)))
+
+-- there is room for so many blocks that are to be written for changes
+abbrev pub HasRoomForBlocks : List Change → ℕ → Parts → Type 0
+HasRoomForBlocks changes blocks p =
+    ((give_back (content_of p) changes ≡ true) × HasRoomToGive blocks p)
+    ⊎ ((give_back (content_of p) changes ≡ false) × HasRoomToTake blocks p)
+
+-- there is room for what waits and for changes
 abbrev pub HasRoomFor : List Change → Parts → Type 0
-HasRoomFor changes p = (waiting_blocks p + needs_of changes ≤ room_of p.log.memory) ⊎ (reserve_of (content_of p) changes < p.log.clean)
+HasRoomFor changes p = HasRoomForBlocks changes (waiting_blocks p + needs_of changes) p
 
 -- There is room among what waits for changes: nothing was done, or what waited was written.
 pub record MakesWay (changes : List Change) (old new : Parts) : Type 0 where
@@ -151,22 +175,16 @@ pub record MakesWay (changes : List Change) (old new : Parts) : Type 0 where
   pub either : ((passes_limits old changes ≡ false) × (new ≡ old)) ⊎ ((passes_limits old changes ≡ true) × WritesWaiting old new)
 
 -- All the changes were made, in order, and wait, or what waited before them was written. A number that was made has the
--- version behind its last, each other one the version that it had. One segment was opened at most,
--- and only where what waited had no room and where it left enough clean; nothing was written where no more wait than may
--- wait.
+-- version behind its last, each other one the version that it had. One segment was opened at most, and only where what
+-- waited had no room and the changes had some; two stay clean where the changes give no blocks back. Nothing was written
+-- where no more wait than may wait.
 pub record MakesChanges (changes : List Change) (old new : Parts) : Type 0 where
   pub store : IsStore new
   pub room : HasRoom new
   pub content : content_of new ≡ applied changes (content_of old)
   pub versions : (number : ℕ) → version_of new number ≡ versions_after changes number (version_of old number)
   pub log : WritesAhead old new
-  pub reserve : new.log.clean < old.log.clean → reserve_of (content_of old) changes < old.log.clean
+  pub reserve : new.log.clean < old.log.clean → HasRoomFor changes old × ((give_back (content_of old) changes ≡ true) ⊎ (2 < old.log.clean))
   pub opened : old.log.clean ≤ new.log.clean + 1
   pub enough : waiting_blocks old ≤ room_of old.log.memory → new.log.clean ≡ old.log.clean
   pub delayed : passes_limits old changes ≡ false → StaysInLog old new
-
--- There is no room for changes: the active segment has too little left for what waits and for them, and too few segments
--- are clean to open one.
-pub record LacksRoom (changes : List Change) (p : Parts) : Type 0 where
-  pub full : room_of p.log.memory < waiting_blocks p + needs_of changes
-  pub few_clean : p.log.clean ≤ reserve_of (content_of p) changes

@@ -1,36 +1,32 @@
 -- What waits to be written, in the order in which it is written.
-use Rattle.std.specs.Prelude.{ℕ, ◌+◌, ◌-◌, ◌/◌, ◌++◌, Bool, true, false, not, nat_le, List, All, length, map, replicate, if◌then◌else◌, ◌==◌}
+use Rattle.std.specs.Prelude.{ℕ, zero, suc, ◌+◌, ◌/◌, ◌++◌, Bool, List, [], All, length, map, replicate, if◌then◌else◌, ◌==◌}
 use Rattle.std.specs.List.{Contains, filter}
-use Rattle.lfs_segments.specs.declared.entry.LogicalBlock.TheVariants as logical
 use Rattle.lfs_segments.specs.declared.entry.SummaryEntry.{SummaryEntry}
 use Rattle.lfs_cache.specs.declared.key.Key.{Key}
 use Rattle.lfs_cache.specs.Contents.{AreApart, Contents, IsLocked, keys_of}
 use Rattle.lfs_log.specs.declared.packing.TheConstants.{SLOT_COUNT}
-use Rattle.lfs_bmap.specs.declared.blocks.TheConstants.{FIRST_DATA_CODE}
+use Rattle.lfs_bmap.specs.declared.tables.TheConstants.{RANKS}
+use Rattle.lfs_bmap.specs.Blocks.{block_with, logical_of}
+use Rattle.lfs_bmap.specs.Tables.{rank_of}
 use Rattle.lfs_staging.specs.declared.parts.Parts.{Parts}
 use Rattle.lfs_staging.specs.Opening.{inodes_entry}
 
--- a key is of a data block; another one is of a single indirect block
-abbrev pub is_data : Key → Bool
-is_data key = nat_le FIRST_DATA_CODE key.lbn
-
--- a key is of a data block, or is not
-abbrev pub is_of : Bool → Key → Bool
-is_of true key = is_data key
-is_of false key = not (is_data key)
+-- the block of a key is written in a pass
+abbrev pub is_of : ℕ → Key → Bool
+is_of pass key = rank_of key.lbn == pass
 
 -- what a summary says of the block of a key
 abbrev pub entry_of : Key → SummaryEntry
-entry_of key = record {
-  number = key.ino;
-  version = key.version;
-  block = if is_data key then logical.Data (key.lbn - FIRST_DATA_CODE) else logical.Single;
-}
+entry_of key = record { number = key.ino; version = key.version; block = logical_of (block_with key.lbn) }
 
--- The data blocks first, then the single indirect blocks, which get the addresses of the data blocks before they are
--- written themselves.
-unfoldable pub in_order : List Key → List Key
-in_order keys = filter (is_of true) keys ++ filter (is_of false) keys
+-- the keys of the passes below one, pass by pass
+unfoldable pub in_passes : ℕ → List Key → List Key
+in_passes zero keys = []
+in_passes (suc pass) keys = in_passes pass keys ++ filter (is_of pass) keys
+
+-- All passes: an indirect block gets the addresses of the blocks before it, and is written itself then.
+abbrev pub in_order : List Key → List Key
+in_order keys = in_passes RANKS keys
 
 -- A list of keys has each key that waits, once, and no other.
 pub record AreLocked (keys : List Key) (c : Contents) : Type 0 where

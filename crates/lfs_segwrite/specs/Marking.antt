@@ -1,31 +1,33 @@
 -- Blocks that are written again at the log's end, as a cleaner asks.
-use Rattle.std.specs.Prelude.{◌≡◌, ◌≢◌, ◌⊎◌, ℕ, ◌+◌, ◌/◌, ◌<◌, ◌≤◌, List, [], ◌∷◌, ◌++◌, All, Contains, AllPairs, length, sum_by, if◌then◌else◌, ◌==◌, nat_lt, IsSome}
+use Rattle.std.specs.Prelude.{◌≡◌, ◌≢◌, ◌⊎◌, ℕ, ◌+◌, ◌-◌, ◌*◌, ◌/◌, ◌<◌, ◌≤◌, false, List, [], ◌∷◌, ◌++◌, All, Contains, AllPairs, length, min, sum_by, if◌then◌else◌, nat_lt, IsSome}
 use Rattle.lfs_types.specs.declared.cleaner.BlockInfo.{BlockInfo}
-use Rattle.lfs_types.specs.declared.limits.TheConstants.{FILE_BLOCKS, SEGMENT_BLOCKS}
+use Rattle.lfs_types.specs.declared.limits.TheConstants.{SEGMENT_BLOCKS}
 use Rattle.lfs_ifile.specs.declared.segment.SegState.TheVariants.{Clean}
 use Rattle.lfs_ifile.specs.Tables.{row_of}
 use Rattle.lfs_segments.specs.Memory.{block_at, next_address, room_of}
 use Rattle.lfs_cache.specs.declared.key.Key.{Key}
 use Rattle.lfs_cache.specs.Contents.{IsLocked}
 use Rattle.lfs_log.specs.Parts.{state_of}
-use Rattle.lfs_bmap.specs.declared.blocks.TheConstants.{BLOCK_CODES, DIRECT_BLOCKS, FIRST_DATA_CODE}
+use Rattle.lfs_segments.specs.Reading.{block_from}
+use Rattle.lfs_bmap.specs.declared.blocks.TheConstants.{BLOCK_CODES}
+use Rattle.lfs_bmap.specs.Blocks.{code_of, file_block_of}
 use Rattle.lfs_bmap.specs.Counting.{seg_of}
 use Rattle.lfs_bmap.specs.Log.{LogState}
 use Rattle.lfs_bmap.specs.Moves.{DirtyIn, Moves, StaysDirty, present_address}
 use Rattle.lfs_bmap.specs.Reading.{address, data_block}
-use Rattle.lfs_bmap.specs.Ways.{IsKnown}
+use Rattle.lfs_bmap.specs.Ways.{IsKnown, way_of}
 use Rattle.lfs_staging.specs.declared.parts.Parts.{Parts}
 use Rattle.lfs_segwrite.specs.Applying.{WritesWaiting}
 use Rattle.lfs_segwrite.specs.Flushing.{Waits}
+use Rattle.lfs_segwrite.specs.Room.{HasCleanable, HasNoCleanable}
+use Rattle.lfs_segwrite.specs.declared.room.TheConstants.{SPARE, WHOLE}
 use Rattle.lfs_staging.specs.Keys.{log_state}
 use Rattle.lfs_staging.specs.Staging.{IsStaged}
 use Rattle.lfs_staging.specs.View.{record_of, tree_of, version_of, waiting_in}
 
 -- the code of the block that an info names, BLOCK_CODES where no file can have such a block
 unfoldable pub code_named : ℕ → ℕ
-code_named lbn =
-    if lbn == 0x8000_0000 then 1
-    else (if lbn == 0xffff_ffff then 0 else (if nat_lt lbn FILE_BLOCKS then FIRST_DATA_CODE + lbn else BLOCK_CODES))
+code_named lbn = min (code_of (file_block_of (block_from lbn))) BLOCK_CODES
 
 -- An info names a block: its address isn't 0, and is the present one of the block with that number, version and code.
 pub record IsNamed (l : LogState) (info : BlockInfo) : Type 0 where
@@ -44,10 +46,9 @@ abbrev pub AddsNamed : LogState → BlockInfo → List BlockInfo → List BlockI
 AddsNamed l info old new =
     ((new ≡ old) × (IsNamed l info → Contains old info)) ⊎ ((new ≡ old ++ info ∷ []) × IsNamed l info × (Contains old info → ⊥))
 
--- the frames that a block with a code takes at most: none for a record, one for a block, and one for the single indirect
--- block that leads to a data block
+-- the frames that a block with a code takes at most: one for each block on its way; none where no file can have the block
 unfoldable pub frames_of_code : ℕ → ℕ
-frames_of_code code = if code == 0 then 0 else (if nat_lt code (FIRST_DATA_CODE + DIRECT_BLOCKS) then 1 else 2)
+frames_of_code code = if nat_lt code BLOCK_CODES then length (way_of code) else 0
 
 -- those that the block of an info takes
 abbrev pub frames_to_mark : BlockInfo → ℕ
@@ -87,6 +88,30 @@ pub record IsRewritten (old new : LogState) (info : BlockInfo) : Type 0 where
   pub elsewhere : new.at info.ino (code_named info.lbn) ≢ old.at info.ino (code_named info.lbn)
   pub outside : DirtyIn old (seg_of (new.at info.ino (code_named info.lbn))) → ⊥
 
+-- Behind so many blocks some segment can still be cleaned in what the active segment and a clean one have left, with some to
+-- spare.
+abbrev pub LeavesCleanable : ℕ → Parts → Type 0
+LeavesCleanable blocks p = (s : ℕ) × HasCleanable p false (blocks + SPARE) (room_of p.log.memory + WHOLE) s
+
+-- behind the blocks that some infos name a segment can be cleaned
+pub record HasRoomToMark (marks : List BlockInfo) (p : Parts) : Type 0 where
+  pub named : List BlockInfo
+  pub are_named : AreNamed (log_state p) marks named
+  pub leaves : LeavesCleanable (blocks_to_mark named) p
+
+-- So many blocks can't be written for the cleaner: no segment is clean and they don't fit the active one, or no segment
+-- could be cleaned behind them.
+abbrev pub LacksRoomToMark : ℕ → Parts → Type 0
+LacksRoomToMark blocks p =
+    ((p.log.clean ≡ 0) × (room_of p.log.memory < blocks))
+    ⊎ HasNoCleanable p false (blocks + SPARE) (room_of p.log.memory + WHOLE)
+
+-- the blocks that some infos name can't be written again for want of room
+pub record LacksRoomFor (marks : List BlockInfo) (p : Parts) : Type 0 where
+  pub named : List BlockInfo
+  pub are_named : AreNamed (log_state p) marks named
+  pub lacks : LacksRoomToMark (blocks_to_mark named) p
+
 -- The blocks that some infos name were written again, so many. What else moved went to segments that weren't dirty too. No
 -- block changed that was written before, and no segment became clean. One segment was opened at most, and none where the
 -- blocks had room.
@@ -109,12 +134,14 @@ pub record MarksSettled (marks : List BlockInfo) (count : ℕ) (old new : Parts)
   pub dirty : StaysDirty (log_state old) (log_state new)
 
 -- What waits was written first. Then the blocks that some infos name, as the map then stood, were written again, so many.
--- What moved went to segments that weren't dirty, these are dirty still, and two segments were opened at most.
+-- What moved went to segments that weren't dirty, these are dirty still, and two segments were opened at most. Where one
+-- was clean at most, another one was opened for the blocks only where a segment can be cleaned behind them.
 pub record MarksAgain (marks : List BlockInfo) (count : ℕ) (old new : Parts) : Type 0 where
   pub between : Parts
   pub written : WritesWaiting old between
   pub again : MarksSettled marks count between new
   pub opened : old.log.clean ≤ new.log.clean + 2
+  pub last : old.log.clean ≤ 1 → new.log.clean < between.log.clean → HasRoomToMark marks between
   pub moves : Moves (DirtyIn (log_state old)) (log_state old) (log_state new)
   pub dirty : StaysDirty (log_state old) (log_state new)
   pub blocks : (a : ℕ) → a / SEGMENT_BLOCKS < old.log.memory.segments → DirtyIn (log_state old) (a / SEGMENT_BLOCKS)

@@ -1,14 +1,14 @@
 //! Changes of a store's content, which wait. Where more would wait than may, what waits is written
 //! first.
 
-ghost use Rattle.std.specs.Prelude.{◌≡◌, ◌+◌, ◌<◌, ◌≤◌, All, OnErr, OnOk, length};
+ghost use Rattle.std.specs.Prelude.{◌≡◌, ◌+◌, ◌<◌, ◌≤◌, ◌↔◌, All, IsTrue, OnErr, OnOk, length, nat_lt, true};
+ghost use Rattle.lfs_inodes.specs.Facts.{block_count};
 ghost use Rattle.lfs_types.specs.Changes.{CanApply, CanChange, CanChangeAll};
 ghost use Rattle.lfs_types.specs.declared.store.Change.TheVariants.{Put};
 ghost use Rattle.lfs_types.specs.declared.limits.TheConstants.{FILE_BYTES};
-ghost use Rattle.lfs_segwrite.specs.Applying.{HasRoom, HasRoomFor, IsInReach, LacksRoom, MakesChanges, MakesWay, StagesAll, StagesChange, frames_of_all, gives_back, needs_of, passes_limits, peak_of, peak_of_all, records_of_all, reserve_of};
+ghost use Rattle.lfs_segwrite.specs.Applying.{HasRoom, HasRoomFor, HasRoomForBlocks, HasRoomToGive, HasRoomToTake, IsInReach, MakesChanges, MakesWay, StagesAll, StagesChange, frames_of_all, give_back, gives_back, needs_of, passes_limits, peak_of, peak_of_all, records_of_all};
 ghost use Rattle.lfs_cache.specs.declared.cache.TheConstants.{LOCKED_LIMIT};
 ghost use Rattle.lfs_staging.specs.declared.records.TheConstants.{WAITING_LIMIT};
-ghost use Rattle.lfs_bmap.specs.Ways.{tables_below};
 ghost use Rattle.lfs_staging.specs.Changing.{frames_of, frames_of_length, records_of};
 ghost use Rattle.lfs_staging.specs.Putting.{frames_of_put};
 ghost use Rattle.lfs_staging.specs.Files.{content_of};
@@ -17,11 +17,13 @@ ghost use Rattle.lfs_staging.specs.Store.{IsStore};
 ghost use Rattle.lfs_segwrite.specs.declared.applying.TheConstants.{APPLIED_FRAMES, APPLIED_RECORDS};
 
 use crate::collecting::{blocks_to_write, inode_blocks};
-use crate::room::NoRoom;
-use crate::writing::{LEAST_RESERVE, write_waiting};
-use lfs_bmap::blocks::DIRECT_BLOCKS;
+use crate::room::{NoRoom, SPARE, WHOLE, has_cleanable};
+use crate::writing::write_waiting;
+use lfs_bmap::blocks::FileBlock;
 use lfs_bmap::pieces::blocks_touched;
+use lfs_bmap::tables::tables_between;
 use lfs_cache::LOCKED_LIMIT;
+use lfs_staging::cutting::CUT_FRAMES;
 use lfs_staging::parts::Parts;
 use lfs_staging::records::WAITING_LIMIT;
 use lfs_types::block::BLOCK_SIZE;
@@ -33,17 +35,8 @@ pub const APPLIED_FRAMES: usize = 15;
 /// The greatest number of records that they have wait: one for each change.
 pub const APPLIED_RECORDS: usize = 4;
 
-/// How many stay clean when another call opens one.
+/// How many segments stay clean when one is opened for changes that give no blocks back.
 const RESERVE: u32 = 2;
-
-/// How many frames the indirect blocks take of a file that is changed up to before this byte: one
-/// where that lies past the direct blocks.
-fn frames_of_tables(end: u64) -> usize
-    ensures { result ≡ tables_below end }
-{
-    let direct = u64::from(DIRECT_BLOCKS) * BLOCK_SIZE as u64;
-    if direct < end { 1 } else { 0 }
-}
 
 /// How many frames so many bytes put at byte `off` of a file take at most.
 fn frames_of_put(off: u64, count: usize) -> usize
@@ -53,15 +46,17 @@ fn frames_of_put(off: u64, count: usize) -> usize
 {
     let end = off + count as u64;
     let touched = blocks_touched(off, end);
-    (touched.end - touched.start) as usize + frames_of_tables(end)
+    (touched.end - touched.start) as usize + tables_between(touched.start, touched.end - 1)
 }
 
 /// How many frames a length of a file takes at most.
 fn frames_of_length(len: u64) -> usize
+    requires { len ≤ FILE_BYTES }
     ensures { result ≡ frames_of_length len }
 {
     let last = if len % BLOCK_SIZE as u64 == 0 { 0 } else { 1 };
-    last + frames_of_tables(len)
+    let blocks = len.div_ceil(BLOCK_SIZE as u64) as u32;
+    last + FileBlock::Data(blocks.saturating_sub(1)).table().depth()
 }
 
 /// How many frames a change takes at most.
@@ -89,7 +84,7 @@ fn peak_of(change: &Change<'_>) -> usize
 {
     match *change {
         Change::Make { .. } | Change::SetAttrs { .. } => 0,
-        Change::Remove { .. } | Change::SetLength { .. } => 2,
+        Change::Remove { .. } | Change::SetLength { .. } => CUT_FRAMES,
         Change::Put { off, bytes, .. } => {
             if bytes.is_empty() {
                 0
@@ -173,7 +168,14 @@ fn needs(changes: &[Change<'_>]) -> u32
     if blocks == 0 { 0 } else { blocks as u32 + 1 }
 }
 
-/// Whether a change gives blocks back: it removes a file, or cuts one.
+/// Whether so many bytes of a file take fewer blocks than so many others.
+fn takes_fewer_blocks(len: u64, size: u64) -> bool
+    ensures { result ≡ nat_lt (block_count len) (block_count size) }
+{
+    len.div_ceil(BLOCK_SIZE as u64) < size.div_ceil(BLOCK_SIZE as u64)
+}
+
+/// Whether a change gives blocks back: it removes a file, or cuts one to fewer blocks.
 fn gives_back(parts: &Parts, change: &Change<'_>) -> bool
     requires { IsStore parts.now }
     ensures { result ≡ gives_back (content_of parts.now) change.now }
@@ -181,24 +183,24 @@ fn gives_back(parts: &Parts, change: &Change<'_>) -> bool
     match *change {
         Change::Remove { .. } => true,
         Change::SetLength { ino, len } => match parts.attrs(ino) {
-            Some(attrs) => len < attrs.size,
+            Some(attrs) => takes_fewer_blocks(len, attrs.size),
             None => false,
         },
         Change::Make { .. } | Change::SetAttrs { .. } | Change::Put { .. } => false,
     }
 }
 
-/// How many segments stay clean when these changes open one.
-fn reserve_of(parts: &Parts, changes: &[Change<'_>]) -> u32
+/// Whether changes give blocks back.
+fn give_back(parts: &Parts, changes: &[Change<'_>]) -> bool
     requires { IsStore parts.now }
-    ensures { result ≡ reserve_of (content_of parts.now) changes.now }
+    ensures { result ≡ give_back (content_of parts.now) changes.now }
 {
     for change in changes {
         if gives_back(parts, change) {
-            return LEAST_RESERVE;
+            return true;
         }
     }
-    RESERVE
+    false
 }
 
 /// Has bytes wait that are put into a file in use; no bytes change nothing.
@@ -252,24 +254,66 @@ fn stage_changes(parts: &mut Parts, changes: &[Change<'_>])
     }
 }
 
-/// Whether there is room for what waits and for changes: in the active segment, or in one that may be
-/// opened.
+/// Whether there is room for so many blocks that are to be written for changes that take room.
+fn has_room_to_take(parts: &Parts, blocks: u32) -> bool
+    requires { IsStore parts.now }
+    ensures given { IsTrue result ↔ HasRoomToTake blocks parts.now }
+    ensures many { 2 < parts.now.log.clean → result ≡ true }
+{
+    let clean = parts.log.clean();
+    clean > RESERVE || (clean == RESERVE && blocks <= parts.log.room())
+}
+
+/// Whether there is room for so many blocks that are to be written for changes that give blocks back.
+fn has_room_to_give(parts: &Parts, blocks: u32) -> bool
+    requires store { IsStore parts.now }
+    requires few { blocks ≤ 80 }
+    ensures given { IsTrue result ↔ HasRoomToGive blocks parts.now }
+    ensures many { 2 < parts.now.log.clean → result ≡ true }
+{
+    let clean = parts.log.clean();
+    if clean > 1 {
+        return true;
+    }
+    let room = parts.log.room();
+    let behind = blocks + SPARE;
+    if blocks <= room {
+        has_cleanable(parts, false, behind, room + WHOLE * clean)
+    } else {
+        has_cleanable(parts, true, behind, WHOLE * clean)
+    }
+}
+
+/// Whether there is room for so many blocks that are to be written for changes.
+fn has_room_for(parts: &Parts, changes: &[Change<'_>], blocks: u32) -> bool
+    requires store { IsStore parts.now }
+    requires few { blocks ≤ 80 }
+    ensures given { IsTrue result ↔ HasRoomForBlocks changes.now blocks parts.now }
+    ensures many { 2 < parts.now.log.clean → result ≡ true }
+{
+    if give_back(parts, changes) {
+        has_room_to_give(parts, blocks)
+    } else {
+        has_room_to_take(parts, blocks)
+    }
+}
+
+/// Whether there is room for what waits and for changes.
 fn check_room(parts: &Parts, changes: &[Change<'_>]) -> Result<(), NoRoom>
     requires store { IsStore parts.now }
     requires reach { All IsInReach changes.now }
     requires frames { frames_of_all changes.now ≤ APPLIED_FRAMES }
     requires records { records_of_all changes.now ≤ APPLIED_RECORDS }
     ensures has { OnOk result (HasRoomFor changes.now parts.now) }
-    ensures lacking { OnErr result (LacksRoom changes.now parts.now) }
+    ensures lacking { OnErr result (HasRoomFor changes.now parts.now → ⊥) }
+    ensures short { OnErr result (parts.now.log.clean ≤ 2) }
 {
-    let needed = blocks_to_write(parts) + needs(changes);
-    if parts.log.room() >= needed {
-        return Ok(());
+    let blocks = blocks_to_write(parts) + needs(changes);
+    if has_room_for(parts, changes, blocks) {
+        Ok(())
+    } else {
+        Err(NoRoom)
     }
-    if parts.log.clean() > reserve_of(parts, changes) {
-        return Ok(());
-    }
-    Err(NoRoom)
 }
 
 /// Writes what waits where changes could have more wait than may.
@@ -295,7 +339,7 @@ pub fn apply(parts: &mut Parts, changes: &[Change<'_>]) -> Result<(), NoRoom>
         (content_of parts.old) }
     ensures made { OnOk result (MakesChanges changes.now parts.old parts.new) }
     ensures refused { OnErr result (parts.new ≡ parts.old) }
-    ensures lacking { OnErr result (LacksRoom changes.now parts.old) }
+    ensures lacking { OnErr result (HasRoomFor changes.now parts.old → ⊥) }
     // Which is never so with more than two clean segments.
     ensures short { OnErr result (parts.old.log.clean ≤ 2) }
 {

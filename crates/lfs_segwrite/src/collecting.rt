@@ -5,12 +5,14 @@ ghost use Rattle.std.specs.List.{filter};
 ghost use Rattle.lfs_cache.specs.Contents.{keys_of};
 ghost use Rattle.lfs_segments.specs.Entry.{IsEntry};
 ghost use Rattle.lfs_segments.specs.declared.summary.TheConstants.{ENTRY_LIMIT};
-ghost use Rattle.lfs_segwrite.specs.Collecting.{AreLocked, blocks_of_entries, entries_of, entry_of, in_order, inode_blocks, is_data, is_of};
+ghost use Rattle.lfs_segwrite.specs.Collecting.{AreLocked, blocks_of_entries, entries_of, entry_of, in_order, inode_blocks, is_of};
 ghost use Rattle.lfs_staging.specs.Opening.{inodes_entry};
-ghost use Rattle.lfs_staging.specs.Store.{AreFiles, IsSettled};
+ghost use Rattle.lfs_staging.specs.Store.{AreFiles, IsBlockCode, IsSettled};
+ghost use Rattle.lfs_cache.specs.declared.key.Key.{Key};
 ghost use Rattle.lfs_staging.specs.declared.records.TheConstants.{WAITING_LIMIT};
 
-use lfs_bmap::blocks::FIRST_DATA_CODE;
+use lfs_bmap::blocks::FileBlock;
+use lfs_bmap::tables::{RANKS, rank};
 use lfs_cache::Key;
 use lfs_log::packing::SLOT_COUNT;
 use lfs_segments::entry::{LogicalBlock, SummaryEntry};
@@ -64,13 +66,14 @@ impl EntryList {
         self.count += 1;
     }
 
-    /// Adds the entries of the data blocks among some keys, or those of the others.
-    fn push_keys(&mut self, keys: &[Key], of_data: bool)
-        requires { length self.old + length (filter (is_of of_data) keys.now) ≤ ENTRY_LIMIT }
-        ensures { self.new ≡ self.old ++ map entry_of (filter (is_of of_data) keys.now) }
+    /// Adds the entries of the blocks among some keys that are written in a pass.
+    fn push_keys(&mut self, keys: &[Key], pass: u32)
+        requires coded { All (λ (key : Key). IsBlockCode key.lbn) keys.now }
+        requires room { length self.old + length (filter (is_of pass) keys.now) ≤ ENTRY_LIMIT }
+        ensures { self.new ≡ self.old ++ map entry_of (filter (is_of pass) keys.now) }
     {
         for key in keys {
-            if is_of(key, of_data) {
+            if rank(key.lbn) == pass {
                 self.push(entry_of(key));
             }
         }
@@ -91,20 +94,6 @@ impl EntryList {
     }
 }
 
-/// Whether a key is of a data block.
-fn is_data(key: &Key) -> bool
-    ensures { result ≡ is_data key.now }
-{
-    key.lbn >= FIRST_DATA_CODE
-}
-
-/// Whether a key is of a data block, or, where it is asked so, whether it is not.
-fn is_of(key: &Key, of_data: bool) -> bool
-    ensures { result ≡ is_of of_data key.now }
-{
-    is_data(key) == of_data
-}
-
 /// How many inode blocks so many records take.
 pub(crate) fn inode_blocks(records: usize) -> usize
     requires { records ≤ WAITING_LIMIT }
@@ -115,22 +104,22 @@ pub(crate) fn inode_blocks(records: usize) -> usize
 
 /// What a summary says of the block of a key.
 fn entry_of(key: &Key) -> SummaryEntry
+    requires { IsBlockCode key.now.lbn }
     ensures { result ≡ entry_of key.now }
 {
-    let block = if is_data(key) {
-        LogicalBlock::Data(key.lbn - FIRST_DATA_CODE)
-    } else {
-        LogicalBlock::Single
-    };
-    SummaryEntry {
-        number: key.ino,
-        version: key.version,
-        block,
+    match FileBlock::from_code(key.lbn) {
+        Some(block) => SummaryEntry {
+            number: key.ino,
+            version: key.version,
+            block: block.logical(),
+        },
+        None => unreachable!(),
     }
 }
 
 /// The entries of all that waits to be written, in the order in which it is written: data blocks,
-/// then the single indirect blocks, then an inode block for each four records.
+/// then the indirect blocks, each before what holds its address, then an inode block for each four
+/// records.
 pub fn to_land(parts: &Parts) -> EntryList
     requires files { AreFiles parts.now }
     requires few { length parts.now.waiting ≤ WAITING_LIMIT }
@@ -142,8 +131,9 @@ pub fn to_land(parts: &Parts) -> EntryList
 {
     let keys = parts.cache.locked();
     let mut list = EntryList::empty();
-    list.push_keys(keys, true);
-    list.push_keys(keys, false);
+    for pass in 0..RANKS {
+        list.push_keys(keys, pass);
+    }
     list.push_inodes(inode_blocks(parts.waiting.len()));
     list
 }

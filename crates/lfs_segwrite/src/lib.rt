@@ -9,4 +9,5 @@ pub mod landing;
 pub mod marking;
 pub mod records;
 pub mod room;
+pub mod sizes;
 pub mod writing;

@@ -1,23 +1,30 @@
 //! Blocks that are written again at the log's end, as a cleaner asks.
 
-ghost use Rattle.std.specs.Prelude.{◌≡◌, ◌≢◌, ◌+◌, ◌<◌, ◌≤◌, ◌↔◌, All, Contains, IfOk, IsTrue, OnErr, Some, length, sum_by};
+ghost use Rattle.std.specs.Prelude.{◌≡◌, ◌≢◌, ◌⊎◌, ◌+◌, ◌<◌, ◌≤◌, ◌↔◌, All, Contains, IfOk, IsTrue, OnErr, OnOk, Some, length, sum_by, true};
+ghost use Rattle.lfs_ifile.specs.declared.segment.SegState.TheVariants.{Clean};
+ghost use Rattle.lfs_log.specs.Parts.{state_of};
+ghost use Rattle.lfs_segments.specs.Memory.{room_of};
+ghost use Rattle.lfs_segwrite.specs.Room.{KeepsFiles};
 ghost use Rattle.lfs_types.specs.declared.cleaner.TheConstants.{MARK_LIMIT};
 ghost use Rattle.lfs_cache.specs.declared.cache.TheConstants.{LOCKED_LIMIT};
 ghost use Rattle.lfs_bmap.specs.Blocks.{IsFileBlock, code_of, way_to};
-ghost use Rattle.lfs_bmap.specs.Reading.{read};
+ghost use Rattle.lfs_bmap.specs.declared.tables.TheConstants.{MOST_DEPTH};
+ghost use Rattle.lfs_bmap.specs.Reading.{address, read};
+ghost use Rattle.lfs_bmap.specs.Ways.{codes_on};
 ghost use Rattle.lfs_segwrite.specs.Applying.{HasRoom, WritesWaiting};
 ghost use Rattle.lfs_staging.specs.Files.{content_of};
 ghost use Rattle.lfs_staging.specs.Keys.{log_state};
-ghost use Rattle.lfs_segwrite.specs.Marking.{AddsNamed, AreNamed, IsNamed, MarksAgain, MarksSettled, StagesAgain, StagesNamed, blocks_to_mark, code_named, frames_to_mark};
-ghost use Rattle.lfs_staging.specs.Staging.{IsStaged, MayStage};
+ghost use Rattle.lfs_segwrite.specs.Marking.{AddsNamed, AreNamed, HasRoomToMark, IsNamed, LacksRoomFor, LacksRoomToMark, LeavesCleanable, MarksAgain, MarksSettled, StagesAgain, StagesNamed, blocks_to_mark, code_named, frames_to_mark};
+ghost use Rattle.lfs_staging.specs.Staging.{HasFrames, IsStaged, MayStage, StagesTable};
 ghost use Rattle.lfs_staging.specs.Store.{IsSettled, IsStore, IsWithin};
-ghost use Rattle.lfs_staging.specs.View.{LiesIn, blocks_of, tree_from};
+ghost use Rattle.lfs_staging.specs.View.{blocks_of, tree_from, tree_of};
 ghost use Rattle.lfs_staging.specs.declared.records.TheConstants.{WAITING_LIMIT};
 
 use crate::flushing::flush;
-use crate::room::{NoRoom, make_room};
+use crate::room::{NoRoom, SPARE, WHOLE, has_cleanable, make_room};
 use crate::writing::write_waiting;
-use lfs_bmap::blocks::{BLOCK_CODES, DIRECT_BLOCKS, FIRST_DATA_CODE, FileBlock};
+use lfs_bmap::blocks::{BLOCK_CODES, FileBlock};
+use lfs_bmap::tables::MOST_DEPTH;
 use lfs_inodes::inode::Inode;
 use lfs_log::packing::SLOT_COUNT;
 use lfs_segments::entry::LogicalBlock;
@@ -36,16 +43,15 @@ fn code_named(lbn: u32) -> u32
     }
 }
 
-/// How many frames the block that an info names takes at most: none for a record, else its own, and
-/// one for the indirect block that leads to it.
+/// How many frames the block that an info names takes at most: one for each block that leads to it,
+/// itself among them.
 fn frames_to_mark(info: &BlockInfo) -> u32
     ensures result { result ≡ frames_to_mark info.now }
-    ensures few { result ≤ 2 }
+    ensures few { result ≤ MOST_DEPTH }
 {
-    match code_named(info.lbn) {
-        0 => 0,
-        code if code < FIRST_DATA_CODE + DIRECT_BLOCKS => 1,
-        _ => 2,
+    match FileBlock::from_code(code_named(info.lbn)) {
+        Some(block) => block.depth() as u32,
+        None => 0,
     }
 }
 
@@ -71,6 +77,14 @@ fn has(infos: &[BlockInfo], info: &BlockInfo) -> bool
     infos.contains(info)
 }
 
+/// Whether so few segments are clean that the cleaner may be refused.
+fn has_few_clean(parts: &Parts) -> bool
+    requires { IsStore parts.now }
+    ensures { IsTrue result ↔ (parts.now.log.clean ≤ 1) }
+{
+    parts.log.clean() <= 1
+}
+
 /// Writes what waits, and then writes again, at the log's end, each block that an info of a list of at
 /// most 8 names. Says how many these are.
 pub fn mark(parts: &mut Parts, marks: &[BlockInfo]) -> Result<u32, NoRoom>
@@ -83,16 +97,18 @@ pub fn mark(parts: &mut Parts, marks: &[BlockInfo]) -> Result<u32, NoRoom>
     ensures marked { IfOk result (λ count. MarksAgain marks.now count parts.old parts.new) }
     ensures few { IfOk result (λ count. count ≤ length marks.now) }
     ensures refused { OnErr result (WritesWaiting parts.old parts.new) }
-    ensures reserved { OnErr result (parts.old.log.clean ≤ 0) }
+    ensures lacking { OnErr result (LacksRoomFor marks.now parts.new) }
+    ensures reserved { OnErr result (parts.old.log.clean ≤ 1) }
 {
+    let careful = has_few_clean(parts);
     write_waiting(parts);
-    mark_settled(parts, marks)
+    mark_settled(parts, marks, careful)
 }
 
 /// Writes again, at the log's end, each block that an info of a list of at most 8 names: its
 /// address is not 0, and is the block's present one. Says how many these are; an info that stands
-/// twice counts once.
-fn mark_settled(parts: &mut Parts, marks: &[BlockInfo]) -> Result<u32, NoRoom>
+/// twice counts once. With care nothing is written where no segment could be cleaned behind it.
+fn mark_settled(parts: &mut Parts, marks: &[BlockInfo], careful: bool) -> Result<u32, NoRoom>
     requires store { IsStore parts.old }
     requires settled { IsSettled parts.old }
     requires few { length marks.now ≤ MARK_LIMIT }
@@ -100,19 +116,57 @@ fn mark_settled(parts: &mut Parts, marks: &[BlockInfo]) -> Result<u32, NoRoom>
     ensures settled { IsSettled parts.new }
     ensures content { content_of parts.new ≡ content_of parts.old }
     ensures marked { IfOk result (λ count. MarksSettled marks.now count parts.old parts.new) }
+    ensures last { OnOk result (careful ≡ true → parts.new.log.clean < parts.old.log.clean
+        → HasRoomToMark marks.now parts.old) }
     ensures few { IfOk result (λ count. count ≤ length marks.now) }
     ensures refused { OnErr result (parts.new ≡ parts.old) }
-    ensures reserved { OnErr result (parts.old.log.clean ≤ 0) }
+    ensures lacking { OnErr result (LacksRoomFor marks.now parts.old) }
+    ensures reserved { OnErr result ((careful ≡ true) ⊎ (parts.old.log.clean ≤ 0)) }
 {
     let named = named(parts, marks);
     let infos = named.items();
     if infos.is_empty() {
         return Ok(0);
     }
-    make_room(parts, blocks_to_mark(infos), 0)?;
+    make_room_to_mark(parts, blocks_to_mark(infos), careful)?;
     stage_named(parts, infos);
     flush(parts);
     Ok(infos.len() as u32)
+}
+
+/// Whether so many blocks may be written for the cleaner where few segments are clean: none is, so that they must fit, or
+/// some segment can be cleaned behind them.
+fn may_mark(parts: &Parts, blocks: u32) -> bool
+    requires store { IsStore parts.now }
+    requires few { blocks ≤ 19 }
+    ensures { IsTrue result ↔ ((parts.now.log.clean ≡ 0) ⊎ LeavesCleanable blocks parts.now) }
+{
+    let room = parts.log.room() + WHOLE;
+    parts.log.clean() == 0 || has_cleanable(parts, false, blocks + SPARE, room)
+}
+
+/// Makes room for so many blocks that are written for the cleaner, in a segment that is opened where the active one has
+/// too little left. With care none is opened where no segment could be cleaned behind them.
+fn make_room_to_mark(parts: &mut Parts, blocks: u32, careful: bool) -> Result<(), NoRoom>
+    requires store { IsStore parts.old }
+    requires few { blocks ≤ 19 }
+    ensures store { IsStore parts.new }
+    ensures files { KeepsFiles parts.old parts.new }
+    ensures room { OnOk result (blocks ≤ room_of parts.new.log.memory) }
+    ensures enough { blocks ≤ room_of parts.old.log.memory → parts.new ≡ parts.old }
+    ensures opened { OnOk result (room_of parts.old.log.memory < blocks
+        → (0 < parts.old.log.clean) × (parts.new.log.clean + 1 ≡ parts.old.log.clean)
+        × (state_of parts.old.log.tables parts.new.log.memory.active ≡ Clean)) }
+    ensures last { OnOk result (careful ≡ true → parts.new.log.clean < parts.old.log.clean
+        → LeavesCleanable blocks parts.old) }
+    ensures refused { OnErr result (parts.new ≡ parts.old) }
+    ensures lacking { OnErr result (LacksRoomToMark blocks parts.old) }
+    ensures reserved { OnErr result ((careful ≡ true) ⊎ (parts.old.log.clean ≤ 0)) }
+{
+    if careful && !may_mark(parts, blocks) {
+        return Err(NoRoom);
+    }
+    make_room(parts, blocks, 0)
 }
 
 /// The infos of a list that name a block, each once.
@@ -165,7 +219,7 @@ fn stage_named(parts: &mut Parts, named: &[BlockInfo])
 fn stage_info(parts: &mut Parts, info: &BlockInfo)
     requires staged { IsStaged parts.old 0 }
     requires named { IsNamed (log_state parts.old) info.now }
-    requires frames { length parts.old.cache.locked + 2 ≤ LOCKED_LIMIT }
+    requires frames { length parts.old.cache.locked + MOST_DEPTH ≤ LOCKED_LIMIT }
     requires records { length parts.old.waiting < WAITING_LIMIT }
     ensures staged { IsStaged parts.new 0 }
     ensures again { StagesAgain info.now.ino (code_named info.now.lbn) parts.old parts.new }
@@ -174,39 +228,50 @@ fn stage_info(parts: &mut Parts, info: &BlockInfo)
         unreachable!()
     };
     match FileBlock::from_code(code_named(info.lbn)) {
-        Some(block) => stage_again(parts, &inode, block),
+        Some(block) => stage_again(parts, &inode, block, info.addr),
         None => unreachable!(),
     }
 }
 
-/// Has a block of a file wait with what it has, and its parents too.
-fn stage_again(parts: &mut Parts, inode: &Inode, block: FileBlock)
+/// Has a block of a file, which the log has at this address, wait with what it has, and its parents too.
+fn stage_again(parts: &mut Parts, inode: &Inode, block: FileBlock, addr: u32)
     requires staged { IsStaged parts.old 0 }
     requires may { MayStage parts.old inode.now }
     requires block { IsFileBlock block }
     requires within { code_of block ≢ 0 → IsWithin block inode.now.size }
-    requires frames { length parts.old.cache.locked + 2 ≤ LOCKED_LIMIT }
+    requires here { code_of block ≢ 0
+        → address (tree_of parts.old inode.now.number) (way_to block) ≡ addr }
+    requires frames { length parts.old.cache.locked + MOST_DEPTH ≤ LOCKED_LIMIT }
     ensures staged { IsStaged parts.new 0 }
     ensures again { StagesAgain inode.now.number (code_of block) parts.old parts.new }
 {
     match block {
         FileBlock::Record => parts.stage_parents(inode, block),
-        FileBlock::Single => {
-            parts.stage_parents(inode, block);
-            parts.stage_table(inode, block);
-        }
-        FileBlock::Data(index) => {
-            let bytes = bytes_to_move(parts, inode, block);
-            parts.stage_data(inode, index, &bytes);
-        }
+        _ => stage_moved(parts, inode, block, addr),
     }
 }
 
-/// The present bytes of a block of a file, where it waits those that wait.
-fn bytes_to_move(parts: &Parts, inode: &Inode, block: FileBlock) -> Block
+/// Has a block of a file that isn't its record wait with what it has, and its parents too. The log has
+/// it at this address.
+fn stage_moved(parts: &mut Parts, inode: &Inode, block: FileBlock, addr: u32)
+    requires may { MayStage parts.old inode.now }
     requires block { IsFileBlock block }
-    requires inside { LiesIn (blocks_of parts.now) (tree_from parts.now inode.now) }
+    requires other { code_of block ≢ 0 }
+    requires here { address (tree_of parts.old inode.now.number) (way_to block) ≡ addr }
+    requires room { HasFrames parts.old inode.now.number (codes_on (way_to block)) }
+    ensures { StagesTable inode.now.number block parts.old parts.new }
+{
+    let bytes = bytes_to_move(parts, inode, block, addr);
+    parts.stage_parents(inode, block);
+    parts.stage_block(inode, block, &bytes);
+}
+
+/// The present bytes of a block of a file: those that wait, else those at its address in the log.
+fn bytes_to_move(parts: &Parts, inode: &Inode, block: FileBlock, addr: u32) -> Block
+    requires block { IsFileBlock block }
+    requires inside { addr < blocks_of parts.now }
+    requires here { address (tree_from parts.now inode.now) (way_to block) ≡ addr }
     ensures { result ≡ read (tree_from parts.now inode.now) (way_to block) }
 {
-    *parts.block_of(inode, block)
+    *parts.bytes_via(inode, block, addr)
 }

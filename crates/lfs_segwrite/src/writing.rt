@@ -8,9 +8,6 @@ use crate::flushing::flush;
 use crate::room::make_room;
 use lfs_staging::parts::Parts;
 
-/// How many segments stay clean when one is opened for what waits, or for changes that give blocks back.
-pub const LEAST_RESERVE: u32 = 1;
-
 /// Writes all that waits, in a segment that is opened where the active one has too little room left.
 pub fn write_waiting(parts: &mut Parts)
     requires store { IsStore parts.old }
@@ -18,7 +15,7 @@ pub fn write_waiting(parts: &mut Parts)
     ensures { WritesWaiting parts.old parts.new }
 {
     let blocks = blocks_to_write(parts);
-    match make_room(parts, blocks, LEAST_RESERVE) {
+    match make_room(parts, blocks, 0) {
         Ok(()) => flush(parts),
         Err(_) => unreachable!(),
     }

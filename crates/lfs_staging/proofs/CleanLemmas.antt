@@ -11,8 +11,8 @@ use Rattle.lfs_segments.specs.Memory.{block_at}
 use Rattle.lfs_log.specs.Parts.{LogParts}
 use Rattle.lfs_bmap.specs.declared.blocks.TheConstants.{BLOCK_CODES}
 use Rattle.lfs_bmap.specs.declared.blocks.FileBlock.{FileBlock}
-use Rattle.lfs_bmap.specs.declared.blocks.FileBlock.TheVariants.{Record, Single, Data}
-use Rattle.lfs_bmap.specs.Blocks.{IsFileBlock, code_of}
+use Rattle.lfs_bmap.specs.declared.blocks.FileBlock.TheVariants.{Record, Single, Double, Child, Data}
+use Rattle.lfs_bmap.specs.Blocks.{IsFileBlock, code_of, first_under}
 use Rattle.lfs_bmap.specs.Reading.{SameReadings, address, read}
 use Rattle.lfs_bmap.specs.Ways.{IsKnown, way_of}
 use Rattle.lfs_bmap.proofs.BlockLemmas.{code_of-below}
@@ -33,14 +33,16 @@ coded_below code h = subst (λ c. c < BLOCK_CODES) h.coded (code_of-below h.bloc
 pub coded_block : (block : FileBlock) → IsFileBlock block → code_of block ≢ 0 → IsBlockCode (code_of block)
 coded_block block can other = record { block = block; is = can; coded = refl; other = other }
 
--- that is the single indirect block's code, or a data block's
-code_cases : (block : FileBlock) → IsFileBlock block → code_of block ≢ 0 → (code_of block ≡ 1) ⊎ ((131 ≤ code_of block) × (code_of block < BLOCK_CODES))
-code_cases Record can other = absurd (other refl)
-code_cases Single can other = inl refl
-code_cases (Data index) can other = inr (omega arith, omega arith)
+-- below data block 140, that is the single indirect block's code, or a data block's
+code_cases : (block : FileBlock) → IsFileBlock block → code_of block ≢ 0 → first_under block < 140 → (code_of block ≡ 1) ⊎ ((131 ≤ code_of block) × (code_of block < BLOCK_CODES))
+code_cases Record can other near = absurd (other refl)
+code_cases Single can other near = inl refl
+code_cases Double can other near = absurd (omega arith)
+code_cases (Child index) can other near = absurd (omega arith)
+code_cases (Data index) can other near = inr (omega arith, omega arith)
 
-pub coded_cases : (code : ℕ) → IsBlockCode code → (code ≡ 1) ⊎ ((131 ≤ code) × (code < BLOCK_CODES))
-coded_cases code h = subst (λ c. (c ≡ 1) ⊎ ((131 ≤ c) × (c < BLOCK_CODES))) h.coded (code_cases h.block h.is (λ e. h.other (sym h.coded ∙ e)))
+pub coded_cases : (code : ℕ) (h : IsBlockCode code) → first_under h.block < 140 → (code ≡ 1) ⊎ ((131 ≤ code) × (code < BLOCK_CODES))
+coded_cases code h near = subst (λ c. (c ≡ 1) ⊎ ((131 ≤ c) × (c < BLOCK_CODES))) h.coded (code_cases h.block h.is (λ e. h.other (sym h.coded ∙ e)) near)
 
 -- where a cache holds nothing clean, there is nothing to show
 pub mirrors_none : (p : Parts) → p.cache.lru ≡ [] → Mirrors p

@@ -67,7 +67,7 @@ module _ (p s q : Parts) (v : Inode) (block : FileBlock) (i : ℕ) (up : List �
   code_here = ap code_at (sym h.way) ∙ code_at-way_to block
 
   pub way_here : way_of (code_of block) ≡ i ∷ up
-  way_here = way_of-code_of block ∙ h.way
+  way_here = way_of-code_of block h.can ∙ h.way
 
   pub known : IsKnown (i ∷ up)
   known = subst IsKnown way_here (way_of-known (code_of block) (code_of-below block h.can))

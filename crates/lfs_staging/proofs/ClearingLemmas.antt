@@ -1,7 +1,8 @@
 -- Blocks of a file are given back one after another.
 use Rattle.std.proofs.Common.{◌≡◌, ◌≢◌, ℕ, ◌+◌, ◌<◌, ◌≤◌, List, ◌∷◌, Option, None, Some, IsSome, true, refl, sym, ap, ◌∙◌, subst, inl, inr, arith}
-use Rattle.std.proofs.lemmas.Bool.{cases_eq, cond-true}
+use Rattle.std.proofs.lemmas.Bool.{cases_eq, cases_lt, cond-true}
 use Rattle.std.proofs.lemmas.Option.{same_Some}
+use Rattle.lfs_types.specs.Blocks.{zero_block}
 use Rattle.lfs_ifile.specs.declared.inode.InodeRow.{InodeRow}
 use Rattle.lfs_ifile.specs.Tables.{row_at, row_of}
 use Rattle.lfs_inodes.specs.declared.inode.Inode.{Inode}
@@ -9,29 +10,28 @@ use Rattle.lfs_inodes.specs.Attributes.{Attributes}
 use Rattle.lfs_inodes.specs.Facts.{block_count}
 use Rattle.lfs_inodes.specs.Reading.{Fields, fields_of}
 use Rattle.lfs_cache.specs.Contents.{IsLocked}
+use Rattle.lfs_bmap.specs.declared.blocks.FileBlock.{FileBlock}
 use Rattle.lfs_bmap.specs.declared.blocks.FileBlock.TheVariants.{Data}
-use Rattle.lfs_bmap.specs.Reading.{data_block}
-use Rattle.lfs_bmap.specs.Ways.{IsKnown, IsWay, data_way}
-use Rattle.lfs_bmap.proofs.WayLemmas.{no_way_through, same_code, way_of-data, way_of-known}
-use Rattle.lfs_staging.proofs.HolderLemmas.{block_gone, gone_free, holder_at, holder_code}
+use Rattle.lfs_bmap.specs.Blocks.{IsFileBlock, code_of, first_under, table_of, way_to}
+use Rattle.lfs_bmap.specs.Reading.{bytes_via, data_block, read}
+use Rattle.lfs_bmap.specs.Ways.{IsWay, code_at, data_way}
+use Rattle.lfs_bmap.proofs.BlockLemmas.{same_block}
+use Rattle.lfs_bmap.proofs.HolderLemmas.{table_of-code, table_of-is, table_of-way}
+use Rattle.lfs_bmap.proofs.PlaceLemmas.{data_block-past, data_block-read}
+use Rattle.lfs_bmap.proofs.ReadingLemmas.{read-via, via-none}
+use Rattle.lfs_bmap.proofs.WayLemmas.{no_way_through, same_code, way_of-code_of, way_of-data}
 use Rattle.lfs_staging.specs.declared.parts.Parts.{Parts}
-use Rattle.lfs_staging.specs.Cutting.{ClearsBlock, ClearsBlocks, IsGone, KeepsRest, MayClear, MayClearBelow}
 use Rattle.lfs_staging.specs.Addressing.{IsWaiting}
-use Rattle.lfs_staging.specs.View.{key_of, record_of, tree_of, version_of, waiting_in}
-use Rattle.lfs_staging.proofs.TableLemmas.{apart_code}
-use Rattle.lfs_staging.proofs.FrameLemmas.{waiting_number}
-use Rattle.lfs_staging.proofs.StagedLemmas.{stays-refl, stays-trans}
-use Rattle.lfs_staging.proofs.ViewLemmas.{record_of-waiting}
-use Rattle.lfs_bmap.specs.Blocks.{code_of, table_of}
-use Rattle.lfs_bmap.proofs.HolderLemmas.{table_of-code, table_of-way}
+use Rattle.lfs_staging.specs.Cutting.{ClearsBlock, ClearsBlocks, IsGone, KeepsRest, MayClear, MayClearBetween}
+use Rattle.lfs_staging.specs.Staging.{IsStaged}
 use Rattle.lfs_staging.specs.Store.{HolderWaits}
-
--- the ways of data blocks
-pub data_known : (n : ℕ) → n < 140 → IsKnown (data_way n)
-data_known n low = subst IsKnown (way_of-data n) (way_of-known (131 + n) (omega arith))
-
-pub data_apart : (n m : ℕ) → n ≢ m → data_way n ≢ data_way m
-data_apart n m other e = other (let same = same_code (131 + n) (131 + m) (way_of-data n ∙ e ∙ sym (way_of-data m)) in omega arith)
+use Rattle.lfs_staging.specs.View.{key_of, record_of, tree_of, version_of, waiting_in}
+use Rattle.lfs_staging.proofs.FrameLemmas.{waiting_number}
+use Rattle.lfs_staging.proofs.HolderLemmas.{block_gone, gone_free, holder_at, holder_code}
+use Rattle.lfs_staging.proofs.KeptLemmas.{block_known}
+use Rattle.lfs_staging.proofs.StagedLemmas.{stays-refl, stays-trans}
+use Rattle.lfs_staging.proofs.TableLemmas.{apart_code}
+use Rattle.lfs_staging.proofs.ViewLemmas.{not_locked, record_of-waiting}
 
 -- ---- what waits of a number
 pub is_waiting : (p : Parts) (number : ℕ) (v : Inode) → waiting_in p.waiting number ≡ Some v → (row_of p.log.tables number).used ≡ true
@@ -52,10 +52,8 @@ rest_trans number a b c p q = record {
   rows = q.rows ∙ p.rows;
   others = λ n other. q.others n other ∙ p.others n other;
   attributes = λ f is. let at = p.attributes f is in q.attributes _ at.there;
-  numbers = q.numbers ∙ p.numbers;
   waits = q.waits;
-  only = λ key locked. p.only key (q.only key locked);
-  fewer = let first = p.fewer in let second = q.fewer in omega arith;
+  many = let first = p.many in let second = q.many in omega arith;
 }
 
 pub rest_refl : (number : ℕ) (p : Parts) → IsSome (waiting_in p.waiting number) → KeepsRest number p p
@@ -64,10 +62,8 @@ rest_refl number p waits = record {
   rows = refl;
   others = λ n other. refl;
   attributes = λ f is. record { addresses = f.addresses; there = is };
-  numbers = refl;
   waits = waits;
-  only = λ key locked. locked;
-  fewer = omega arith;
+  many = omega arith;
 }
 
 pub rest_version : (number : ℕ) (a b : Parts) → KeepsRest number a b → (n : ℕ) → version_of b n ≡ version_of a n
@@ -79,28 +75,87 @@ rest_attributes number a b h f g was is =
     let at = h.attributes f was in
     sym (ap (λ (x : Fields). x.attributes) (same_Some _ g (sym at.there ∙ is)))
 
--- ---- data blocks
-pub clears_none : (p : Parts) (number first end : ℕ) → MayClearBelow p number end → ClearsBlocks number first first p p
-clears_none p number first end may = record {
-  staged = may.staged;
-  rest = rest_refl number p may.waits;
-  gone = λ index from low. absurd (omega arith);
-  tables = λ code low locked. locked;
-  zeros = λ index from low. absurd (omega arith);
-  data_same = λ n index apart. refl;
-}
+pub rest_used : (number : ℕ) (a b : Parts) → KeepsRest number a b → (row_of a.log.tables number).used ≡ true → (row_of b.log.tables number).used ≡ true
+rest_used number a b h used = ap (λ (rs : List InodeRow). (row_at rs number).used) h.rows ∙ used
 
 pub some_fields : (o : Option Fields) → IsSome o → (f : Fields) × (o ≡ Some f)
 some_fields None there = absurd (cc)
 some_fields (Some f) there = (f, refl)
 
-pub may_clear : (a b : Parts) (number first index end : ℕ) → MayClearBelow a number end → ClearsBlocks number first index a b → index < end → MayClear b number (Data index)
-may_clear a b number first index end may h low =
+-- the record has as many data blocks as it had
+pub rest_count : (number blocks : ℕ) (a b : Parts) → IsStaged a 0 → (row_of a.log.tables number).used ≡ true → KeepsRest number a b
+    → ((f : Fields) → record_of a number ≡ Some f → blocks ≡ block_count f.attributes.size) → (g : Fields) → record_of b number ≡ Some g → blocks ≡ block_count g.attributes.size
+rest_count number blocks a b staged used h all g is =
+    let was = some_fields (record_of a number) (staged.whole.recorded number used) in
+    all was.0 was.1 ∙ ap (λ (x : Attributes). block_count x.size) (sym (rest_attributes number a b h was.0 g was.1 is))
+
+-- ---- what is gone
+-- a block past the size has no address, and doesn't wait
+pub past_gone : (p : Parts) (number blocks : ℕ) → IsStaged p 0 → (row_of p.log.tables number).used ≡ true
+    → ((f : Fields) → record_of p number ≡ Some f → blocks ≡ block_count f.attributes.size) → (block : FileBlock) → IsFileBlock block → blocks ≤ first_under block
+    → IsGone p number (way_to block)
+past_gone p number blocks staged used all block is past =
+    let here = some_fields (record_of p number) (staged.whole.recorded number used) in
+    let count = all here.0 here.1 in
+    block_gone p number block ((staged.whole.files number here.0 here.1).none_past block is (omega arith))
+    (λ locked. let inside = staged.within number block here.0 here.1 is locked in omega arith)
+
+-- so one that isn't gone lies within it
+pub there_within : (p : Parts) (number blocks : ℕ) → IsStaged p 0 → (row_of p.log.tables number).used ≡ true
+    → ((f : Fields) → record_of p number ≡ Some f → blocks ≡ block_count f.attributes.size) → (block : FileBlock) → IsFileBlock block → (IsGone p number (way_to block) → ⊥)
+    → first_under block < blocks
+there_within p number blocks staged used all block is there = elim (cases_lt (first_under block) blocks) [
+  | inl inside ↦ inside
+  | inr past ↦ absurd (there (past_gone p number blocks staged used all block is past))
+]
+
+-- a block that was given back is gone
+pub cleared_gone : (b c : Parts) (number : ℕ) (block : FileBlock) → ClearsBlock number block b c → IsGone c number (way_to block)
+cleared_gone b c number block q =
+    block_gone c number block q.nowhere
+    (λ locked. q.free (subst (λ n. IsLocked (key_of number n (code_of block)) c.cache) (rest_version number b c q.rest number) locked))
+
+-- and others stay so
+pub gone_still : (b c : Parts) (number : ℕ) (block t : FileBlock) → ClearsBlock number block b c → IsFileBlock block → IsFileBlock t → IsGone b number (way_to t) → IsGone c number (way_to t)
+gone_still b c number block t q can is was = elim (cases_eq (code_of t) (code_of block)) [
+  | inl same ↦ subst (λ x. IsGone c number (way_to x)) (same_block block t can is (sym same)) (cleared_gone b c number block q)
+  | inr other ↦ block_gone c number t
+      (q.addresses (way_to t) (block_known t is) (λ e. other (same_code (code_of t) (code_of block) (way_of-code_of t is ∙ e ∙ sym (way_of-code_of block can)))) ∙ was.nowhere)
+      (λ locked. gone_free b number t was (subst (λ n. IsLocked (key_of number n (code_of t)) b.cache) (rest_version number b c q.rest number) (q.only _ locked)))
+]
+
+-- a data block that is gone reads as zeros
+pub gone_zeros : (p : Parts) (number index : ℕ) → IsGone p number (data_way index) → data_block (tree_of p number) index ≡ zero_block
+gone_zeros p number index gone =
+    let tree = tree_of p number in
+    elim (cases_lt index 140) [
+      | inl low ↦
+          data_block-read tree index low ∙ ap (read tree) (way_of-data index) ∙ read-via tree (data_way index)
+          ∙ ap (bytes_via tree (data_way index)) gone.nowhere
+          ∙ via-none tree (data_way index) (not_locked (key_of number (version_of p number) (code_at (data_way index))) p.cache gone.free)
+      | inr past ↦ data_block-past tree index past
+    ]
+
+-- ---- data blocks
+pub clears_none : (p : Parts) (number first end : ℕ) → MayClearBetween p number first end → ClearsBlocks number first first p p
+clears_none p number first end may = record {
+  staged = may.staged;
+  rest = rest_refl number p may.waits;
+  only = λ key locked. locked;
+  gone = λ index from low. absurd (omega arith);
+  still = λ block is gone. gone;
+  tables = λ code low locked. locked;
+  data_same = λ n index apart. refl;
+}
+
+pub may_clear : (a b : Parts) (number first index end : ℕ) → MayClearBetween a number first end → ClearsBlocks number first index a b → first ≤ index → index < end
+    → MayClear b number (Data index)
+may_clear a b number first index end may h from low =
     let bounded = may.bounded in
     let version = rest_version number a b h.rest number in
     record {
       staged = h.staged;
-      in_use = ap (λ (rs : List InodeRow). (row_at rs number).used) h.rest.rows ∙ may.in_use;
+      in_use = rest_used number a b h.rest may.in_use;
       waits = h.rest.waits;
       can = omega arith;
       other = λ e. omega arith;
@@ -112,38 +167,30 @@ may_clear a b number first index end may h low =
       parent = λ i up way.
           let t = table_of (Data index) in
           subst (HolderWaits b.cache number (version_of b number)) (table_of-way (Data index) (omega arith) i up way)
-          (holder_at b.cache number (version_of b number) t (λ some.
+          (holder_at b.cache number (version_of b number) t (table_of-is (Data index) (omega arith)) (λ some.
           subst (λ n. IsLocked (key_of number n (code_of t)) b.cache) (sym version)
-          (h.tables (code_of t) (table_of-code (Data index)) (holder_code a.cache number (version_of a number) t some (may.holders index low)))));
+          (h.tables (code_of t) (table_of-code (Data index) (omega arith)) (holder_code a.cache number (version_of a number) t some (may.holders index from low)))));
       beneath = λ j known. absurd (no_way_through (131 + index) j (omega arith) (subst (λ w. IsWay (j ∷ w)) (sym (way_of-data index)) known.leads));
     }
 
 pub clears_more : (a b c : Parts) (number first index : ℕ) → first ≤ index → index < 140 → ClearsBlocks number first index a b → ClearsBlock number (Data index) b c
     → ClearsBlocks number first (index + 1) a c
-clears_more a b c number first index from low p q =
-    let version = rest_version number b c q.rest number in
-    record {
-      staged = q.staged;
-      rest = rest_trans number a b c p.rest q.rest;
-      gone = λ k start end. elim (cases_eq k index) [
-        | inl is ↦ subst (λ m. IsGone c number (data_way m)) (sym is)
-            (block_gone c number (Data index) q.nowhere (λ locked. q.free (subst (λ n. IsLocked (key_of number n (131 + index)) c.cache) version locked)))
-        | inr other ↦
-            let was = p.gone k start (omega arith) in
-            block_gone c number (Data k) (q.addresses (data_way k) (data_known k (omega arith)) (data_apart k index other) ∙ was.nowhere)
-            (λ locked. gone_free b number (Data k) was (subst (λ n. IsLocked (key_of number n (131 + k)) b.cache) version (q.rest.only _ locked)))
-      ];
-      tables = λ code few locked.
-          q.kept _ (apart_code number number (version_of b number) (version_of a number) (131 + index) code (λ e. omega arith)) (p.tables code few locked);
-      zeros = λ k start end. elim (cases_eq k index) [
-        | inl is ↦ ap (data_block (tree_of c number)) is ∙ q.zeros index refl
-        | inr other ↦ q.data_same number k (inr (λ e. other (omega arith))) ∙ p.zeros k start (omega arith)
-      ];
-      data_same = λ n k apart. elim apart [
-        | inl other ↦ q.data_same n k (inl other) ∙ p.data_same n k (inl other)
-        | inr out ↦ elim out [
-          | inl before ↦ q.data_same n k (inr (λ e. omega arith)) ∙ p.data_same n k (inr (inl before))
-          | inr past ↦ q.data_same n k (inr (λ e. omega arith)) ∙ p.data_same n k (inr (inr (omega arith)))
-        ]
-      ];
-    }
+clears_more a b c number first index from low p q = record {
+  staged = q.staged;
+  rest = rest_trans number a b c p.rest q.rest;
+  only = λ key locked. p.only key (q.only key locked);
+  gone = λ k start end. elim (cases_eq k index) [
+    | inl is ↦ subst (λ m. IsGone c number (data_way m)) (sym is) (cleared_gone b c number (Data index) q)
+    | inr other ↦ gone_still b c number (Data index) (Data k) q low (omega arith) (p.gone k start (omega arith))
+  ];
+  still = λ block is gone. gone_still b c number (Data index) block q low is (p.still block is gone);
+  tables = λ code few locked.
+      q.kept _ (apart_code number number (version_of b number) (version_of a number) (131 + index) code (λ e. omega arith)) (p.tables code few locked);
+  data_same = λ n k apart. q.data_same n k (elim apart [
+    | inl other ↦ inl other
+    | inr out ↦ inr (λ e. elim out [ inl before ↦ omega arith | inr past ↦ omega arith ])
+  ]) ∙ p.data_same n k (elim apart [
+    | inl other ↦ inl other
+    | inr out ↦ inr (elim out [ inl before ↦ inl before | inr past ↦ inr (omega arith) ])
+  ]);
+}

@@ -1,81 +1,90 @@
 -- What a block of a file has past a length is zeroed.
-use Rattle.std.proofs.Common.{◌≡◌, ◌≢◌, ℕ, ◌+◌, ◌*◌, ◌/◌, ◌%◌, ◌<◌, ◌≤◌, List, length, refl, sym, ◌∙◌, subst, inl, inr, arith}
+use Rattle.std.proofs.Common.{◌≡◌, ◌≢◌, ℕ, ◌+◌, ◌-◌, ◌*◌, ◌/◌, ◌%◌, ◌<◌, ◌≤◌, List, [], ◌∷◌, ◌++◌, length, suc, zero-add, refl, sym, ap, ◌∙◌, subst, inl, inr, arith}
 use Rattle.std.specs.Prelude.{if◌then◌else◌, ◌==◌}
-use Rattle.std.proofs.lemmas.Bool.{cases_eq, cond-false, ne_eqb, le-ltb}
+use Rattle.std.specs.List.{Contains}
+use Rattle.std.proofs.lemmas.Bool.{cases_eq, cond-false, cond-true, eq-eqb, ne_eqb, le-ltb}
+use Rattle.std.proofs.lemmas.List.Elements.{Contains-append_right}
 use Rattle.lfs_inodes.specs.declared.inode.Inode.{Inode}
 use Rattle.lfs_inodes.specs.Facts.{block_count}
 use Rattle.lfs_inodes.specs.Reading.{fields_of}
-use Rattle.lfs_cache.specs.Contents.{Contents}
 use Rattle.lfs_bmap.specs.declared.blocks.FileBlock.{FileBlock}
 use Rattle.lfs_bmap.specs.declared.blocks.FileBlock.TheVariants.{Data}
-use Rattle.lfs_bmap.specs.Blocks.{table_of, way_to}
+use Rattle.lfs_bmap.specs.Blocks.{code_of, table_of, way_to}
 use Rattle.lfs_bmap.specs.Pieces.{IsCut}
 use Rattle.lfs_bmap.specs.Reading.{data_block}
 use Rattle.lfs_bmap.specs.Ways.{codes_on}
+use Rattle.lfs_bmap.proofs.HolderLemmas.{code_cases, codes_on-block}
 use Rattle.lfs_bmap.proofs.PieceLemmas.{below_cut}
+use Rattle.lfs_bmap.proofs.TableLemmas.{codes_on-behind, codes_on-long}
 use Rattle.lfs_staging.specs.declared.parts.Parts.{Parts}
-use Rattle.lfs_staging.specs.Cutting.{CutsBlock, CutsLast}
-use Rattle.lfs_staging.specs.Staging.{HasParents, IsStaged, IsZeroPast, MayStage, StagesBlock, StagesParents}
-use Rattle.lfs_staging.specs.Store.{HolderWaits}
+use Rattle.lfs_staging.specs.Changing.{frames_of_length, length_codes, length_table}
+use Rattle.lfs_staging.specs.Cutting.{CutsBlock, CutsLast, cut_codes}
+use Rattle.lfs_staging.specs.Staging.{IsStaged, IsZeroPast, MayStage, StagesData, TakesOnly}
 use Rattle.lfs_staging.specs.View.{tree_of, version_of}
-use Rattle.lfs_staging.proofs.KeptLemmas.{data_again, data_kept, staged_data}
-use Rattle.lfs_bmap.proofs.HolderLemmas.{table_of-below}
-use Rattle.lfs_staging.proofs.TakenLemmas.{takes_none}
+use Rattle.lfs_staging.proofs.TakenLemmas.{first_code, more_codes, takes_none}
 
--- ---- the parents of a data block wait
--- where they wait already, that is so with nothing changed
-pub parents_wait : (p : Parts) (v : Inode) (block : FileBlock) → MayStage p v → HasParents p v.number block → StagesParents v.number block p p
-parents_wait p v block may waits = record {
-  same = record { log = refl; records = λ n. refl; readings = λ n. record { addresses = λ way known. refl; bytes = λ way known. refl } };
-  files = may.files;
-  parents = may.parents;
-  waits = waits;
-  room = refl;
-  once = λ once. once;
-  stays = λ key locked. locked;
-  takes = takes_none v.number (version_of p v.number) (codes_on (way_to (table_of block))) p.cache p.cache refl;
-}
+-- ---- the codes of a length
+-- where it ends within a block they are those on this one's way
+length_codes-some : (len : ℕ) → len % 512 ≢ 0 → block_count len - 1 < 140 → length_codes len ≡ codes_on (way_to (Data (block_count len - 1)))
+length_codes-some len some low =
+    ap (λ xs. xs ++ codes_on (way_to (length_table len))) (cond-false _ [] ((131 + (block_count len - 1)) ∷ []) (ne_eqb (len % 512) 0 some))
+    ∙ sym (codes_on-block (Data (block_count len - 1)) low (λ e. omega arith))
 
--- what holds the address of a data block before one waits too
-pub holder_below : (c : Contents) (number version index other : ℕ) → index ≤ other → HolderWaits c number version (way_to (table_of (Data other)))
-    → HolderWaits c number version (way_to (table_of (Data index)))
-holder_below c number version index other less waits = elim (table_of-below index other less) [
-  | inl top ↦ subst (λ t. HolderWaits c number version (way_to t)) (sym top) tt
-  | inr same ↦ subst (λ t. HolderWaits c number version (way_to t)) (sym same) waits
-]
+pub length_codes-length : (len : ℕ) → length (length_codes len) ≡ frames_of_length len
+length_codes-length len =
+    let last : List ℕ = (131 + (block_count len - 1)) ∷ [] in
+    let above : List ℕ = codes_on (way_to (length_table len)) in
+    let rest = codes_on-long (way_to (length_table len)) in
+    elim (cases_eq (len % 512) 0) [
+      | inl none ↦
+          ap (λ (xs : List ℕ). length (xs ++ above)) (cond-true _ [] last (eq-eqb (len % 512) 0 none)) ∙ rest
+          ∙ sym (zero-add (length (way_to (length_table len))))
+          ∙ ap (λ n. n + length (way_to (length_table len))) (sym (cond-true {A = ℕ} _ 0 1 (eq-eqb (len % 512) 0 none)))
+      | inr some ↦
+          ap (λ (xs : List ℕ). length (xs ++ above)) (cond-false _ [] last (ne_eqb (len % 512) 0 some)) ∙ ap suc rest ∙ one_more (length (way_to (length_table len)))
+          ∙ ap (λ n. n + length (way_to (length_table len))) (sym (cond-false {A = ℕ} _ 0 1 (ne_eqb (len % 512) 0 some)))
+    ]
+  where
+    one_more : (n : ℕ) → suc n ≡ 1 + n
+    one_more n = omega arith
 
-pub parents_below : (p : Parts) (number index other : ℕ) → HasParents p number (Data other) → index ≤ other → HasParents p number (Data index)
-parents_below p number index other h less = record {
-  record_waits = h.record_waits;
-  holder_waits = holder_below p.cache number (version_of p number) index other less h.holder_waits;
-}
+-- those that lead to the last block are among them
+pub length_codes-table : (len c : ℕ) → Contains (codes_on (way_to (length_table len))) c → Contains (length_codes len) c
+length_codes-table len c has =
+    Contains-append_right (if len % 512 == 0 then [] else (131 + (block_count len - 1)) ∷ []) (codes_on (way_to (length_table len))) c has
+
+-- and all are among those that a cut has wait
+pub length_codes-cut : (len : ℕ) (t : FileBlock) → code_of t ≤ 1 → code_of (length_table len) ≤ code_of t → (c : ℕ) → Contains (length_codes len) c
+    → Contains (cut_codes (block_count len) t) c
+length_codes-cut len t near behind c has =
+    let last : ℕ = 131 + (block_count len - 1) in
+    let above : List ℕ = codes_on (way_to (length_table len)) in
+    let deep : Contains above c → Contains (cut_codes (block_count len) t) c
+    = λ there. more_codes c last (codes_on (way_to t)) (codes_on-behind (block_count len - 1) t near behind c there) in
+    elim (cases_eq (len % 512) 0) [
+      | inl none ↦ deep (subst (λ xs. Contains (xs ++ above) c) (cond-true _ [] (last ∷ []) (eq-eqb (len % 512) 0 none)) has)
+      | inr some ↦ elim (code_cases c last above (subst (λ xs. Contains (xs ++ above) c) (cond-false _ [] (last ∷ []) (ne_eqb (len % 512) 0 some)) has)) [
+        | inl own ↦ subst (Contains (cut_codes (block_count len) t)) own (first_code last (codes_on (way_to t)))
+        | inr there ↦ deep there
+      ]
+    ]
 
 -- ---- a block is cut
 -- a block that is zero past a length is zero past a greater size
-cut_zeros : (index len size : ℕ) (before after : List ℕ) → IsCut index len before after → len ≤ size → IsZeroPast size index after
+pub cut_zeros : (index len size : ℕ) (before after : List ℕ) → IsCut index len before after → len ≤ size → IsZeroPast size index after
 cut_zeros index len size before after cut less k low past = cut.each k low ∙ cond-false _ _ _ (le-ltb (512 * index + k) len (omega arith))
 
-pub cut_one : (old new : Parts) (v : Inode) (index len : ℕ) (before after : List ℕ) → MayStage old v → IsStaged old 0 → HasParents old v.number (Data index)
-    → StagesBlock v.number (Data index) after old new → index < block_count v.size → before ≡ data_block (tree_of old v.number) index → IsCut index len before after
-    → len ≤ v.size → CutsBlock v.number index len old new
-cut_one old new v index len before after may staged waits h inside is cut less =
-    let sized = ((may.files.files v.number (fields_of v) may.here).formed).sized in
-    let most = sized.0 in
-    let low : index < 140 = omega arith in
-    let parents = parents_wait old v (Data index) may waits in
-    let moved = staged_data old old new v.number index after low parents h in
-    let again = data_again old old new v index after low may parents h cut.whole (cut_zeros index len v.size before after cut less) in
-    record {
-      staged = data_kept old old new v index after low inside may parents h again 0 staged;
-      log = moved.log;
-      records = moved.records;
-      waiting = h.waiting;
-      addresses = moved.addresses;
-      cut = subst (λ b. IsCut index len b (data_block (tree_of new v.number) index)) is (subst (IsCut index len before) (sym moved.here) cut);
-      others = moved.others;
-      stays = moved.takes.stays;
-      frames = h.frames.one_more;
-    }
+pub cut_one : (old new : Parts) (v : Inode) (index len : ℕ) (before after : List ℕ) → IsStaged new 0 → StagesData v.number index after old new
+    → before ≡ data_block (tree_of old v.number) index → IsCut index len before after → CutsBlock v.number index len old new
+cut_one old new v index len before after staged h is cut = record {
+  staged = staged;
+  log = h.log;
+  records = h.records;
+  addresses = h.addresses;
+  cut = subst (λ b. IsCut index len b (data_block (tree_of new v.number) index)) is (subst (IsCut index len before) (sym h.here) cut);
+  others = h.others;
+  takes = h.takes;
+}
 
 -- ---- the last block of a length
 -- the blocks below the last one are whole
@@ -88,30 +97,31 @@ last_whole p v len may staged none = record {
   staged = staged;
   log = refl;
   records = λ n. refl;
-  waiting = refl;
   addresses = λ n way known. refl;
   cut = λ m low. whole_cut p v m len may (omega arith);
   others = λ n m apart. refl;
-  stays = λ key locked. locked;
-  frames = omega arith;
+  takes = takes_none v.number (version_of p v.number) (length_codes len) p.cache p.cache refl;
+  waiting = refl;
+  waits = λ waits. waits;
 }
 
-pub last_cut : (old new : Parts) (v : Inode) (len : ℕ) → MayStage old v → len % 512 ≢ 0 → CutsBlock v.number (len / 512) len old new → CutsLast v.number len old new
-last_cut old new v len may some h = record {
-  staged = h.staged;
-  log = h.log;
-  records = h.records;
-  waiting = h.waiting;
-  addresses = h.addresses;
-  cut = λ m low. elim (cases_eq m (len / 512)) [
-    | inl is ↦ subst (λ k. IsCut k len (data_block (tree_of old v.number) k) (data_block (tree_of new v.number) k)) (sym is) h.cut
-    | inr other ↦
-        subst (IsCut m len (data_block (tree_of old v.number) m)) (sym (h.others v.number m (inr other))) (whole_cut old v m len may (omega arith))
-  ];
-  others = λ n m apart. h.others n m (elim apart [ inl other ↦ inl other | inr past ↦ inr (λ e. omega arith) ]);
-  stays = h.stays;
-  frames =
-      let one : (if len % 512 == 0 then 0 else 1) ≡ 1 = cond-false _ _ _ (ne_eqb (len % 512) 0 some) in
-      let more = h.frames in
-      subst (λ n. length new.cache.locked ≤ length old.cache.locked + n) (sym one) more;
-}
+pub last_cut : (old new : Parts) (v : Inode) (len : ℕ) → MayStage old v → len % 512 ≢ 0 → len / 512 < 140 → CutsBlock v.number (len / 512) len old new
+    → CutsLast v.number len old new
+last_cut old new v len may some low h =
+    let last : block_count len - 1 ≡ len / 512 = omega arith in
+    record {
+      staged = h.staged;
+      log = h.log;
+      records = h.records;
+      addresses = h.addresses;
+      cut = λ m below. elim (cases_eq m (len / 512)) [
+        | inl is ↦ subst (λ k. IsCut k len (data_block (tree_of old v.number) k) (data_block (tree_of new v.number) k)) (sym is) h.cut
+        | inr other ↦
+            subst (IsCut m len (data_block (tree_of old v.number) m)) (sym (h.others v.number m (inr other))) (whole_cut old v m len may (omega arith))
+      ];
+      others = λ n m apart. h.others n m (elim apart [ inl other ↦ inl other | inr past ↦ inr (λ e. omega arith) ]);
+      takes = subst (λ cs. TakesOnly v.number (version_of old v.number) cs old.cache new.cache)
+          (ap (λ k. codes_on (way_to (Data k))) (sym last) ∙ sym (length_codes-some len some (omega arith))) h.takes.takes;
+      waiting = h.takes.records;
+      waits = λ _. h.takes.waits.record_waits;
+    }

@@ -1,5 +1,5 @@
 -- A block leaves what waits: what leads to it, the live bytes that it had, and what waits still.
-use Rattle.std.proofs.Common.{◌≡◌, ◌≢◌, ℕ, ◌-◌, ◌*◌, ◌/◌, ◌<◌, ◌≤◌, List, [], ◌∷◌, length, IsSome, true, refl, sym, ap, ◌∙◌, subst, inl, inr, arith}
+use Rattle.std.proofs.Common.{◌≡◌, ◌≢◌, ℕ, ◌-◌, ◌*◌, ◌/◌, ◌%◌, ◌<◌, ◌≤◌, List, [], ◌∷◌, length, IsSome, true, refl, sym, ap, ◌∙◌, subst, inl, inr, arith}
 use Rattle.std.proofs.lemmas.Bool.{cases_lt, false≢true}
 use Rattle.std.proofs.lemmas.List.{get_or_past}
 use Rattle.std.proofs.lemmas.List.Elements.{All-weaker}
@@ -13,14 +13,14 @@ use Rattle.lfs_cache.specs.Contents.{block_in}
 use Rattle.lfs_log.specs.Parts.{live_of}
 use Rattle.lfs_bmap.specs.declared.blocks.TheConstants.{BLOCK_CODES}
 use Rattle.lfs_bmap.specs.declared.blocks.FileBlock.{FileBlock}
-use Rattle.lfs_bmap.specs.declared.blocks.FileBlock.TheVariants.{Record, Single, Data}
+use Rattle.lfs_bmap.specs.declared.blocks.FileBlock.TheVariants.{Record, Single, Double, Child, Data}
 use Rattle.lfs_bmap.specs.Blocks.{IsFileBlock, code_of, way_to}
 use Rattle.lfs_bmap.specs.Counting.{units, weight_of}
 use Rattle.lfs_bmap.specs.Log.{IsLog}
 use Rattle.lfs_bmap.specs.Reading.{address}
 use Rattle.lfs_bmap.specs.Ways.{code_at, way_of}
 use Rattle.lfs_bmap.proofs.CountingLemmas.{live-part, weight-here}
-use Rattle.lfs_bmap.proofs.WayLemmas.{data_way-direct, data_way-single}
+use Rattle.lfs_bmap.proofs.WayLemmas.{data_way-direct, data_way-double, data_way-single}
 use Rattle.lfs_staging.specs.declared.parts.Parts.{Parts}
 use Rattle.lfs_staging.specs.Keys.{log_state}
 use Rattle.lfs_staging.specs.Addressing.{numbers_of, IsWaiting, StaysWaiting}
@@ -53,10 +53,15 @@ used_low p number used =
 pub way_some : (block : FileBlock) → IsFileBlock block → code_of block ≢ 0 → (i : ℕ) × (up : List ℕ) × (way_to block ≡ i ∷ up)
 way_some Record can other = absurd (other refl)
 way_some Single can other = (12, [], refl)
+way_some Double can other = (13, [], refl)
+way_some (Child index) can other = (index, 13 ∷ [], refl)
 way_some (Data index) can other =
     elim (cases_lt index 12) [
       | inl direct ↦ (index, [], data_way-direct index direct)
-      | inr past ↦ (index - 12, 12 ∷ [], data_way-single index past can)
+      | inr past ↦ elim (cases_lt index 140) [
+        | inl near ↦ (index - 12, 12 ∷ [], data_way-single index past near)
+        | inr far ↦ ((index - 140) % 128, ((index - 140) / 128) ∷ 13 ∷ [], data_way-double index far)
+      ]
     ]
 
 pub waited_parent : (p : Parts) (v : Inode) → IsWaiting p v → (up : List ℕ) → HolderWaits p.cache v.number v.version up → up ≢ [] → IsSome ((tree_of p v.number).waits up)

@@ -20,7 +20,7 @@ use Rattle.lfs_cache.proofs.Entries.{same_cases, same_is}
 use Rattle.lfs_segments.specs.Memory.{SegmentMemory, block_at}
 use Rattle.lfs_log.specs.Parts.{IsParts}
 use Rattle.lfs_bmap.specs.declared.blocks.FileBlock.{FileBlock}
-use Rattle.lfs_bmap.specs.declared.blocks.FileBlock.TheVariants.{Record, Single, Data}
+use Rattle.lfs_bmap.specs.declared.blocks.FileBlock.TheVariants.{Record, Single, Double, Child, Data}
 use Rattle.lfs_bmap.specs.Blocks.{IsFileBlock, code_of, first_under, way_to}
 use Rattle.lfs_bmap.specs.Log.{IsLog}
 use Rattle.lfs_bmap.specs.Pieces.{IsPadded}
@@ -38,19 +38,21 @@ use Rattle.lfs_staging.specs.Store.{AreFiles, HolderWaits, IsFile, IsPresent, Is
 use Rattle.lfs_staging.specs.View.{key_of, record_of, tree_of, version_of, waiting_in}
 use Rattle.lfs_staging.proofs.CleanLemmas.{apart_present, coded_below, logged_kept}
 use Rattle.lfs_staging.proofs.ClearedLemmas.{Steps, address_here, address_rest, address_same, data_same, moves, record_other, version_same, waits_key, zeros_here}
-use Rattle.lfs_staging.proofs.FrameLemmas.{locked_less, locked_most, once_numbers}
+use Rattle.lfs_staging.proofs.FrameLemmas.{once_numbers}
 use Rattle.lfs_staging.proofs.SettingLemmas.{waiting_record}
 use Rattle.lfs_bmap.proofs.BlockLemmas.{code_of-below, same_block}
 
 -- a block within the size is none past it
-pub within_apart : (block b : FileBlock) (size : ℕ) → IsWithin block size → block_count size ≤ first_under b → code_of b ≢ code_of block
-within_apart block b size within past e = let same = ap first_under (same_block b block e) in omega arith
+pub within_apart : (block b : FileBlock) (size : ℕ) → IsFileBlock block → IsFileBlock b → IsWithin block size → block_count size ≤ first_under b → code_of b ≢ code_of block
+within_apart block b size can is within past e = let same = ap first_under (same_block b block is can e) in omega arith
 
 -- the data block with a code
-data_of_code : (block : FileBlock) (k : ℕ) → 131 + k ≡ code_of block → block ≡ Data k
-data_of_code Record k e = absurd (omega arith)
-data_of_code Single k e = absurd (omega arith)
-data_of_code (Data index) k e = let same : index ≡ k = omega arith in ap Data same
+data_of_code : (block : FileBlock) (k : ℕ) → IsFileBlock block → 131 + k ≡ code_of block → block ≡ Data k
+data_of_code Record k can e = absurd (omega arith)
+data_of_code Single k can e = absurd (omega arith)
+data_of_code Double k can e = absurd (omega arith)
+data_of_code (Child index) k can e = absurd (omega arith)
+data_of_code (Data index) k can e = let same : index ≡ k = omega arith in ap Data same
 
 -- blocks each of which is the same or zeros are padded alike
 pub padded_zeroed : (old new : ℕ → List ℕ) (size : ℕ) → ((n : ℕ) → (new n ≡ old n) ⊎ (new n ≡ zero_block)) → IsPadded old size → IsPadded new size
@@ -136,19 +138,19 @@ module _ (p s q : Parts) (v : Inode) (block : FileBlock) (i : ℕ) (up : List �
 
   -- ---- files
   file_after : (number : ℕ) (f g : Fields) → IsFile p number f → f.attributes ≡ g.attributes
-      → ((b : FileBlock) → block_count f.attributes.size ≤ first_under b → (number ≢ v.number) ⊎ (code_of b ≢ code_of block)) → AreFields g → IsFile q number g
+      → ((b : FileBlock) → IsFileBlock b → block_count f.attributes.size ≤ first_under b → (number ≢ v.number) ⊎ (code_of b ≢ code_of block)) → AreFields g → IsFile q number g
   file_after number f g was same apart formed = record {
     formed = formed;
     own_number = sym (ap (λ (x : Attributes). x.number) same) ∙ was.own_number;
     own_version = sym (ap (λ (x : Attributes). x.version) same) ∙ was.own_version ∙ sym (version_same p s q v block i up h number);
     none_past = λ b is past.
         let from : block_count f.attributes.size ≤ first_under b = subst (λ (x : Attributes). block_count x.size ≤ first_under b) (sym same) past in
-        ap (address (tree_of q number)) (sym (way_of-code_of b)) ∙ address_same p s q v block i up h number (code_of b) (code_of-below b is) (apart b from)
-        ∙ ap (address (tree_of p number)) (way_of-code_of b) ∙ was.none_past b is from;
+        ap (address (tree_of q number)) (sym (way_of-code_of b is)) ∙ address_same p s q v block i up h number (code_of b) (code_of-below b is) (apart b is from)
+        ∙ ap (address (tree_of p number)) (way_of-code_of b is) ∙ was.none_past b is from;
     padded = subst (λ (x : Attributes). IsPadded (data_block (tree_of q number)) x.size) same
         (padded_zeroed (data_block (tree_of p number)) (data_block (tree_of q number)) f.attributes.size (λ n. elim (cases_eq number v.number) [
           | inl e ↦ elim (cases_eq (131 + n) (code_of block)) [
-            | inl is ↦ inr (ap (λ m. data_block (tree_of q m) n) e ∙ zeros_here p s q v block i up h n (data_of_code block n is))
+            | inl is ↦ inr (ap (λ m. data_block (tree_of q m) n) e ∙ zeros_here p s q v block i up h n (data_of_code block n h.can is))
             | inr ne ↦ inl (data_same p s q v block i up h number n (inr ne))
           ]
           | inr ne ↦ inl (data_same p s q v block i up h number n (inl ne))
@@ -162,10 +164,10 @@ module _ (p s q : Parts) (v : Inode) (block : FileBlock) (i : ℕ) (up : List �
             let same : fields_of stays.after ≡ f = same_Some _ f (sym record_here ∙ ap (record_of q) (sym e) ∙ is) in
             subst (IsFile q number) same (file_after number (fields_of v) (fields_of stays.after)
             (subst (λ n. IsFile p n (fields_of v)) (sym e) (files.files v.number (fields_of v) record_before)) (sym stays.same)
-            (λ b past. inr (within_apart block b v.size within past)) (AreFields-fields_of stays.after))
+            (λ b can past. inr (within_apart block b v.size h.can can within past)) (AreFields-fields_of stays.after))
         | inr ne ↦
             let was = files.files number f (sym (record_other p s q v block i up h number ne) ∙ is) in
-            file_after number f f was refl (λ b past. inl ne) was.formed
+            file_after number f f was refl (λ b can past. inl ne) was.formed
       ]
 
   -- what is clean was, and is no block that was given back
@@ -223,7 +225,7 @@ module _ (p s q : Parts) (v : Inode) (block : FileBlock) (i : ℕ) (up : List �
                 let number : key.ino ≡ v.number = sym (ap (λ (x : Key). x.ino) e) in
                 let below = coded_below key.lbn (files.coded key was) in
                 let known : IsKnown (k ∷ j ∷ above) = subst IsKnown way (way_of-known key.lbn below) in
-                let up_is : way_to block ≡ j ∷ above = sym (way_of-code_of block) ∙ ap way_of (ap (λ (x : Key). x.lbn) e) ∙ known_way_of (j ∷ above) (up_known k (j ∷ above) known) in
+                let up_is : way_to block ≡ j ∷ above = sym (way_of-code_of block may.can) ∙ ap way_of (ap (λ (x : Key). x.lbn) e) ∙ known_way_of (j ∷ above) (up_known k (j ∷ above) known) in
                 let gone = may.beneath k (subst (λ w. IsKnown (k ∷ w)) (sym up_is) known) in
                 let version : key.version ≡ version_of p v.number = (files.frames key was).at_version ∙ ap (version_of p) number in
                 let code : key.lbn ≡ code_at (k ∷ way_to block) = sym (code_at-way_of key.lbn) ∙ ap code_at way ∙ ap (λ w. code_at (k ∷ w)) (sym up_is) in
@@ -237,13 +239,15 @@ module _ (p s q : Parts) (v : Inode) (block : FileBlock) (i : ℕ) (up : List �
           let was = frames_only key locked in
           frames_kept (key_of key.ino key.version (code_at (j ∷ above))) (apart key was k j above way) (may.staged.parents.holders key was k (j ∷ above) way)
 
-  few_after : length q.waiting ≤ WAITING_LIMIT
-  few_after =
+  as_many : length q.waiting ≡ length p.waiting
+  as_many =
       let same : length (numbers_of q.waiting) ≡ length (numbers_of p.waiting) = ap length stays.numbers in
       let new = length-map q.waiting (λ (x : Inode). x.number) in
       let old = length-map p.waiting (λ (x : Inode). x.number) in
-      let few = may.staged.few in
       omega arith
+
+  few_after : length q.waiting ≤ WAITING_LIMIT
+  few_after = let same = as_many in let few = may.staged.few in omega arith
 
   within_after : (number : ℕ) (b : FileBlock) (f : Fields) → record_of q number ≡ Some f → IsFileBlock b
       → IsLocked (key_of number (version_of q number) (code_of b)) q.cache → IsWithin b f.attributes.size
@@ -283,10 +287,8 @@ module _ (p s q : Parts) (v : Inode) (block : FileBlock) (i : ℕ) (up : List �
       there = record_here ∙ ap (λ (x : Attributes). Some (record { attributes = x; addresses = addresses stays.after }))
           (stays.same ∙ ap (λ (g : Fields). g.attributes) (same_Some (fields_of v) f (sym record_before ∙ is)));
     };
-    numbers = stays.numbers;
     waits = record_waits;
-    only = frames_only;
-    fewer = locked_most p.cache q.cache stays.cache frames_only;
+    many = let same = as_many in omega arith;
   }
 
   pub cleared : IsLog (log_state q) 0 → q.log.tables.states ≡ p.log.tables.states → q.log.clean ≡ p.log.clean → ClearsBlock v.number block p q
@@ -298,8 +300,7 @@ module _ (p s q : Parts) (v : Inode) (block : FileBlock) (i : ℕ) (up : List �
         nowhere = ap (address (tree_of q v.number)) h.way ∙ address_here p s q v block i up h;
         free = λ locked. false≢true (sym (ap is_some h.gone) ∙ subst (λ k. IsLocked k q.cache) key locked);
         addresses = λ way there ne. address_rest p s q v block i up h way there (λ e. ne (e ∙ sym h.way));
+        only = frames_only;
         kept = λ other apart was. frames_kept other (subst (λ k. same_key k other ≡ false) key apart) was;
-        less = λ was. locked_less p.cache q.cache (key_of v.number v.version (code_of block)) stays.cache frames_only (subst (λ k. IsLocked k p.cache) key was) h.gone;
-        zeros = zeros_here p s q v block i up h;
         data_same = data_same p s q v block i up h;
       }

@@ -24,7 +24,7 @@ holder_kept c d number version (i ∷ up) more h = more (code_at (i ∷ up)) h
 
 -- that of the single indirect block is the record
 pub holder_single : (c : Contents) (number version i : ℕ) (up : List ℕ) → way_of 1 ≡ i ∷ up → HolderWaits c number version up
-holder_single c number version i up e = at_way (λ i up. HolderWaits c number version up) (12 ∷ []) 12 [] refl tt i up (sym (way_of-code_of Single) ∙ e)
+holder_single c number version i up e = at_way (λ i up. HolderWaits c number version up) (12 ∷ []) 12 [] refl tt i up (sym (way_of-code_of Single tt) ∙ e)
 
 -- that of a data block the record, or the single indirect block
 pub holder_data : (c : Contents) (number version index : ℕ) → index < 140 → (12 ≤ index → IsLocked (key_of number version 1) c)
@@ -43,16 +43,16 @@ holder_coded block can i up way some =
     let to : way_to t ≡ up = table_of-way block can i up way in
     record {
       block = t;
-      is = table_of-is block;
+      is = table_of-is block can;
       coded = sym (code_at-way_to t) ∙ ap code_at to;
-      other = λ e. some (sym to ∙ sym (way_of-code_of t) ∙ ap way_of (sym (code_at-way_to t) ∙ ap code_at to ∙ e) ∙ way_of-zero);
+      other = λ e. some (sym to ∙ sym (way_of-code_of t (table_of-is block can)) ∙ ap way_of (sym (code_at-way_to t) ∙ ap code_at to ∙ e) ∙ way_of-zero);
     }
 
 -- what holds the address of a block, by its code
-pub holder_at : (c : Contents) (number version : ℕ) (t : FileBlock) → (code_of t ≢ 0 → IsLocked (key_of number version (code_of t)) c) → HolderWaits c number version (way_to t)
-holder_at c number version t locked =
+pub holder_at : (c : Contents) (number version : ℕ) (t : FileBlock) → IsFileBlock t → (code_of t ≢ 0 → IsLocked (key_of number version (code_of t)) c) → HolderWaits c number version (way_to t)
+holder_at c number version t can locked =
     holder_waits c number version (way_to t) (λ some. subst (λ code. IsLocked (key_of number version code) c) (sym (code_at-way_to t))
-    (locked (λ e. some (sym (way_of-code_of t) ∙ ap way_of e ∙ way_of-zero))))
+    (locked (λ e. some (sym (way_of-code_of t can) ∙ ap way_of e ∙ way_of-zero))))
 
 pub holder_code : (c : Contents) (number version : ℕ) (t : FileBlock) → code_of t ≢ 0 → HolderWaits c number version (way_to t) → IsLocked (key_of number version (code_of t)) c
 holder_code c number version t other waits =

@@ -30,7 +30,7 @@ use Rattle.lfs_bmap.proofs.ReadingLemmas.{SameReadings-refl, SameReadings-trans,
 use Rattle.lfs_bmap.proofs.WayLemmas.{same_code, way_of-code_of, way_of-data, way_of-known}
 use Rattle.lfs_staging.specs.declared.parts.Parts.{Parts}
 use Rattle.lfs_staging.specs.Keys.{log_state}
-use Rattle.lfs_staging.specs.Staging.{HasFrames, HasParents, IsStaged, IsZeroPast, MayStage, SameFiles, StagesBlock, StagesData, StagesOwnRecord, StagesParents, StagesRecord, TakesFrames, TakesOnly}
+use Rattle.lfs_staging.specs.Staging.{HasFrames, HasParents, IsStaged, IsZeroPast, MayStage, SameFiles, StagesBlock, StagesData, StagesOwnRecord, StagesParents, StagesRecord, StagesTable, TakesFrames, TakesOnly}
 use Rattle.lfs_staging.specs.Store.{AreFiles, HolderWaits, IsBlockCode, IsPresent, IsStore, IsWithin, Mirrors, ParentsWait}
 use Rattle.lfs_staging.specs.View.{key_of, record_of, root_in, tree_of, version_of, waiting_in}
 use Rattle.lfs_staging.specs.Waiting.{AreOnce, without}
@@ -54,7 +54,7 @@ AllWithin p = (number : ℕ) (block : FileBlock) (f : Fields) → record_of p nu
 
 -- the way of a block
 pub block_known : (block : FileBlock) → IsFileBlock block → IsKnown (way_to block)
-block_known block is = subst IsKnown (way_of-code_of block) (way_of-known (code_of block) (code_of-below block is))
+block_known block is = subst IsKnown (way_of-code_of block is) (way_of-known (code_of block) (code_of-below block is))
 
 -- who is in use at which version, where the log stays
 pub present_kept : (old new : Parts) (n version : ℕ) → new.log ≡ old.log → IsPresent old n version → IsPresent new n version
@@ -422,17 +422,9 @@ taken_block old between new number block bytes can other h b = record {
 pub parents_hold : (p : Parts) (number : ℕ) (block : FileBlock) → IsFileBlock block → HasParents p number block → (i : ℕ) (up : List ℕ) → way_of (code_of block) ≡ i ∷ up
     → HolderWaits p.cache number (version_of p number) up
 parents_hold p number block can h i up way =
-    subst (HolderWaits p.cache number (version_of p number)) (table_of-way block can i up (sym (way_of-code_of block) ∙ way)) h.holder_waits
+    subst (HolderWaits p.cache number (version_of p number)) (table_of-way block can i up (sym (way_of-code_of block can) ∙ way)) h.holder_waits
 
--- A block of a number waits with what it has, and so do its parents; each file is what it was.
-pub record StagesTable (number : ℕ) (block : FileBlock) (old new : Parts) : Type 0 where
-  pub same : SameFiles old new
-  pub files : AreFiles new
-  pub parents : ParentsWait new
-  pub once : AreOnce old.waiting → AreOnce new.waiting
-  pub takes : TakesFrames number block old new
-
--- so it is where it waits after its parents
+-- ---- a block that holds addresses waits after its parents
 module _ (old between new : Parts) (v : Inode) (t : FileBlock) (may : MayStage old v) (can : IsFileBlock t) (other : code_of t ≢ 0) (h : StagesParents v.number t old between)
     (b : StagesBlock v.number t (read (tree_of between v.number) (way_to t)) between new) where
   second : SameFiles between new
@@ -519,7 +511,7 @@ pub table_within : (block : FileBlock) (size : ℕ) → IsWithin block size → 
 table_within block size within = let least = table_of-under block in omega arith
 
 pub way_within : (block : FileBlock) (size : ℕ) → IsFileBlock block → IsWithin block size → (b : FileBlock) → IsFileBlock b → Contains (codes_on (way_to block)) (code_of b) → IsWithin b size
-way_within block size can within b is has = let least = codes_on-below block can b has in omega arith
+way_within block size can within b is has = let least = codes_on-below block can b is has in omega arith
 
 -- what a change of one number takes on the way of a block lies within its size
 pub taken_within : (old new : Parts) (v : Inode) (codes : List ℕ) → ((n : ℕ) → record_of new n ≡ record_of old n) → ((n : ℕ) → version_of new n ≡ version_of old n)

@@ -10,8 +10,9 @@ use Rattle.lfs_ifile.specs.Inode.{fresh_row, place_in}
 use Rattle.lfs_ifile.specs.Tables.{Tables, place_of, row_of}
 use Rattle.lfs_bmap.specs.declared.blocks.TheConstants.{BLOCK_CODES}
 use Rattle.lfs_bmap.specs.declared.blocks.FileBlock.{FileBlock}
-use Rattle.lfs_bmap.specs.declared.blocks.FileBlock.TheVariants.{Record, Single, Data}
+use Rattle.lfs_bmap.specs.declared.blocks.FileBlock.TheVariants.{Record, Single, Double, Child, Data}
 use Rattle.lfs_bmap.specs.Blocks.{IsFileBlock, IsTable, code_of, way_to}
+use Rattle.lfs_inodes.specs.Addresses.{first_at}
 use Rattle.lfs_inodes.specs.Facts.{block_count}
 use Rattle.lfs_bmap.specs.Log.{LogState, IsLog}
 use Rattle.lfs_bmap.specs.Moves.{present_address}
@@ -19,7 +20,8 @@ use Rattle.lfs_bmap.specs.Reading.{address}
 use Rattle.lfs_bmap.specs.Ways.{code_at, way_of}
 use Rattle.lfs_bmap.proofs.BlockLemmas.{code_of-below}
 use Rattle.lfs_bmap.proofs.ReadingLemmas.{address-root}
-use Rattle.lfs_bmap.proofs.WayLemmas.{data_way-direct, data_way-single, way_of-code_of}
+use Rattle.lfs_bmap.proofs.HolderLemmas.{first_at-under}
+use Rattle.lfs_bmap.proofs.WayLemmas.{way_of-code_of}
 use Rattle.lfs_staging.specs.declared.parts.Parts.{Parts}
 use Rattle.lfs_log.specs.Parts.{record_place}
 use Rattle.lfs_staging.specs.Keys.{log_state}
@@ -50,12 +52,14 @@ pub lies_in : (p : Parts) (number spare : ℕ) → number < length p.log.tables.
 lies_in p number spare low laid_out log =
     let many : 0 < blocks_of p = omega (arith, laid_out.at_least) in
     let at : (block : FileBlock) → code_of block ≢ 0 → IsFileBlock block → address (tree_of p number) (way_to block) < blocks_of p
-    = λ block some is. subst (λ w. address (tree_of p number) w < blocks_of p) (way_of-code_of block)
+    = λ block some is. subst (λ w. address (tree_of p number) w < blocks_of p) (way_of-code_of block is)
     (lies_at p number spare (code_of block) low many log some (code_of-below block is)) in
     record {
       each = λ block is. elim block as (λ b. IsFileBlock b → address (tree_of p number) (way_to b) < blocks_of p) [
         | Record ↦ λ h. subst (λ a. a < blocks_of p) (sym (address-root (tree_of p number))) many
         | Single ↦ λ h. at Single (λ e. omega arith) h
+        | Double ↦ λ h. at Double (λ e. omega arith) h
+        | Child index ↦ λ h. at (Child index) (λ e. omega arith) h
         | Data index ↦ λ h. at (Data index) (λ e. omega arith) h
       ] is;
     }
@@ -133,7 +137,7 @@ present-block p number version place block is same low some can =
     let at : version_of p number ≡ version = sym row.2 ∙ same in
     present-key (log_state p) number version (code_of block) low at (code_of-below block can)
     ∙ ap (λ n. n / 4) (place-block p number (code_of block) some) ∙ quarter (address (tree_of p number) (way_of (code_of block)))
-    ∙ ap (address (tree_of p number)) (way_of-code_of block)
+    ∙ ap (address (tree_of p number)) (way_of-code_of block can)
 
 -- a key of another version has none
 pub present-stale : (p : Parts) (number version code : ℕ) (place : InodePlace) → place_of p.log.tables number ≡ Some place → place.version ≢ version
@@ -143,22 +147,21 @@ present-stale p number version code place is other =
     present-other (log_state p) number version code (λ e. other (row.2 ∙ e))
 
 -- the code of a block that isn't a record
-pub code-other : (block : FileBlock) → (block ≡ Single) ⊎ ((n : ℕ) × (block ≡ Data n)) → code_of block ≢ 0
+pub code-other : (block : FileBlock) → (block ≡ Single) ⊎ ((block ≡ Double) ⊎ (((n : ℕ) × (block ≡ Child n)) ⊎ ((n : ℕ) × (block ≡ Data n)))) → code_of block ≢ 0
 code-other block (inl single) e = let one : code_of block ≡ 1 = ap code_of single in absurd (omega arith)
-code-other block (inr found) e = let some : code_of block ≡ 131 + found.0 = ap code_of found.1 in absurd (omega arith)
+code-other block (inr (inl double)) e = let two : code_of block ≡ 2 = ap code_of double in absurd (omega arith)
+code-other block (inr (inr (inl found))) e = let some : code_of block ≡ 3 + found.0 = ap code_of found.1 in absurd (omega arith)
+code-other block (inr (inr (inr found))) e = let some : code_of block ≡ 131 + found.0 = ap code_of found.1 in absurd (omega arith)
 
 -- a place of a record leads to blocks below the size where its block lies within it
-pub within_root : (block : FileBlock) (size i : ℕ) → IsFileBlock block → way_to block ≡ i ∷ [] → IsWithin block size → i < block_count size
-within_root Record size i is way within = absurd (cc)
-within_root Single size i is way within = let twelve : 12 ≡ i = cc in omega arith
-within_root (Data index) size i is way within = elim (cases_lt index 12) [
-  | inl direct ↦ let same : index ≡ i = cc (data_way-direct index direct, way) in omega arith
-  | inr past ↦ absurd (cc (data_way-single index past is, way))
-]
+pub within_root : (block : FileBlock) (size i : ℕ) → IsFileBlock block → way_to block ≡ i ∷ [] → IsWithin block size → first_at i < block_count size
+within_root block size i is way within = let least = first_at-under block is i way in omega arith
 
 pub cell_inside : (t : FileBlock) (i : ℕ) → IsTable t i → i < 128
 cell_inside Record i is = omega arith
 cell_inside Single i is = is
+cell_inside Double i is = is
+cell_inside (Child index) i is = is
 cell_inside (Data index) i is = absurd is
 
 -- ---- a number that isn't in use

@@ -10,6 +10,7 @@ pub mod SettingLemmas
 pub mod ViewLemmas
 pub mod StagedLemmas
 pub mod StagingLemmas
+pub mod HoleLemmas
 pub mod HolderLemmas
 pub mod TakenLemmas
 pub mod WaitingLemmas

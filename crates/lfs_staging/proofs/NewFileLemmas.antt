@@ -81,7 +81,7 @@ module _ (number version : ℕ) (attrs : Attrs) (v : Inode) (old new : Parts) (h
   no_block : HasNoBlock new number
   no_block = record {
     no_frame = λ key locked. no_frame key (subst (IsLocked key) h.cache locked);
-    no_address = λ i. ap (λ r. slice_index (root_in r) i) record_here ∙ ap (λ xs. slice_index xs i) h.addresses ∙ slice_index-zeros 13 i;
+    no_address = λ i. ap (λ r. slice_index (root_in r) i) record_here ∙ ap (λ xs. slice_index xs i) h.addresses ∙ slice_index-zeros 14 i;
   }
 
   zeros_at : (n : ℕ) → data_block (tree_of new number) n ≡ zero_block

@@ -111,7 +111,7 @@ module _ (segments inodes frames : ℕ) (p : Parts) (h : IsOpening segments inod
   no_root : (number i : ℕ) → slice_index (tree_of p number).root i ≡ 0
   no_root number i =
       elim (cases_eq number 2) [
-        | inl root ↦ ap (λ r. slice_index (root_in r) i) (ap (record_of p) root ∙ root_record) ∙ slice_index-zeros 13 i
+        | inl root ↦ ap (λ r. slice_index (root_in r) i) (ap (record_of p) root ∙ root_record) ∙ slice_index-zeros 14 i
         | inr other ↦ ap (λ r. slice_index (root_in r) i) (no_record_at number other)
       ]
 
@@ -230,8 +230,8 @@ module _ (segments inodes frames : ℕ) (p : Parts) (h : IsOpening segments inod
     flagged = refl;
     sized = (omega arith, λ e. refl);
     whole = refl;
-    in_volume = λ n low. let none = slice_index-zeros 13 n in omega arith;
-    within = λ n low past. slice_index-zeros 13 n;
+    in_volume = λ n low. let none = slice_index-zeros 14 n in omega arith;
+    within = λ n low past. slice_index-zeros 14 n;
   }
 
   root_file : IsFile p 2 (root_fields 1)

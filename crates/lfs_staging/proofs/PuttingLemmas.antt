@@ -1,17 +1,19 @@
 -- Bytes put into a file, block by block.
 use Rattle.std.proofs.Common.{◌≡◌, ℕ, zero, suc, ◌+◌, ◌*◌, ◌/◌, ◌%◌, ◌-◌, ◌<◌, ◌≤◌, List, [], ◌∷◌, ◌++◌, length, length-append, refl, sym, ap, ◌∙◌, subst, inl, inr, arith}
-use Rattle.std.specs.Prelude.{if◌then◌else◌, nat_lt, slice_index}
+use Rattle.std.specs.Prelude.{slice_index}
 use Rattle.std.specs.List.{Contains}
 use Rattle.std.proofs.lemmas.List.Elements.{Contains-append_left, Contains-append_right}
-use Rattle.std.proofs.lemmas.Bool.{cases_eq, cases_lt, cond-false, cond-true, le-ltb, lt-ltb}
+use Rattle.std.proofs.lemmas.Bool.{cases_eq, cases_lt}
 use Rattle.lfs_inodes.specs.declared.inode.Inode.{Inode}
 use Rattle.lfs_inodes.specs.Reading.{fields_of}
 use Rattle.lfs_bmap.specs.Pieces.{IsPadded, IsPut, Touches}
 use Rattle.lfs_bmap.specs.Reading.{data_block}
 use Rattle.lfs_bmap.specs.declared.blocks.FileBlock.TheVariants.{Data}
-use Rattle.lfs_bmap.specs.Blocks.{table_of, way_to}
-use Rattle.lfs_bmap.specs.Ways.{codes_on, tables_below}
-use Rattle.lfs_bmap.proofs.HolderLemmas.{code_cases, codes_on-block, codes_on-table}
+use Rattle.lfs_bmap.specs.Blocks.{code_of, table_of, way_to}
+use Rattle.lfs_bmap.specs.Tables.{tables_between}
+use Rattle.lfs_bmap.specs.Ways.{codes_on}
+use Rattle.lfs_bmap.proofs.HolderLemmas.{code_cases, codes_on-block, table_of-code, table_of-is}
+use Rattle.lfs_bmap.proofs.TableLemmas.{codes_on-first, codes_on-long, codes_on-within, table_of-later}
 use Rattle.lfs_staging.proofs.TakenLemmas.{first_code, frames_after, frames_enough, frames_part, more_codes, taken_most, takes_both, takes_none, takes_part, takes_version}
 use Rattle.lfs_bmap.proofs.PieceLemmas.{byte_put-after, untouched_put}
 use Rattle.lfs_staging.specs.declared.parts.Parts.{Parts}
@@ -82,63 +84,73 @@ put_more a b c v start bytes index p q = record {
 }
 
 -- ---- the frames that wait
--- the codes of the data blocks from one on, so many of them
-unfoldable data_codes : ℕ → ℕ → List ℕ
-data_codes first zero = []
-data_codes first (suc n) = (131 + (first + n)) ∷ data_codes first n
+-- so many codes from one on
+unfoldable run_codes : ℕ → ℕ → List ℕ
+run_codes from zero = []
+run_codes from (suc n) = (from + n) ∷ run_codes from n
 
-data_codes-length : (first n : ℕ) → length (data_codes first n) ≡ n
-unfolding data_codes
-data_codes-length first zero = refl
-data_codes-length first (suc n) = ap suc (data_codes-length first n)
+run_codes-length : (from n : ℕ) → length (run_codes from n) ≡ n
+unfolding run_codes
+run_codes-length from zero = refl
+run_codes-length from (suc n) = ap suc (run_codes-length from n)
 
-data_codes-has : (first n index : ℕ) → first ≤ index → index < first + n → Contains (data_codes first n) (131 + index)
-unfolding data_codes
-data_codes-has first zero index from low = absurd (omega arith)
-data_codes-has first (suc n) index from low = elim (cases_eq index (first + n)) [
-  | inl is ↦ subst (λ m. Contains ((131 + (first + n)) ∷ data_codes first n) (131 + m)) (sym is) (first_code (131 + (first + n)) (data_codes first n))
-  | inr other ↦ more_codes (131 + index) (131 + (first + n)) (data_codes first n) (data_codes-has first n index from (omega arith))
+run_codes-has : (from n c : ℕ) → from ≤ c → c < from + n → Contains (run_codes from n) c
+unfolding run_codes
+run_codes-has from zero c least low = absurd (omega arith)
+run_codes-has from (suc n) c least low = elim (cases_eq c (from + n)) [
+  | inl is ↦ subst (λ m. Contains ((from + n) ∷ run_codes from n) m) (sym is) (first_code (from + n) (run_codes from n))
+  | inr other ↦ more_codes c (from + n) (run_codes from n) (run_codes-has from n c least (omega arith))
 ]
 
--- and those of the indirect blocks that lead to them, where their bytes end before this one
-table_codes : ℕ → List ℕ
-table_codes end = if nat_lt 6144 end then 1 ∷ [] else []
+-- those of the indirect blocks that lead to data blocks from one to another
+table_codes : ℕ → ℕ → List ℕ
+table_codes first last =
+    let from = code_of (table_of (Data first)) in
+    run_codes (from + 1) (code_of (table_of (Data last)) - from) ++ codes_on (way_to (table_of (Data first)))
 
-table_codes-length : (end : ℕ) → length (table_codes end) ≡ tables_below end
+table_codes-length : (first last : ℕ) → length (table_codes first last) ≡ tables_between first last
 unfolding table_codes
-table_codes-length end = elim (cases_lt 6144 end) [
-  | inl past ↦ ap length (cond-true _ (1 ∷ []) [] (lt-ltb 6144 end past)) ∙ sym (cond-true {A = ℕ} _ 1 0 (lt-ltb 6144 end past))
-  | inr few ↦ ap length (cond-false _ (1 ∷ []) [] (le-ltb 6144 end few)) ∙ sym (cond-false {A = ℕ} _ 1 0 (le-ltb 6144 end few))
-]
+table_codes-length first last =
+    let from = code_of (table_of (Data first)) in
+    let long = length-append (run_codes (from + 1) (code_of (table_of (Data last)) - from)) (codes_on (way_to (table_of (Data first)))) in
+    let one = run_codes-length (from + 1) (code_of (table_of (Data last)) - from) in
+    let two = codes_on-long (way_to (table_of (Data first))) in
+    omega arith
 
-table_codes-has : (end : ℕ) → 6144 < end → Contains (table_codes end) 1
+table_codes-has : (first last index c : ℕ) → index < 140 → first ≤ index → index ≤ last → Contains (codes_on (way_to (table_of (Data index)))) c → Contains (table_codes first last) c
 unfolding table_codes
-table_codes-has end past = subst (λ cs. Contains cs 1) (sym (cond-true _ (1 ∷ []) [] (lt-ltb 6144 end past))) (first_code 1 [])
+table_codes-has first last index c inside from to has =
+    let low = code_of (table_of (Data first)) in
+    let xs = run_codes (low + 1) (code_of (table_of (Data last)) - low) in
+    let ys = codes_on (way_to (table_of (Data first))) in
+    let most = codes_on-within (table_of (Data index)) (table_of-code (Data index) inside) (table_of-is (Data index) inside) c has in
+    let later = table_of-later index last to in
+    elim (cases_lt low c) [
+      | inl past ↦ Contains-append_left xs ys c (run_codes-has (low + 1) (code_of (table_of (Data last)) - low) c (omega arith) (omega arith))
+      | inr few ↦ Contains-append_right xs ys c (codes_on-first first index from c has few)
+    ]
 
 -- the codes of the blocks that bytes put into a file take
 pub put_codes : ℕ → ℕ → List ℕ
-put_codes start count = data_codes (start / 512) (blocks_of_put start count) ++ table_codes (start + count)
+put_codes start count = run_codes (131 + start / 512) (blocks_of_put start count) ++ table_codes (start / 512) ((start + count - 1) / 512)
 
 pub put_codes-length : (start count : ℕ) → length (put_codes start count) ≡ frames_of_put start count
 unfolding put_codes
 put_codes-length start count =
-    let long = length-append (data_codes (start / 512) (blocks_of_put start count)) (table_codes (start + count)) in
-    let first = data_codes-length (start / 512) (blocks_of_put start count) in
-    let second = table_codes-length (start + count) in
+    let long = length-append (run_codes (131 + start / 512) (blocks_of_put start count)) (table_codes (start / 512) ((start + count - 1) / 512)) in
+    let first = run_codes-length (131 + start / 512) (blocks_of_put start count) in
+    let second = table_codes-length (start / 512) ((start + count - 1) / 512) in
     omega arith
 
 put_codes-has : (start count index c : ℕ) → index < 140 → start / 512 ≤ index → index < (start + count - 1) / 512 + 1 → 0 < count → Contains (codes_on (way_to (Data index))) c
     → Contains (put_codes start count) c
 unfolding put_codes
 put_codes-has start count index c inside from to some has =
-    let xs = data_codes (start / 512) (blocks_of_put start count) in
-    let ys = table_codes (start + count) in
+    let xs = run_codes (131 + start / 512) (blocks_of_put start count) in
+    let ys = table_codes (start / 512) ((start + count - 1) / 512) in
     elim (code_cases c (131 + index) (codes_on (way_to (table_of (Data index)))) (subst (λ cs. Contains cs c) (codes_on-block (Data index) inside (λ e. omega arith)) has)) [
-      | inl own ↦ subst (Contains (xs ++ ys)) own (Contains-append_left xs ys (131 + index) (data_codes-has (start / 512) (blocks_of_put start count) index from (omega arith)))
-      | inr more ↦
-          let table = codes_on-table index inside c more in
-          let past = table.0 in
-          subst (Contains (xs ++ ys)) (sym table.1) (Contains-append_right xs ys 1 (table_codes-has (start + count) (omega arith)))
+      | inl own ↦ Contains-append_left xs ys c (run_codes-has (131 + start / 512) (blocks_of_put start count) c (omega arith) (omega arith))
+      | inr more ↦ Contains-append_right xs ys c (table_codes-has (start / 512) ((start + count - 1) / 512) index c inside from (omega arith) more)
     ]
 
 -- none wait more yet

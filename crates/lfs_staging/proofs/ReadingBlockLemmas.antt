@@ -35,12 +35,12 @@ module _ (p : Parts) (v : Inode) (index a : ℕ) (key : Key) (files : AreFiles p
   pub mirrored : (bytes : List ℕ) → block_in key p.cache.lru ≡ Some bytes → bytes ≡ block_at p.log.memory a
   mirrored bytes there =
       let was = files.mirrors.each (key_of v.number v.version (code_of (Data index))) bytes (subst (λ k. block_in k p.cache.lru ≡ Some bytes) is there) in
-      was.same ∙ ap (block_at p.log.memory) (ap (address (tree_of p v.number)) (way_of-code_of (Data index)) ∙ sym at_tree)
+      was.same ∙ ap (block_at p.log.memory) (ap (address (tree_of p v.number)) (way_of-code_of (Data index) low) ∙ sym at_tree)
 
   -- the block in the log may be held
   pub logged : IsPresent p v.number v.version → a ≢ 0 → IsLogged p key (block_at p.log.memory a)
   logged present some =
-      let same : address (tree_of p v.number) (way_of (code_of (Data index))) ≡ a = ap (address (tree_of p v.number)) (way_of-code_of (Data index)) ∙ sym at_tree in
+      let same : address (tree_of p v.number) (way_of (code_of (Data index))) ≡ a = ap (address (tree_of p v.number)) (way_of-code_of (Data index) low) ∙ sym at_tree in
       subst (λ k. IsLogged p k (block_at p.log.memory a)) (sym is) (record {
         present = present;
         coded = coded_block (Data index) low (λ e. omega arith);

@@ -1,17 +1,17 @@
 -- The record of a file waits with a smaller size.
-use Rattle.std.proofs.Common.{◌≡◌, ◌≢◌, ℕ, ◌+◌, ◌≤◌, List, [], ◌∷◌, length, Some, is_some, refl, sym, ap, ◌∙◌, subst, inl, inr, arith}
+use Rattle.std.proofs.Common.{◌≡◌, ◌≢◌, ℕ, ◌+◌, ◌≤◌, List, [], ◌∷◌, length, Some, is_some, sym, ap, ◌∙◌, subst, inl, inr, arith}
 use Rattle.std.specs.Prelude.{slice_index}
 use Rattle.std.proofs.lemmas.Bool.{cases_eq, cases_lt}
 use Rattle.std.proofs.lemmas.Option.{same_Some}
 use Rattle.lfs_ifile.specs.Tables.{row_of}
 use Rattle.lfs_inodes.specs.declared.inode.Inode.{Inode}
-use Rattle.lfs_inodes.specs.Addresses.{addresses, zeroed_from}
+use Rattle.lfs_inodes.specs.Addresses.{addresses, kept_roots}
 use Rattle.lfs_inodes.specs.Attributes.{Attributes, attributes}
 use Rattle.lfs_inodes.specs.Facts.{block_count}
 use Rattle.lfs_inodes.specs.Reading.{Fields, fields_of}
 use Rattle.lfs_inodes.proofs.AddressLemmas.{length-addresses}
 use Rattle.lfs_inodes.proofs.FieldLemmas.{AreFields-fields_of}
-use Rattle.lfs_inodes.proofs.ZeroedLemmas.{zeroed_from-is}
+use Rattle.lfs_inodes.proofs.CutLemmas.{kept_roots-all}
 use Rattle.lfs_cache.specs.Changes.{IsContents}
 use Rattle.lfs_cache.specs.Contents.{IsLocked}
 use Rattle.lfs_log.specs.Parts.{IsParts, LogParts}
@@ -40,12 +40,12 @@ use Rattle.lfs_bmap.proofs.HolderLemmas.{root_block}
 root_cell : (p : Parts) (v : Inode) (i : ℕ) → record_of p v.number ≡ Some (fields_of v) → address (tree_of p v.number) (i ∷ []) ≡ slice_index (addresses v) i
 root_cell p v i has = address-cell (tree_of p v.number) i [] ∙ ap (λ ys. slice_index ys i) (table-root (tree_of p v.number) ∙ ap root_in has)
 
-pub cut_addresses : (p : Parts) (v : Inode) (left : ℕ) → record_of p v.number ≡ Some (fields_of v) → GoneFrom p v.number left → zeroed_from left (addresses v) ≡ addresses v
+pub cut_addresses : (p : Parts) (v : Inode) (left : ℕ) → record_of p v.number ≡ Some (fields_of v) → GoneFrom p v.number left → kept_roots left (addresses v) ≡ addresses v
 cut_addresses p v left has gone =
-    sym (zeroed_from-is left (addresses v) (addresses v) refl (λ k low inside. refl) (λ k from inside.
-    let block = root_block k (omega (arith, length-addresses v)) in
+    kept_roots-all left (addresses v) (length-addresses v) (λ k inside from.
+    let block = root_block k inside in
     sym (root_cell p v k has) ∙ ap (address (tree_of p v.number)) (sym block.way)
-    ∙ (gone block.block block.is block.other (let least = block.from in omega arith)).nowhere))
+    ∙ (gone block.block block.is block.other (let least = block.from in omega arith)).nowhere)
 
 module _ (old new : Parts) (v w : Inode) (len : ℕ) (may : MayShorten old v.number len) (has : record_of old v.number ≡ Some (fields_of v)) (h : StagesRecord w old new)
     (changed : attributes w ≡ record (attributes v) { size = len }) (roots : addresses w ≡ addresses v) where
@@ -84,7 +84,7 @@ module _ (old new : Parts) (v w : Inode) (len : ℕ) (may : MayShorten old v.num
 
   gone_nowhere : (block : FileBlock) → IsFileBlock block → block_count len ≤ first_under block → address (tree_of old v.number) (way_to block) ≡ 0
   gone_nowhere block is past = elim (cases_eq (code_of block) 0) [
-    | inl e ↦ ap (address (tree_of old v.number)) (sym (way_of-code_of block) ∙ ap way_of e ∙ way_of-zero) ∙ address-root (tree_of old v.number)
+    | inl e ↦ ap (address (tree_of old v.number)) (sym (way_of-code_of block is) ∙ ap way_of e ∙ way_of-zero) ∙ address-root (tree_of old v.number)
     | inr other ↦ (may.gone block is other past).nowhere
   ]
 

@@ -16,11 +16,11 @@ use Rattle.lfs_staging.specs.Changing.{StaysInLog}
 use Rattle.lfs_staging.specs.Files.{content_of}
 use Rattle.lfs_staging.specs.Keys.{log_state}
 use Rattle.lfs_staging.specs.Putting.{MayChange}
-use Rattle.lfs_staging.specs.Staging.{IsStaged, MayStage, SameFiles, StagesParents}
+use Rattle.lfs_staging.specs.Staging.{IsStaged, MayStage, SameFiles, StagesParents, StagesTable}
 use Rattle.lfs_staging.specs.Store.{AreFiles, IsWithin, ParentsWait}
 use Rattle.lfs_staging.specs.View.{tree_of}
 use Rattle.lfs_staging.specs.Waiting.{without}
-use Rattle.lfs_staging.proofs.KeptLemmas.{StagesTable, block_known, few_records, keys_kept, log_kept, taken_within, way_within}
+use Rattle.lfs_staging.proofs.KeptLemmas.{block_known, few_records, keys_kept, log_kept, taken_within, way_within}
 use Rattle.lfs_staging.proofs.KeyLemmas.{lies_in}
 use Rattle.lfs_staging.proofs.SameContentLemmas.{content_of-same, file_at-kept}
 use Rattle.lfs_staging.proofs.StagingLemmas.{version-same}

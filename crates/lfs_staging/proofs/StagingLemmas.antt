@@ -11,7 +11,7 @@ use Rattle.lfs_cache.proofs.Entries.{same_is, same_cases}
 use Rattle.lfs_segments.specs.Memory.{block_at}
 use Rattle.lfs_log.specs.Parts.{LogParts}
 use Rattle.lfs_bmap.specs.declared.blocks.FileBlock.{FileBlock}
-use Rattle.lfs_bmap.specs.Blocks.{code_of, way_to}
+use Rattle.lfs_bmap.specs.Blocks.{IsFileBlock, code_of, way_to}
 use Rattle.lfs_bmap.specs.Reading.{Stages}
 use Rattle.lfs_bmap.specs.Ways.{code_at}
 use Rattle.lfs_bmap.proofs.WayLemmas.{known_way_of, way_of-code_of}
@@ -78,14 +78,14 @@ module _ (old new : Parts) (number : ℕ) (block : FileBlock) (bytes : List ℕ)
       tree_blocks : (a : ℕ) → (tree_of new 0).block a ≡ (tree_of old 0).block a
       tree_blocks a = ap (λ (l : LogParts). block_at l.memory a) log
 
-  pub tree-staged : Stages (tree_of old number) (tree_of new number) (way_to block) bytes
-  tree-staged = record {
+  pub tree-staged : IsFileBlock block → Stages (tree_of old number) (tree_of new number) (way_to block) bytes
+  tree-staged can = record {
     root = ap root_in (records number);
     waiting = ap (λ v. block_in (key_of number v (code_at (way_to block))) new.cache.locked) (version-same old new number log)
         ∙ ap (λ c. block_in (key_of number (version_of old number) c) new.cache.locked) (code_at-way_to block) ∙ here;
     waits = λ way known other.
         ap (λ v. block_in (key_of number v (code_at way)) new.cache.locked) (version-same old new number log)
-        ∙ gains (key_of number (version_of old number) (code_at way)) (key-apart (key_of number (version_of old number) (code_of block)) (key_of number (version_of old number) (code_at way)) (λ e. other (sym (known_way_of way known) ∙ ap way_of (sym (ap (λ (k : Key). k.lbn) e)) ∙ way_of-code_of block)));
+        ∙ gains (key_of number (version_of old number) (code_at way)) (key-apart (key_of number (version_of old number) (code_of block)) (key_of number (version_of old number) (code_at way)) (λ e. other (sym (known_way_of way known) ∙ ap way_of (sym (ap (λ (k : Key). k.lbn) e)) ∙ way_of-code_of block can)));
     blocks = λ a. ap (λ (l : LogParts). block_at l.memory a) log;
   }
 
@@ -107,13 +107,13 @@ staged_record old new v log cache waiting used = record {
 }
 
 -- ---- a block
-pub staged_block : (old new : Parts) (number version lbn : ℕ) (block : FileBlock) (bytes : List ℕ) → version ≡ version_of old number → lbn ≡ code_of block
+pub staged_block : (old new : Parts) (number version lbn : ℕ) (block : FileBlock) (bytes : List ℕ) → IsFileBlock block → version ≡ version_of old number → lbn ≡ code_of block
     → new.log ≡ old.log → new.waiting ≡ old.waiting
     → block_in (key_of number version lbn) new.cache.locked ≡ Some bytes
     → GainsOnly (key_of number version lbn) old.cache new.cache → length new.cache.locked ≤ length old.cache.locked + 1
     → (IsLocked (key_of number version lbn) old.cache → length new.cache.locked ≡ length old.cache.locked) → IsContents new.cache
     → StagesBlock number block bytes old new
-staged_block old new number version lbn block bytes at code log waiting here gains more none formed =
+staged_block old new number version lbn block bytes can at code log waiting here gains more none formed =
     let key : key_of number version lbn ≡ key_of number (version_of old number) (code_of block) = λ i. key_of number (at i) (code i) in
     let held : block_in (key_of number (version_of old number) (code_of block)) new.cache.locked ≡ Some bytes
     = subst (λ k. block_in k new.cache.locked ≡ Some bytes) key here in
@@ -123,7 +123,7 @@ staged_block old new number version lbn block bytes at code log waiting here gai
     record {
       log = log;
       waiting = waiting;
-      staged = tree-staged old new number block bytes log records held gained.dirty;
+      staged = tree-staged old new number block bytes log records held gained.dirty can;
       others = tree-others old new number block bytes log records held gained.dirty;
       frames = grown (key_of number (version_of old number) (code_of block)) old new formed
           (ap is_some held) gained more

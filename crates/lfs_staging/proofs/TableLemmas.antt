@@ -1,5 +1,5 @@
 -- Keys that differ, and the tables of a file in which the addresses of its blocks stand.
-use Rattle.std.proofs.Common.{◌≡◌, ◌≢◌, ℕ, ◌+◌, ◌-◌, ◌*◌, ◌<◌, List, [], ◌∷◌, length, IsSome, false, refl, sym, ap, ◌∙◌, inl, inr, arith}
+use Rattle.std.proofs.Common.{◌≡◌, ◌≢◌, ℕ, ◌+◌, ◌-◌, ◌*◌, ◌/◌, ◌%◌, ◌<◌, List, [], ◌∷◌, length, IsSome, false, refl, sym, ap, ◌∙◌, inl, inr, arith}
 use Rattle.std.specs.Prelude.{if◌then◌else◌, ◌==◌}
 use Rattle.std.proofs.lemmas.Bool.{cases_lt}
 use Rattle.lfs_ifile.specs.declared.inode.InodeRow.{InodeRow}
@@ -12,12 +12,12 @@ use Rattle.lfs_cache.specs.declared.key.Key.{Key}
 use Rattle.lfs_cache.specs.Keys.{same_key}
 use Rattle.lfs_log.specs.Parts.{record_place}
 use Rattle.lfs_bmap.specs.declared.blocks.FileBlock.{FileBlock}
-use Rattle.lfs_bmap.specs.declared.blocks.FileBlock.TheVariants.{Record, Single, Data}
+use Rattle.lfs_bmap.specs.declared.blocks.FileBlock.TheVariants.{Record, Single, Double, Child, Data}
 use Rattle.lfs_bmap.specs.Blocks.{IsFileBlock, code_of, way_to}
 use Rattle.lfs_bmap.specs.Reading.{Tree, read, table}
 use Rattle.lfs_bmap.specs.Ways.{data_way}
 use Rattle.lfs_bmap.proofs.ReadingLemmas.{read-waits, table-read, table-root}
-use Rattle.lfs_bmap.proofs.WayLemmas.{data_way-direct, data_way-single}
+use Rattle.lfs_bmap.proofs.WayLemmas.{data_way-direct, data_way-double, data_way-single}
 use Rattle.lfs_staging.specs.declared.parts.Parts.{Parts}
 use Rattle.lfs_staging.specs.Addressing.{IsWaiting}
 use Rattle.lfs_staging.specs.View.{key_of, tree_of}
@@ -50,12 +50,22 @@ room_at p v Record is can other = absurd (other refl)
 room_at p v Single is can other =
     at_way (λ i up. i < length (table (tree_of p v.number) up)) (12 ∷ []) 12 [] refl
     (let long = ap length (record_table p v is) ∙ length-addresses v in omega arith)
+room_at p v Double is can other =
+    at_way (λ i up. i < length (table (tree_of p v.number) up)) (13 ∷ []) 13 [] refl
+    (let long = ap length (record_table p v is) ∙ length-addresses v in omega arith)
+room_at p v (Child index) is can other =
+    at_way (λ i up. i < length (table (tree_of p v.number) up)) (index ∷ 13 ∷ []) index (13 ∷ []) refl
+    (let long = ap length (table-read (tree_of p v.number) 13 []) ∙ length-numbers (read (tree_of p v.number) (13 ∷ [])) 0 128 in omega arith)
 room_at p v (Data index) is can other =
     elim (cases_lt index 12) [
       | inl direct ↦ at_way (λ i up. i < length (table (tree_of p v.number) up)) (data_way index) index [] (data_way-direct index direct)
           (let long = ap length (record_table p v is) ∙ length-addresses v in omega arith)
-      | inr past ↦ at_way (λ i up. i < length (table (tree_of p v.number) up)) (data_way index) (index - 12) (12 ∷ []) (data_way-single index past can)
-          (let long = ap length (table-read (tree_of p v.number) 12 []) ∙ length-numbers (read (tree_of p v.number) (12 ∷ [])) 0 128 in omega arith)
+      | inr past ↦ elim (cases_lt index 140) [
+        | inl near ↦ at_way (λ i up. i < length (table (tree_of p v.number) up)) (data_way index) (index - 12) (12 ∷ []) (data_way-single index past near)
+            (let long = ap length (table-read (tree_of p v.number) 12 []) ∙ length-numbers (read (tree_of p v.number) (12 ∷ [])) 0 128 in omega arith)
+        | inr far ↦ at_way (λ i up. i < length (table (tree_of p v.number) up)) (data_way index) ((index - 140) % 128) (((index - 140) / 128) ∷ 13 ∷ []) (data_way-double index far)
+            (let long = ap length (table-read (tree_of p v.number) ((index - 140) / 128) (13 ∷ [])) ∙ length-numbers (read (tree_of p v.number) (((index - 140) / 128) ∷ 13 ∷ [])) 0 128 in omega arith)
+      ]
     ]
 
 -- a record has the place that it had, where the inode map has the same rows

@@ -93,7 +93,7 @@ module _ (p : Parts) (number : ℕ) (staged : IsStaged p 0) (low : number < leng
       let f = has_record.0 in
       let none = empty f has_record.1 in
       let formed = (staged.whole.files number f has_record.1).formed in
-      ap (λ r. slice_index (root_in r) i) has_record.1 ∙ (elim (cases_lt i 13) [
+      ap (λ r. slice_index (root_in r) i) has_record.1 ∙ (elim (cases_lt i 14) [
         | inl inside ↦ formed.within i inside (omega arith)
         | inr past ↦ get_or_past f.addresses i 0 (omega (arith, formed.whole))
       ])

@@ -18,13 +18,19 @@ use Rattle.lfs_cache.specs.Contents.{Contents, block_in, IsLocked}
 use Rattle.lfs_bmap.specs.Blocks.{code_of, way_to}
 use Rattle.lfs_bmap.specs.Ways.{code_at}
 use Rattle.lfs_bmap.specs.declared.blocks.FileBlock.{FileBlock}
-use Rattle.lfs_bmap.proofs.WayLemmas.{way_of-code_of, code_at-way_of}
+use Rattle.lfs_bmap.specs.declared.blocks.FileBlock.TheVariants.{Record, Single, Double, Child, Data}
+use Rattle.lfs_bmap.proofs.WayLemmas.{code_at-data}
 use Rattle.lfs_staging.specs.declared.parts.Parts.{Parts}
 use Rattle.lfs_staging.specs.View.{record_of, fields_at, waiting_in, waiting_or, key_of, tree_from}
 
 -- the code at the end of a block's way is the block's
 pub code_at-way_to : (block : FileBlock) → code_at (way_to block) ≡ code_of block
-code_at-way_to block = ap code_at (sym (way_of-code_of block)) ∙ code_at-way_of (code_of block)
+unfolding code_at
+code_at-way_to Record = refl
+code_at-way_to Single = refl
+code_at-way_to Double = refl
+code_at-way_to (Child index) = refl
+code_at-way_to (Data index) = code_at-data index
 
 -- a number that isn't in use has no record
 pub record_of-unused : (p : Parts) (number : ℕ) → place_of p.log.tables number ≡ None → record_of p number ≡ None

@@ -1,11 +1,16 @@
 -- A change of a store's content that waits: what it leaves of the log, and the frames and records that it takes.
-use Rattle.std.specs.Prelude.{◌≡◌, ℕ, ◌+◌, ◌%◌, length, if◌then◌else◌, ◌==◌, ⊤}
+use Rattle.std.specs.Prelude.{◌≡◌, ℕ, ◌+◌, ◌-◌, ◌%◌, List, [], ◌∷◌, ◌++◌, length, if◌then◌else◌, ◌==◌, ⊤}
 use Rattle.lfs_types.specs.declared.block.TheConstants.{BLOCK_SIZE}
 use Rattle.lfs_types.specs.declared.store.Change.{Change}
 use Rattle.lfs_types.specs.declared.store.Change.TheVariants.{Make, Remove, SetAttrs, Put, SetLength}
 use Rattle.lfs_ifile.specs.Inode.{raised_version}
+use Rattle.lfs_inodes.specs.Facts.{block_count}
+use Rattle.lfs_bmap.specs.declared.blocks.FileBlock.{FileBlock}
+use Rattle.lfs_bmap.specs.declared.blocks.FileBlock.TheVariants.{Data}
+use Rattle.lfs_bmap.specs.declared.blocks.TheConstants.{FIRST_DATA_CODE}
+use Rattle.lfs_bmap.specs.Blocks.{table_of, way_to}
 use Rattle.lfs_bmap.specs.Moves.{Moves}
-use Rattle.lfs_bmap.specs.Ways.{tables_below}
+use Rattle.lfs_bmap.specs.Ways.{codes_on}
 use Rattle.lfs_staging.specs.declared.parts.Parts.{Parts}
 use Rattle.lfs_staging.specs.Keys.{log_state}
 use Rattle.lfs_staging.specs.Putting.{frames_of_put}
@@ -27,9 +32,19 @@ version_after (SetAttrs ino attrs) number version = version
 version_after (Put ino off bytes) number version = version
 version_after (SetLength ino len) number version = version
 
--- the frames that a length takes at most: one for its last block, where it ends within it, and those of the indirect blocks
+-- the block that holds the address of the last data block of a length
+abbrev pub length_table : ℕ → FileBlock
+length_table len = table_of (Data (block_count len - 1))
+
+-- the codes of the blocks that a length has wait: that of its last data block, where it ends within it, and those of the
+-- blocks that lead to this one
+abbrev pub length_codes : ℕ → List ℕ
+length_codes len =
+    (if len % BLOCK_SIZE == 0 then [] else (FIRST_DATA_CODE + (block_count len - 1)) ∷ []) ++ codes_on (way_to (length_table len))
+
+-- the frames that it takes at most
 abbrev pub frames_of_length : ℕ → ℕ
-frames_of_length len = (if len % BLOCK_SIZE == 0 then 0 else 1) + tables_below len
+frames_of_length len = (if len % BLOCK_SIZE == 0 then 0 else 1) + length (way_to (length_table len))
 
 -- the frames that a change takes at most
 abbrev pub frames_of : Change → ℕ

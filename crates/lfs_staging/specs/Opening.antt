@@ -1,10 +1,11 @@
 -- A volume that was just laid out: the root directory alone, with its record in the second block of the log.
-use Rattle.std.specs.Prelude.{◌≡◌, ◌≢◌, ℕ, ◌+◌, ◌<◌, ◌≤◌, ◌⊎◌, [], Some, length, replicate, if◌then◌else◌, ◌==◌, slice_index, true}
-use Rattle.lfs_types.specs.declared.limits.TheConstants.{LEAST_SEGMENTS, MOST_SEGMENTS, LEAST_INODES, MOST_INODES, LEAST_FRAMES, MOST_FRAMES, ROOT_INODE}
+use Rattle.std.specs.Prelude.{◌≡◌, ◌≢◌, ℕ, ◌+◌, ◌<◌, ◌≤◌, ◌⊎◌, [], ◌∷◌, None, Some, length, replicate, if◌then◌else◌, ◌==◌, slice_index, true}
+use Rattle.lfs_types.specs.declared.limits.TheConstants.{ROOT_INODE}
+use Rattle.lfs_types.specs.Ranges.{least_segments, most_segments, least_inodes, most_inodes, least_frames, most_frames}
 use Rattle.lfs_types.specs.Tree.{attrs_of, fresh_root}
 use Rattle.lfs_segments.specs.declared.entry.LogicalBlock.TheVariants.{Inodes}
 use Rattle.lfs_segments.specs.declared.entry.SummaryEntry.{SummaryEntry}
-use Rattle.lfs_segments.specs.Log.{Expects, entry_at}
+use Rattle.lfs_segments.specs.Log.{Expects, IsSummaryOf, entry_at}
 use Rattle.lfs_segments.specs.Memory.{SegmentMemory, block_at}
 use Rattle.lfs_ifile.specs.declared.inode.InodeRow.{InodeRow}
 use Rattle.lfs_ifile.specs.declared.segment.SegState.TheVariants.{Clean, Active}
@@ -21,12 +22,12 @@ use Rattle.lfs_inodes.specs.declared.inode.TheConstants.{ROOT_COUNT}
 -- a number of segments, of inode numbers or of frames is the first one out of its range, and below it
 abbrev pub IsTooFew : ℕ → ℕ → ℕ → Type 0
 IsTooFew segments inodes frames =
-    (segments < LEAST_SEGMENTS) ⊎ ((segments ≤ MOST_SEGMENTS) × ((inodes < LEAST_INODES) ⊎ ((inodes ≤ MOST_INODES) × (frames < LEAST_FRAMES))))
+    (segments < least_segments) ⊎ ((segments ≤ most_segments) × ((inodes < least_inodes) ⊎ ((inodes ≤ most_inodes) × (frames < least_frames))))
 
 -- or above it
 abbrev pub IsTooMany : ℕ → ℕ → ℕ → Type 0
 IsTooMany segments inodes frames =
-    (MOST_SEGMENTS < segments) ⊎ ((LEAST_SEGMENTS ≤ segments) × ((MOST_INODES < inodes) ⊎ ((LEAST_INODES ≤ inodes) × (MOST_FRAMES < frames))))
+    (most_segments < segments) ⊎ ((least_segments ≤ segments) × ((most_inodes < inodes) ⊎ ((least_inodes ≤ inodes) × (most_frames < frames))))
 
 -- the entry of a block of inodes
 abbrev pub inodes_entry : SummaryEntry
@@ -44,13 +45,16 @@ root_row = record { used = true; address = 2; slot = 0; version = 1 }
 abbrev pub fresh_used : ℕ → ℕ → Tables
 fresh_used segments inodes = with_state (fresh_tables segments inodes) 0 Active
 
--- the segments: segment 0 is active, and behind the label it has a summary and the block with the root's record
+-- the segments: segment 0 is active, and behind the label it has a summary at address 1, and at 2 the block that it names, with
+-- the root's record alone, at version 1
 pub record HasRootBlock (m : SegmentMemory) : Type 0 where
   pub active : m.active ≡ 0
   pub filled : m.fill ≡ 3
   pub ready : Expects m []
+  pub summary : IsSummaryOf (block_at m 1) 0 1 (inodes_entry ∷ [])
   pub entry : entry_at m 2 ≡ Some inodes_entry
   pub root : fields_in (slot_of (block_at m 2) 0) ≡ Some (root_fields 1)
+  pub alone : (k : ℕ) → 0 < k → k < 4 → fields_in (slot_of (block_at m 2) k) ≡ None
 
 -- the tables: the root alone is in use, and its record's bytes in segment 0 are the live ones
 pub record HasRootRow (many_segments many_inodes : ℕ) (t : Tables) : Type 0 where

@@ -10,7 +10,8 @@ use Rattle.lfs_inodes.specs.Reading.{Fields, fields_of}
 use Rattle.lfs_bmap.specs.declared.blocks.FileBlock.TheVariants.{Data}
 use Rattle.lfs_bmap.specs.Pieces.{IsPut}
 use Rattle.lfs_bmap.specs.Reading.{address, data_block}
-use Rattle.lfs_bmap.specs.Ways.{IsKnown, tables_below}
+use Rattle.lfs_bmap.specs.Tables.{tables_between}
+use Rattle.lfs_bmap.specs.Ways.{IsKnown}
 use Rattle.lfs_staging.specs.declared.parts.Parts.{Parts}
 use Rattle.lfs_types.specs.declared.block.TheConstants.{BLOCK_SIZE}
 use Rattle.lfs_types.specs.declared.limits.TheConstants.{FILE_BYTES}
@@ -26,9 +27,9 @@ use Rattle.lfs_staging.specs.View.{LiesIn, blocks_of, record_of, tree_of, versio
 abbrev pub blocks_of_put : ℕ → ℕ → ℕ
 blocks_of_put start count = (start + count - 1) / BLOCK_SIZE + 1 - start / BLOCK_SIZE
 
--- the frames that bytes put into a file take at most: one for each block, and those of the indirect blocks above them
+-- the frames that bytes put into a file take at most: one for each block, and one for each indirect block that leads to them
 abbrev pub frames_of_put : ℕ → ℕ → ℕ
-frames_of_put start count = blocks_of_put start count + tables_below (start + count)
+frames_of_put start count = blocks_of_put start count + tables_between (start / BLOCK_SIZE) ((start + count - 1) / BLOCK_SIZE)
 
 -- What falls of some bytes, put at `start` of a file, into one of its data blocks is there, and nothing else changed.
 pub record PutsBlock (v : Inode) (index start : ℕ) (bytes : List ℕ) (old new : Parts) : Type 0 where

@@ -125,6 +125,14 @@ pub record TakesFrames (number : ℕ) (block : FileBlock) (old new : Parts) : Ty
   pub records : without number new.waiting ≡ without number old.waiting
   pub block_waits : IsLocked (key_of number (version_of new number) (code_of block)) new.cache
 
+-- A block of a number waits with what it has, and so do its parents; each file is what it was.
+pub record StagesTable (number : ℕ) (block : FileBlock) (old new : Parts) : Type 0 where
+  pub same : SameFiles old new
+  pub files : AreFiles new
+  pub parents : ParentsWait new
+  pub once : AreOnce old.waiting → AreOnce new.waiting
+  pub takes : TakesFrames number block old new
+
 -- Bytes wait for a data block of a number: it reads as these bytes, and every other data block, every record and every
 -- address is what it was.
 pub record StagesData (number index : ℕ) (bytes : List ℕ) (old new : Parts) : Type 0 where

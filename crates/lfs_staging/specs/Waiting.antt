@@ -1,7 +1,7 @@
 -- The records that wait to be written.
 use Rattle.std.specs.Prelude.{◌≡◌, ℕ, ◌<◌, ◌≤◌, List, [], ◌∷◌, All, Bool, false, Option, None, find, length, slice_index_or, if◌then◌else◌, ◌==◌, ⊤}
 use Rattle.std.specs.Option.{is_some}
-use Rattle.lfs_types.specs.declared.limits.TheConstants.{MOST_INODES}
+use Rattle.lfs_types.specs.Ranges.{most_inodes}
 use Rattle.lfs_inodes.specs.declared.inode.Inode.{Inode}
 use Rattle.lfs_staging.specs.declared.records.TheConstants.{WAITING_LIMIT}
 
@@ -21,7 +21,7 @@ AreOnce (v ∷ vs) = (waiting_in vs v.number ≡ None) × AreOnce vs
 
 -- a record's number is below the greatest count of inode numbers
 abbrev pub IsNumbered : Inode → Type 0
-IsNumbered v = v.number < MOST_INODES
+IsNumbered v = v.number < most_inodes
 
 -- Some records, each of another number, and for each number whether one of them is of it; there is room for all that may
 -- wait.
@@ -29,5 +29,5 @@ pub record IsRecords (records : List Inode) (waits : List Bool) (capacity : ℕ)
   pub room : WAITING_LIMIT ≤ capacity
   pub once : AreOnce records
   pub numbered : All IsNumbered records
-  pub sized : length waits ≡ MOST_INODES
-  pub told : (number : ℕ) → number < MOST_INODES → slice_index_or waits number false ≡ is_some (waiting_in records number)
+  pub sized : length waits ≡ most_inodes
+  pub told : (number : ℕ) → number < most_inodes → slice_index_or waits number false ≡ is_some (waiting_in records number)

@@ -56,7 +56,7 @@ impl Parts {
             FileBlock::Record => self
                 .waiting
                 .replace(inode.with_root(index as usize, address)),
-            FileBlock::Single | FileBlock::Data(_) => {
+            FileBlock::Single | FileBlock::Double | FileBlock::Child(_) | FileBlock::Data(_) => {
                 let key = key_of(inode, table);
                 set_entry(&mut self.cache, key, index as usize, address);
             }

@@ -1,26 +1,33 @@
 //! Changing what waits: the length of a file.
 
-ghost use Rattle.std.specs.Prelude.{◌≡◌, ◌+◌, ◌-◌, ◌<◌, ◌≤◌, Some, length, true};
+ghost use Rattle.std.specs.Prelude.{◌≡◌, ◌+◌, ◌/◌, ◌<◌, ◌≤◌, ◌↔◌, IsTrue, Some, length, true};
 ghost use Rattle.lfs_cache.specs.declared.cache.TheConstants.{LOCKED_LIMIT};
+ghost use Rattle.lfs_staging.specs.declared.cutting.TheConstants.{CUT_FRAMES};
+ghost use Rattle.lfs_types.specs.declared.block.TheConstants.{BLOCK_SIZE};
 ghost use Rattle.lfs_ifile.specs.Tables.{row_of};
 ghost use Rattle.lfs_inodes.specs.Facts.{IsSizeOf, block_count};
 ghost use Rattle.lfs_inodes.specs.Reading.{Fields};
-ghost use Rattle.lfs_bmap.specs.declared.blocks.FileBlock.TheVariants.{Data};
+ghost use Rattle.lfs_bmap.specs.Blocks.{IsFileBlock, way_to};
+ghost use Rattle.lfs_bmap.specs.Ways.{codes_on, data_way};
 ghost use Rattle.lfs_staging.specs.Changing.{StaysInLog, frames_of_length};
-ghost use Rattle.lfs_staging.specs.Cutting.{ClearsBlock, ClearsBlocks, CutsBlock, CutsFile, CutsLast, DropsBlocks, MayClear, MayClearBelow, MayShorten, Shortens, with_length};
+ghost use Rattle.lfs_staging.specs.Cutting.{ClearsBlock, ClearsBlocks, CutsBlock, CutsFile, CutsLast, DropsBlocks, DropsDown, DropsTable, IsGone, MayClear, MayClearBetween, MayDrop, MayDropAll, MayShorten, Shortens, with_length};
 ghost use Rattle.lfs_staging.specs.Files.{content_of};
 ghost use Rattle.lfs_staging.specs.Addressing.{IsWaiting};
-ghost use Rattle.lfs_staging.specs.Staging.{HasParents, IsStaged, MayStage};
+ghost use Rattle.lfs_staging.specs.Staging.{HasFrames, IsStaged, MayStage};
 ghost use Rattle.lfs_staging.specs.View.{record_of};
 ghost use Rattle.lfs_staging.specs.Waiting.{without};
 ghost use Rattle.lfs_staging.specs.declared.records.TheConstants.{WAITING_LIMIT};
 
 use crate::parts::Parts;
-use lfs_bmap::blocks::{DIRECT_BLOCKS, FileBlock};
+use lfs_bmap::blocks::FileBlock;
 use lfs_bmap::pieces::cut_piece;
 use lfs_cache::Key;
 use lfs_inodes::inode::Inode;
 use lfs_types::block::BLOCK_SIZE;
+
+/// The greatest number of frames that a cut takes while it goes on: for the last block that is left,
+/// and for what leads to the blocks that go.
+pub const CUT_FRAMES: usize = 2;
 
 impl Parts {
     /// Cuts a file in use, or adds zeros to it, so that it has this many bytes. The blocks past them
@@ -30,7 +37,7 @@ impl Parts {
         requires in_range { ino < length self.old.log.tables.rows }
         requires in_use { (row_of self.old.log.tables ino).used ≡ true }
         requires sized { (f : Fields) → record_of self.old ino ≡ Some f → IsSizeOf f.attributes.kind len }
-        requires frames { length self.old.cache.locked + 2 ≤ LOCKED_LIMIT }
+        requires frames { length self.old.cache.locked + CUT_FRAMES ≤ LOCKED_LIMIT }
         requires records { length self.old.waiting < WAITING_LIMIT }
         ensures staged { IsStaged self.new 0 }
         ensures content { content_of self.new ≡ with_length ino len (content_of self.old) }
@@ -82,7 +89,7 @@ impl Parts {
 
     /// Gives back the data blocks of a file from `first` to before `end`.
     fn clear_blocks(&mut self, ino: u32, first: u32, end: u32)
-        requires may { MayClearBelow self.old ino end }
+        requires may { MayClearBetween self.old ino first end }
         requires ordered { first ≤ end }
         ensures { ClearsBlocks ino first end self.old self.new }
     {
@@ -91,43 +98,85 @@ impl Parts {
         }
     }
 
-    /// Gives back the data blocks of a file from `left` on, of as many as it has, and the single
-    /// indirect block where no block is left that it leads to.
-    fn drop_blocks(&mut self, ino: u32, left: u32, blocks: u32)
-        requires may { MayClearBelow self.old ino blocks }
-        requires ordered { left ≤ blocks }
-        requires all { (f : Fields) → record_of self.old ino ≡ Some f
-            → blocks ≡ block_count f.attributes.size }
-        ensures { DropsBlocks ino left blocks self.old self.new }
+    /// Whether a block of a file has no address and doesn't wait.
+    fn is_gone(&self, inode: &Inode, block: FileBlock) -> bool
+        requires may { MayStage self.now inode.now }
+        requires block { IsFileBlock block }
+        ensures { IsTrue result ↔ IsGone self.now inode.now.number (way_to block) }
     {
-        self.clear_blocks(ino, left, blocks);
-        if left <= DIRECT_BLOCKS && blocks > DIRECT_BLOCKS {
-            self.clear_block(ino, FileBlock::Single);
+        self.address_of(inode, block) == 0 && !self.waits(inode, block)
+    }
+
+    /// Gives back the data blocks of a file from `left` on whose addresses stand in an indirect block,
+    /// of as many as the file has, and the block where no block is left that it leads to. Where it has
+    /// no address and doesn't wait, there is nothing to give back.
+    fn drop_table(&mut self, ino: u32, table: FileBlock, left: u32, blocks: u32)
+        requires { MayDrop self.old ino table left blocks }
+        ensures { DropsTable ino table left self.old self.new }
+    {
+        let Some(inode) = self.waiting(ino) else {
+            unreachable!()
+        };
+        let run = table.data_run();
+        if run.start < left && run.end <= left {
+            return;
         }
+        if self.is_gone(&inode, table) {
+            return;
+        }
+        self.stage_with_parents(&inode, table);
+        self.clear_blocks(ino, left.max(run.start), blocks.min(run.end));
+        if left <= run.start {
+            self.clear_block(ino, table);
+        }
+    }
+
+    /// Gives back what indirect blocks of a file lead to from data block `left` on, of as many as the
+    /// file has: one block after another, the last first, as far as one may lead there.
+    fn drop_tables(&mut self, ino: u32, left: u32, blocks: u32)
+        requires { MayDropAll self.old ino left blocks }
+        ensures { DropsDown ino left 1 self.old self.new }
+    {
+        let first = FileBlock::Data(left.saturating_sub(1)).table().code();
+        let last = FileBlock::Data(blocks - 1).table().code();
+        for code in (first.max(1)..last + 1).rev() {
+            if let Some(table) = FileBlock::from_code(code) {
+                self.drop_table(ino, table, left, blocks);
+            }
+        }
+    }
+
+    /// Gives back the data blocks of a file from `left` on, of as many as it has, and the indirect
+    /// blocks that lead to no other ones.
+    fn drop_blocks(&mut self, ino: u32, left: u32, blocks: u32)
+        requires { MayDropAll self.old ino left blocks }
+        ensures { DropsBlocks ino left self.old self.new }
+    {
+        self.drop_tables(ino, left, blocks);
+        let direct = FileBlock::Record.data_run().end;
+        self.clear_blocks(ino, left.min(direct), blocks.min(direct));
     }
 
     /// Zeroes what a data block of a file has past a length, which isn't more than the size.
     fn cut_block(&mut self, inode: &Inode, index: u32, len: u64)
         requires may { MayStage self.old inode.now }
         requires staged { IsStaged self.old 0 }
-        requires parents { HasParents self.old inode.now.number (Data index) }
+        requires room { HasFrames self.old inode.now.number (codes_on (data_way index)) }
         requires within { index < block_count inode.now.size }
         requires less { len ≤ inode.now.size }
-        requires room { length self.old.cache.locked < LOCKED_LIMIT }
         ensures { CutsBlock inode.now.number index len self.old self.new }
     {
         let mut block = *self.block_of(inode, FileBlock::Data(index));
         cut_piece(&mut block, index, len);
-        self.stage_block(inode, FileBlock::Data(index), &block);
+        self.stage_data(inode, index, &block);
     }
 
     /// Zeroes what the last block of a length has past it, where the length ends within a block.
     fn cut_last(&mut self, inode: &Inode, len: u64)
         requires may { MayStage self.old inode.now }
         requires staged { IsStaged self.old 0 }
-        requires parents { HasParents self.old inode.now.number (Data (block_count inode.now.size - 1)) }
         requires less { len < inode.now.size }
-        requires room { length self.old.cache.locked < LOCKED_LIMIT }
+        requires room { HasFrames self.old inode.now.number (codes_on (data_way (len / BLOCK_SIZE))) }
         ensures { CutsLast inode.now.number len self.old self.new }
     {
         if !len.is_multiple_of(BLOCK_SIZE as u64) {
@@ -152,11 +201,11 @@ impl Parts {
         requires staged { IsStaged self.old 0 }
         requires less { len < inode.now.size }
         requires sized { IsSizeOf inode.now.kind len }
-        requires frames { length self.old.cache.locked + 2 ≤ LOCKED_LIMIT }
+        requires frames { length self.old.cache.locked + CUT_FRAMES ≤ LOCKED_LIMIT }
         ensures { CutsFile inode.now.number len self.old self.new }
     {
         let blocks = inode.blocks();
-        self.stage_parents(inode, FileBlock::Data(blocks - 1));
+        self.stage_own_record(inode);
         self.cut_last(inode, len);
         self.drop_blocks(inode.number, inode.cut(len).blocks(), blocks);
         self.shorten(inode.number, len);

@@ -1,7 +1,7 @@
 //! Laying out a volume.
 
 ghost use Rattle.std.specs.Prelude.{◌≡◌, ◌≤◌, ◌<◌, ◌↔◌, [], length, IfOk, IsErrOf, OnOk};
-ghost use Rattle.lfs_types.specs.declared.limits.TheConstants.{LEAST_FRAMES, MOST_FRAMES};
+ghost use Rattle.lfs_types.specs.Ranges.{least_frames, most_frames};
 ghost use Rattle.lfs_cache.specs.Changes.{IsContents};
 ghost use Rattle.lfs_cache.specs.Contents.{nothing_in};
 ghost use Rattle.lfs_types.specs.Tree.{attrs_of, fresh_root, opening_content};
@@ -54,8 +54,8 @@ impl Parts {
     /// The parts over a log, with a cache of so many frames and room for what is to wait. Nothing waits
     /// yet.
     fn over(alloc: Global, log: Log, frames: u32) -> Result<Parts, AllocError>
-        requires at_least { LEAST_FRAMES ≤ frames }
-        requires at_most { frames ≤ MOST_FRAMES }
+        requires at_least { least_frames ≤ frames }
+        requires at_most { frames ≤ most_frames }
         ensures log { IfOk result (λ parts. parts.log ≡ log) }
         ensures cache { IfOk result (λ parts. parts.cache ≡ nothing_in frames) }
         ensures formed { IfOk result (λ parts. IsContents parts.cache) }
@@ -76,7 +76,7 @@ fn check_numbers(segments: u32, inodes: u32, frames: u32) -> Result<(), FormatFa
     ensures too_few { IsErrOf result FormatFault.TooFew ↔ IsTooFew segments inodes frames }
     ensures too_many { IsErrOf result FormatFault.TooMany ↔ IsTooMany segments inodes frames }
     ensures no_memory { IsErrOf result FormatFault.Memory → ⊥ }
-    ensures frames { OnOk result ((LEAST_FRAMES ≤ frames) × (frames ≤ MOST_FRAMES)) }
+    ensures frames { OnOk result ((least_frames ≤ frames) × (frames ≤ most_frames)) }
 {
     check_range(segments, LEAST_SEGMENTS, MOST_SEGMENTS)?;
     check_range(inodes, LEAST_INODES, MOST_INODES)?;

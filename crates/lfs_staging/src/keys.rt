@@ -46,7 +46,8 @@ impl Parts {
         match self.log.place(ino) {
             Some(place) if place.version == version => match block {
                 FileBlock::Record => place.addr,
-                FileBlock::Single | FileBlock::Data(_) => self.address_in(ino, block),
+                FileBlock::Single | FileBlock::Double | FileBlock::Child(_) | FileBlock::Data(_) =>
+                    self.address_in(ino, block),
             },
             _ => 0,
         }

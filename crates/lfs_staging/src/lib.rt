@@ -13,4 +13,5 @@ pub mod making;
 pub mod parts;
 pub mod reading;
 pub mod records;
+pub mod sizes;
 pub mod staging;

@@ -11,6 +11,7 @@ ghost use Rattle.lfs_staging.specs.Files.{content_of};
 ghost use Rattle.lfs_staging.specs.Staging.{IsStaged};
 ghost use Rattle.lfs_staging.specs.View.{record_of, version_of};
 ghost use Rattle.lfs_staging.specs.Waiting.{without};
+ghost use Rattle.lfs_staging.specs.declared.cutting.TheConstants.{CUT_FRAMES};
 ghost use Rattle.lfs_staging.specs.declared.records.TheConstants.{WAITING_LIMIT};
 ghost use Rattle.lfs_types.specs.Tree.{file_of};
 ghost use Rattle.lfs_types.specs.declared.limits.TheConstants.{FIRST_INODE};
@@ -44,7 +45,7 @@ impl Parts {
         requires staged { IsStaged self.old 0 }
         requires in_range { ino < length self.old.log.tables.rows }
         requires in_use { (row_of self.old.log.tables ino).used ≡ true }
-        requires frames { length self.old.cache.locked + 2 ≤ LOCKED_LIMIT }
+        requires frames { length self.old.cache.locked + CUT_FRAMES ≤ LOCKED_LIMIT }
         requires records { length self.old.waiting < WAITING_LIMIT }
         ensures staged { IsStaged self.new 0 }
         ensures content { content_of self.new ≡ remove (content_of self.old) ino }

@@ -26,7 +26,7 @@ use lfs_types::block::{Block, ZERO_BLOCK};
 impl Parts {
     /// The bytes of a block of a file that has this address: those that wait to be written, else those
     /// in the log; zeros where it has no address.
-    fn bytes_via(&self, inode: &Inode, block: FileBlock, address: u32) -> &Block
+    pub fn bytes_via(&self, inode: &Inode, block: FileBlock, address: u32) -> &Block
         requires block { IsFileBlock block }
         requires inside { address < blocks_of self.now }
         ensures { result.now ≡ bytes_via (tree_from self.now inode.now) (way_to block) address }
@@ -54,7 +54,7 @@ impl Parts {
         };
         match table {
             FileBlock::Record => root_address(inode, index as usize),
-            FileBlock::Single | FileBlock::Data(_) => {
+            FileBlock::Single | FileBlock::Double | FileBlock::Child(_) | FileBlock::Data(_) => {
                 let address = self.address_of(inode, table);
                 let held = self.bytes_via(inode, table, address);
                 entry(held, index as usize)

@@ -2,7 +2,7 @@
 
 ghost use Rattle.std.specs.Prelude.{◌≡◌, ◌<◌, ◌∷◌, ◌++◌, ◌==◌, [], IfOk, IsSome, length, vec_capacity};
 ghost use Rattle.std.specs.Option.{is_some};
-ghost use Rattle.lfs_types.specs.declared.limits.TheConstants.{MOST_INODES};
+ghost use Rattle.lfs_types.specs.Ranges.{most_inodes};
 ghost use Rattle.lfs_staging.specs.Addressing.{Replaces, replaced};
 ghost use Rattle.lfs_staging.specs.Waiting.{waiting_in, without};
 
@@ -148,7 +148,7 @@ impl Records {
 
     /// Puts a record first, in place of any other of its number.
     pub(crate) fn put(&mut self, inode: Inode)
-        requires numbered { inode.number < MOST_INODES }
+        requires numbered { inode.number < most_inodes }
         requires room { length (without inode.number self.old) < WAITING_LIMIT }
         ensures { self.new ≡ inode ∷ without inode.number self.old }
     {

@@ -12,7 +12,7 @@ ghost use Rattle.lfs_bmap.specs.Blocks.{IsFileBlock, code_of, table_of, way_to};
 ghost use Rattle.lfs_bmap.specs.Reading.{read};
 ghost use Rattle.lfs_bmap.specs.Ways.{codes_on, data_way};
 ghost use Rattle.lfs_staging.specs.declared.records.TheConstants.{WAITING_LIMIT};
-ghost use Rattle.lfs_staging.specs.Staging.{HasFrames, IsStaged, IsZeroPast, MayStage, StagesBlock, StagesData, StagesOwnRecord, StagesParents, StagesRecord};
+ghost use Rattle.lfs_staging.specs.Staging.{HasFrames, IsStaged, IsZeroPast, MayStage, StagesBlock, StagesData, StagesOwnRecord, StagesParents, StagesRecord, StagesTable};
 ghost use Rattle.lfs_staging.specs.Store.{AreFiles};
 ghost use Rattle.lfs_staging.specs.View.{LiesIn, blocks_of, key_of, record_of, tree_of, version_of};
 ghost use Rattle.lfs_staging.specs.Waiting.{without};
@@ -80,7 +80,9 @@ impl Parts {
         let table = block.table();
         match table {
             FileBlock::Record => {}
-            FileBlock::Single | FileBlock::Data(_) => self.stage_table(inode, table),
+            FileBlock::Single | FileBlock::Double | FileBlock::Child(_) | FileBlock::Data(_) => {
+                self.stage_table(inode, table)
+            }
         }
     }
 
@@ -95,8 +97,20 @@ impl Parts {
         self.stage_record(*inode);
     }
 
+    /// Has a block of a file that isn't its record wait, with what it has, and its parents too.
+    pub fn stage_with_parents(&mut self, inode: &Inode, block: FileBlock)
+        requires may { MayStage self.old inode.now }
+        requires block { IsFileBlock block }
+        requires other { code_of block ≢ 0 }
+        requires room { HasFrames self.old inode.now.number (codes_on (way_to block)) }
+        ensures { StagesTable inode.now.number block self.old self.new }
+    {
+        self.stage_parents(inode, block);
+        self.stage_table(inode, block);
+    }
+
     /// Whether a block of a file waits.
-    fn waits(&self, inode: &Inode, block: FileBlock) -> bool
+    pub(crate) fn waits(&self, inode: &Inode, block: FileBlock) -> bool
         requires { IsFileBlock block }
         ensures { IsTrue result
             ↔ IsLocked (key_of inode.now.number inode.now.version (code_of block)) self.now.cache }

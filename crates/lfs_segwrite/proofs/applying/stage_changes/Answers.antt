@@ -1,9 +1,9 @@
-use Rattle.std.proofs.Common.{◌+◌, drop, refl, sym, ap, ◌∙◌, arith}
+use Rattle.std.proofs.Common.{◌+◌, drop, refl, sym, ap, ◌∙◌, subst, arith}
 use Rattle.std.proofs.lemmas.List.{drop_all, length-drop}
 use Rattle.lfs_types.specs.Changes.{applied}
 use Rattle.lfs_staging.specs.Changing.{frames_of, records_of}
 use Rattle.lfs_staging.specs.Files.{content_of}
-use Rattle.lfs_segwrite.specs.Applying.{peak_of, versions_after}
+use Rattle.lfs_segwrite.specs.Applying.{IsInReach, peak_of, versions_after}
 use Rattle.lfs_staging.specs.View.{version_of}
 use Rattle.lfs_segwrite.proofs.BoundLemmas.{peak_least, record_most}
 use Rattle.lfs_segwrite.proofs.ChangedLemmas.{stays_refl, stays_trans}
@@ -50,7 +50,7 @@ loop-change-preserved c =
     let records = next_sum xs i d low c.change-item.is records_of in
     let peak = next_sum xs i d low c.change-item.is peak_of in
     let one = record_most c.change-item.result in
-    let least = peak_least c.change-item.result in
+    let least = peak_least c.change-item.result (subst IsInReach (sym c.change-item.is) (c.requires.reach i d low)) in
     let long = length-drop i xs in
     let longer = length-drop (i + 1) xs in
     let made = c.stage_change.ensures.content_is in

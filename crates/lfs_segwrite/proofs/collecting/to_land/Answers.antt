@@ -1,57 +1,55 @@
-use Rattle.std.proofs.Common.{All, true, false, length, length-append, map, sym, ap, subst, arith}
-use Rattle.std.specs.List.{filter}
+use Rattle.std.proofs.Common.{All, ◌≡◌, ◌<◌, length, map, sym, ap, ◌∙◌, subst, arith}
 use Rattle.std.proofs.lemmas.List.{length-map}
+use Rattle.lfs_cache.specs.declared.key.Key.{Key}
+use Rattle.lfs_cache.specs.Contents.{AreApart, keys_of}
 use Rattle.lfs_segments.specs.Entry.{IsEntry}
-use Rattle.lfs_cache.specs.Contents.{AreApart}
-use Rattle.lfs_segwrite.specs.Collecting.{entry_of, is_of}
-use Rattle.lfs_segwrite.proofs.CollectingLemmas.{all_entries, collected, entries_of-length, kinds}
-use Rattle.lfs_segwrite.proofs.OrderLemmas.{in_order-locked}
+use Rattle.lfs_staging.specs.Store.{IsBlockCode}
+use Rattle.lfs_segwrite.specs.Collecting.{entry_of, in_passes}
+use Rattle.lfs_segwrite.proofs.CollectingLemmas.{all_entries, collected, collected_more, collected_none, collected_room, entries_of-length, in_order-length}
+use Rattle.lfs_segwrite.proofs.OrderLemmas.{in_order-locked, listed_waits}
 use Rattle.lfs_segwrite.proofs.collecting.to_land.Goals as goal
 
-pub push_keys-requires : goal.push_keys-requires
-push_keys-requires c =
-    let both = kinds c.locked-keys.result.now in
-    let none = ap length c.empty-list.ensures in
-    let keys = ap length c.locked-keys.ensures.keys in
-    let locked = length-map c.args.parts.now.cache.locked (λ e. e.0) in
-    let limit = c.requires.files.cache.limit in
-    omega arith
+pub loop-pass-init : goal.loop-pass-init
+loop-pass-init c = c.empty-list.ensures ∙ sym (collected_none c.locked-keys.result.now)
 
-pub push_keys-requires-2 : goal.push_keys-requires-2
-push_keys-requires-2 c =
-    let ds = filter (is_of true) c.locked-keys.result.now in
-    let both = kinds c.locked-keys.result.now in
-    let none = ap length c.empty-list.ensures in
+pub push_keys-requires-clause-coded : goal.push_keys-requires-clause-coded
+push_keys-requires-clause-coded c =
+    subst (All (λ (key : Key). IsBlockCode key.lbn)) (sym c.locked-keys.ensures.keys)
+    (λ k d low. c.requires.files.coded _ (listed_waits c.args.parts.now.cache k d low))
+
+pub push_keys-requires-clause-room : goal.push_keys-requires-clause-room
+push_keys-requires-clause-room c =
     let keys = ap length c.locked-keys.ensures.keys in
     let locked = length-map c.args.parts.now.cache.locked (λ e. e.0) in
     let limit = c.requires.files.cache.limit in
-    let first = ap length c.push_keys.ensures in
-    let whole = length-append c.empty-list.result (map entry_of ds) in
-    let mapped = length-map ds entry_of in
-    omega arith
+    collected_room c.loop-pass.list c.loop-pass.pass c.locked-keys.result.now c.loop-pass.invariant c.loop-pass-test.true (omega arith)
+
+pub loop-pass-preserved : goal.loop-pass-preserved
+loop-pass-preserved c = collected_more c.loop-pass.list c.push_keys.new.self c.loop-pass.pass c.locked-keys.result.now c.loop-pass.invariant c.push_keys.ensures
+
+-- all passes are done
+whole : (c : goal.After-push_inodes) → c.loop-pass.list ≡ map entry_of (in_passes 3 c.locked-keys.result.now)
+whole c =
+    let end : c.loop-pass.pass ≡ 3 = omega (arith, c.loop-pass-test.false, c.loop-pass.auto.pass-end) in
+    subst (λ n. c.loop-pass.list ≡ map entry_of (in_passes n c.locked-keys.result.now)) end c.loop-pass.invariant
 
 pub push_inodes-requires : goal.push_inodes-requires
 push_inodes-requires c =
-    let ds = filter (is_of true) c.locked-keys.result.now in
-    let ss = filter (is_of false) c.locked-keys.result.now in
-    let both = kinds c.locked-keys.result.now in
-    let none = ap length c.empty-list.ensures in
+    let end : c.loop-pass.pass ≡ 3 = omega (arith, c.loop-pass-test.false, c.loop-pass.auto.pass-end) in
+    let all = subst (λ n. c.loop-pass.list ≡ map entry_of (in_passes n c.locked-keys.result.now)) end c.loop-pass.invariant in
+    let many = ap length all in
+    let mapped = length-map (in_passes 3 c.locked-keys.result.now) entry_of in
+    let whole = in_order-length c.locked-keys.result.now in
     let keys = ap length c.locked-keys.ensures.keys in
     let locked = length-map c.args.parts.now.cache.locked (λ e. e.0) in
     let limit = c.requires.files.cache.limit in
-    let first = ap length c.push_keys.ensures in
-    let whole = length-append c.empty-list.result (map entry_of ds) in
-    let mapped = length-map ds entry_of in
-    let second = ap length c.push_keys-2.ensures in
-    let whole_2 = length-append c.push_keys.new.self (map entry_of ss) in
-    let mapped_2 = length-map ss entry_of in
     let few = c.requires.few in
     omega (arith, c.inode_blocks.ensures, c.len.ensures)
 
 pub returns-clause-entries : goal.returns-clause-entries
 returns-clause-entries c =
-    collected c.args.parts.now c.empty-list.result c.push_keys.new.self c.push_keys-2.new.self c.push_inodes.new.self c.locked-keys.result.now c.inode_blocks.result
-    c.empty-list.ensures c.push_keys.ensures c.push_keys-2.ensures c.push_inodes.ensures c.locked-keys.ensures.keys (omega (arith, c.inode_blocks.ensures, c.len.ensures))
+    collected c.args.parts.now c.loop-pass.list c.push_inodes.new.self c.locked-keys.result.now c.inode_blocks.result (whole c) c.push_inodes.ensures
+    c.locked-keys.ensures.keys (omega (arith, c.inode_blocks.ensures, c.len.ensures))
 
 pub returns-clause-valid : goal.returns-clause-valid
 returns-clause-valid c = subst (All IsEntry) (sym (returns-clause-entries c)) (all_entries c.args.parts.now c.requires.files)

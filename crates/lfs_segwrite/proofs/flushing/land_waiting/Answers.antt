@@ -46,6 +46,7 @@ lands c =
     record {
       staged = c.requires.staged;
       is = is_waiting c;
+      can = c.requires.block;
       other = c.requires.other;
       waits = subst (λ k. IsLocked k c.args.parts.now.cache) (key_same c) c.requires.waits;
       free = λ key locked number. c.requires.free key locked (number ∙ own c);

@@ -69,7 +69,7 @@ move_live-requires c = record {
       let has = waiting_record p v may.is in
       let same = tree_from-of p v.number v has (c.requires.files.files v.number (fields_of v) has) in
       let is : address (tree_of p v.number) (way_of (code_of c.args.block)) ≡ c.address_of-from.result =
-      ap (address (tree_of p v.number)) (way_of-code_of c.args.block) ∙ sym (c.address_of-from.ensures ∙ ap (λ t. address t (way_to c.args.block)) same) in
+      ap (address (tree_of p v.number)) (way_of-code_of c.args.block may.can) ∙ sym (c.address_of-from.ensures ∙ ap (λ t. address t (way_to c.args.block)) same) in
       let w = way_some c.args.block may.can may.other in
       let tables = ap (λ (l : LogParts). l.tables) (c.set_address.ensures.set w.0 w.1 w.2).log ∙ c.append_block-to.ensures.put.tables in
       subst (λ (t : Tables). 128 * units (code_of c.args.block) ≤ live_of t (c.address_of-from.result / 64)) (sym tables)
@@ -145,7 +145,7 @@ returns-clause-log c =
     let has = waiting_record p v may.is in
     let same = tree_from-of p v.number v has (c.requires.files.files v.number (fields_of v) has) in
     let is : address (tree_of p v.number) (way_of (code_of b)) ≡ c.address_of-from.result =
-    ap (address (tree_of p v.number)) (way_of-code_of b) ∙ sym (c.address_of-from.ensures ∙ ap (λ t. address t (way_to b)) same) in
+    ap (address (tree_of p v.number)) (way_of-code_of b may.can) ∙ sym (c.address_of-from.ensures ∙ ap (λ t. address t (way_to b)) same) in
     let w = way_some b may.can may.other in
     let st = steps c w.0 w.1 w.2 in
     let taken = c.move_live.ensures.step (log_state p).at v.number (place-block p v.number (code_of b) may.other ∙ ap (λ n. 4 * n) is) in

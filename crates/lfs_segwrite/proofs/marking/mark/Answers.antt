@@ -1,13 +1,34 @@
-use Rattle.std.proofs.Common.{ℕ, Result, Ok, Err, IfOk}
+use Rattle.std.proofs.Common.{ℕ, Result, Ok, Err, IfOk, OnErr, OnOk, inl, inr, sym, subst, arith}
+use Rattle.lfs_segwrite.specs.Marking.{LacksRoomFor}
 use Rattle.lfs_segwrite.proofs.MarkedLemmas.{marks_after}
 use Rattle.lfs_segwrite.proofs.marking.mark.Goals as goal
 
-if_ok : {E : Type 0} (r : Result ℕ E) (P Q : ℕ → Type 0) → ((n : ℕ) → P n → Q n) → IfOk r P → IfOk r Q
-if_ok (Ok n) P Q f p = f n p
-if_ok (Err e) P Q f p = tt
+if_ok : {E : Type 0} (r : Result ℕ E) (P Q : ℕ → Type 0) (R : Type 0) → ((n : ℕ) → P n → R → Q n) → IfOk r P → OnOk r R → IfOk r Q
+if_ok (Ok n) P Q R f p s = f n p s
+if_ok (Err e) P Q R f p s = tt
+
+on_err : {T E : Type 0} (r : Result T E) (P Q R : Type 0) → (P → Q → R) → OnErr r P → OnErr r Q → OnErr r R
+on_err (Ok n) P Q R f p q = tt
+on_err (Err e) P Q R f p q = f p q
 
 pub returns-clause-marked : goal.returns-clause-marked
 returns-clause-marked c =
-    if_ok c.mark_settled.result _ _ (λ count again.
+    if_ok c.mark_settled.result _ _ _ (λ count again last.
     marks_after c.args.marks.now count c.args.parts.now c.write_waiting.new.parts c.mark_settled.new.parts c.requires.store c.write_waiting.ensures.store
-    c.mark_settled.ensures.store c.write_waiting.ensures again) c.mark_settled.ensures.marked
+    c.mark_settled.ensures.store c.write_waiting.ensures again (λ few fewer. last (c.has_few_clean-careful.ensures.1 few) fewer)) c.mark_settled.ensures.marked
+    c.mark_settled.ensures.last
+
+pub returns-clause-lacking : goal.returns-clause-lacking
+returns-clause-lacking c =
+    on_err c.mark_settled.result _ _ _ (λ same lacks. subst (LacksRoomFor c.args.marks.now) (sym same) lacks) c.mark_settled.ensures.refused
+    c.mark_settled.ensures.lacking
+
+pub returns-clause-reserved : goal.returns-clause-reserved
+returns-clause-reserved c =
+    on_err c.mark_settled.result _ _ _ (λ same why. elim why [
+      | inl careful ↦ c.has_few_clean-careful.ensures.0 careful
+      | inr none ↦ elim c.write_waiting.ensures.left [
+        | inl here ↦ let clean = here.2 in omega arith
+        | inr opened ↦ let clean = opened.1 in omega arith
+      ]
+    ]) c.mark_settled.ensures.refused c.mark_settled.ensures.reserved

@@ -3,7 +3,8 @@ use Rattle.std.proofs.lemmas.Bool.{cases_lt}
 use Rattle.lfs_segments.specs.Memory.{room_of}
 use Rattle.lfs_staging.specs.declared.parts.Parts.{Parts}
 use Rattle.lfs_staging.specs.Keys.{log_state}
-use Rattle.lfs_segwrite.specs.Marking.{AreNamed}
+use Rattle.lfs_log.specs.Parts.{LogParts}
+use Rattle.lfs_segwrite.specs.Marking.{AreNamed, LacksRoomToMark, LeavesCleanable}
 use Rattle.lfs_staging.proofs.KeptLemmas.{store_staged}
 use Rattle.lfs_segwrite.proofs.MarkedLemmas.{marked_content, marks_again, settled_still, staged_fits}
 use Rattle.lfs_segwrite.proofs.NamedLemmas.{named_kept}
@@ -13,25 +14,25 @@ are_named : (c : goal.After-stage_named-arg-1) → AreNamed (log_state c.args.pa
 are_named c = subst (AreNamed (log_state c.args.parts.now) c.args.marks.now) (sym c.items-infos.ensures.items) c.named-named.ensures.named
 
 pub stage_named-requires-clause-settled : goal.stage_named-requires-clause-settled
-stage_named-requires-clause-settled c = settled_still c.args.parts.now c.make_room.new.parts c.in_ok-make_room.ensures.files c.requires.settled
+stage_named-requires-clause-settled c = settled_still c.args.parts.now c.make_room_to_mark.new.parts c.in_ok-make_room_to_mark.ensures.files c.requires.settled
 
 pub stage_named-requires-clause-staged : goal.stage_named-requires-clause-staged
 stage_named-requires-clause-staged c =
-    store_staged c.make_room.new.parts c.in_ok-make_room.ensures.store
+    store_staged c.make_room_to_mark.new.parts c.in_ok-make_room_to_mark.ensures.store
 
 pub stage_named-requires-clause-named : goal.stage_named-requires-clause-named
 stage_named-requires-clause-named c k d low =
-    named_kept (log_state c.args.parts.now) (log_state c.make_room.new.parts) _ c.in_ok-make_room.ensures.files.keys ((are_named c).only k d low)
+    named_kept (log_state c.args.parts.now) (log_state c.make_room_to_mark.new.parts) _ c.in_ok-make_room_to_mark.ensures.files.keys ((are_named c).only k d low)
 
 pub flush-requires-clause-room : goal.flush-requires-clause-room
 flush-requires-clause-room c =
-    staged_fits c.make_room.new.parts c.stage_named.new.parts c.items-infos.result.now c.stage_named.ensures
-    (subst (λ n. n ≤ room_of c.make_room.new.parts.log.memory) c.blocks_to_mark.ensures.blocks c.in_ok-make_room.ensures.room)
+    staged_fits c.make_room_to_mark.new.parts c.stage_named.new.parts c.items-infos.result.now c.stage_named.ensures
+    (subst (λ n. n ≤ room_of c.make_room_to_mark.new.parts.log.memory) c.blocks_to_mark.ensures.blocks c.in_ok-make_room_to_mark.ensures.room)
 
-fewer : (c : goal.After-flush) → c.make_room.new.parts.log.clean ≤ c.args.parts.now.log.clean
+fewer : (c : goal.After-flush) → c.make_room_to_mark.new.parts.log.clean ≤ c.args.parts.now.log.clean
 fewer c = elim (cases_lt (room_of c.args.parts.now.log.memory) c.blocks_to_mark.result) [
-  | inl short ↦ let opened = (c.in_ok-make_room.ensures.opened short).1 in omega arith
-  | inr room ↦ let same : c.make_room.new.parts.log.clean ≡ c.args.parts.now.log.clean = ap (λ (p : Parts). p.log.clean) (c.in_ok-make_room.ensures.enough room) in omega arith
+  | inl short ↦ let opened = (c.in_ok-make_room_to_mark.ensures.opened short).1 in omega arith
+  | inr room ↦ let same : c.make_room_to_mark.new.parts.log.clean ≡ c.args.parts.now.log.clean = ap (λ (p : Parts). p.log.clean) (c.in_ok-make_room_to_mark.ensures.enough room) in omega arith
 ]
 
 are_last : (c : goal.After-flush) → AreNamed (log_state c.args.parts.now) c.args.marks.now c.items-infos.result.now
@@ -39,22 +40,45 @@ are_last c = subst (AreNamed (log_state c.args.parts.now) c.args.marks.now) (sym
 
 pub returns-clause-content : goal.returns-clause-content
 returns-clause-content c =
-    marked_content c.args.parts.now c.make_room.new.parts c.stage_named.new.parts c.flush.new.parts c.args.marks.now c.items-infos.result.now
-    c.in_ok-make_room.ensures.files c.stage_named.ensures c.flush.ensures (are_last c) (fewer c)
+    marked_content c.args.parts.now c.make_room_to_mark.new.parts c.stage_named.new.parts c.flush.new.parts c.args.marks.now c.items-infos.result.now
+    c.in_ok-make_room_to_mark.ensures.files c.stage_named.ensures c.flush.ensures (are_last c) (fewer c)
 
 pub returns-clause-marked : goal.returns-clause-marked
 returns-clause-marked c =
     let old = c.args.parts.now in
-    let mid = c.make_room.new.parts in
-    let room = c.in_ok-make_room.ensures in
+    let mid = c.make_room_to_mark.new.parts in
+    let room = c.in_ok-make_room_to_mark.ensures in
     marks_again old mid c.stage_named.new.parts c.flush.new.parts c.args.marks.now c.items-infos.result.now
     room.files c.stage_named.ensures c.flush.ensures (are_last c) (fewer c)
     (subst (λ n. n ≤ room_of old.log.memory → mid ≡ old) c.blocks_to_mark.ensures.blocks room.enough)
     (subst (λ n. room_of old.log.memory < n → mid.log.clean + 1 ≡ old.log.clean) c.blocks_to_mark.ensures.blocks (λ short. (room.opened short).1))
 
+pub returns-clause-last : goal.returns-clause-last
+returns-clause-last c = λ care less.
+    record {
+      named = c.items-infos.result.now;
+      are_named = are_last c;
+      leaves =
+          subst (λ n. LeavesCleanable n c.args.parts.now) c.blocks_to_mark.ensures.blocks
+          (c.in_ok-make_room_to_mark.ensures.last care
+          (let flushed = c.flush.ensures.clean in
+          let staged : c.stage_named.new.parts.log.clean ≡ c.make_room_to_mark.new.parts.log.clean = ap (λ (l : LogParts). l.clean) c.stage_named.ensures.same.log in
+          omega arith));
+    }
+
 on_err : {T E : Type 0} (r : Result T E) (P : Type 0) → P → OnErr r P
 on_err (Ok x) P p = tt
 on_err (Err e) P p = p
 
-pub returns-in_err-make_room-clause-reserved : goal.returns-in_err-make_room-clause-reserved
-returns-in_err-make_room-clause-reserved c = on_err c.from_residual.result (c.args.parts.now.log.clean ≤ 0) c.in_err-make_room.ensures.reserved
+pub returns-in_err-make_room_to_mark-clause-reserved : goal.returns-in_err-make_room_to_mark-clause-reserved
+returns-in_err-make_room_to_mark-clause-reserved c = on_err c.from_residual.result _ c.in_err-make_room_to_mark.ensures.reserved
+
+pub returns-in_err-make_room_to_mark-clause-lacking : goal.returns-in_err-make_room_to_mark-clause-lacking
+returns-in_err-make_room_to_mark-clause-lacking c =
+    on_err c.from_residual.result _ (record {
+      named = c.items-infos.result.now;
+      are_named = subst (AreNamed (log_state c.args.parts.now) c.args.marks.now) (sym c.items-infos.ensures.items) c.named-named.ensures.named;
+      lacks =
+          subst (λ n. LacksRoomToMark n c.args.parts.now) c.blocks_to_mark.ensures.blocks
+          c.in_err-make_room_to_mark.ensures.lacking;
+    })

@@ -6,9 +6,9 @@ use Rattle.lfs_bmap.specs.Blocks.{code_of}
 use Rattle.lfs_staging.specs.Keys.{log_state}
 use Rattle.lfs_segwrite.specs.Marking.{StagesAgain, code_named}
 use Rattle.lfs_staging.specs.View.{record_of}
-use Rattle.lfs_segwrite.proofs.AgainLemmas.{place_may, place_used, place_within}
+use Rattle.lfs_segwrite.proofs.AgainLemmas.{place_address, place_may, place_used, place_within}
 use Rattle.lfs_staging.proofs.FileLemmas.{given_record}
-use Rattle.lfs_segwrite.proofs.NamedLemmas.{named_block, named_there}
+use Rattle.lfs_segwrite.proofs.NamedLemmas.{named_block, named_place, named_there}
 use Rattle.lfs_segwrite.proofs.marking.stage_info.Goals as goal
 
 pub record-requires : goal.record-requires
@@ -40,6 +40,17 @@ stage_again-requires-clause-within c = λ other.
     let there = (named_there (log_state p) info c.requires.named).0 in
     let found = c.in-Some-from_code.ensures.found in
     place_within p info.ino (code_named info.lbn) c.requires.staged there c.in-Some.inode (here c) c.in-Some-from_code.block found.0 (found.1 ∙ c.code_named.ensures) other
+
+pub stage_again-requires-clause-here : goal.stage_again-requires-clause-here
+stage_again-requires-clause-here c = λ other.
+    let p = c.args.parts.now in
+    let info = c.args.info.now in
+    let code = code_named info.lbn in
+    let there = (named_there (log_state p) info c.requires.named).0 in
+    let found = c.in-Some-from_code.ensures.found in
+    let is = found.1 ∙ c.code_named.ensures in
+    place_address p info.ino code c.requires.staged there c.in-Some.inode (here c) c.in-Some-from_code.block found.0 is (λ none. other (is ∙ none)) info.addr
+    (named_place (log_state p) info c.requires.named)
 
 pub unreachable-requires-in-None : goal.unreachable-requires-in-None
 unreachable-requires-in-None c =

@@ -5,4 +5,4 @@ use Rattle.lfs_segwrite.proofs.collecting.EntryList.push_keys.Given as goal
 
 -- the entries of the keys so far
 abbrev pub invariant-loop-key : goal.invariant-loop-key
-invariant-loop-key l = l.self ≡ l.initial.self ++ map entry_of (filter (is_of l.of_data) (take l.key-index l.keys))
+invariant-loop-key l = l.self ≡ l.initial.self ++ map entry_of (filter (is_of l.pass) (take l.key-index l.keys))

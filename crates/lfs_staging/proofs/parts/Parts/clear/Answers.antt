@@ -45,7 +45,7 @@ from_is c =
     let p = c.args.self.now in let v = c.args.inode.now in
     let has = waiting_record p v c.requires.is in
     let same = tree_from-of p v.number v has (c.requires.may.staged.whole.files v.number (fields_of v) has) in
-    ap (address (tree_of p v.number)) (way_of-code_of c.args.block) ∙ sym (c.address_of-from.ensures ∙ ap (λ t. address t (way_to c.args.block)) same)
+    ap (address (tree_of p v.number)) (way_of-code_of c.args.block c.requires.may.can) ∙ sym (c.address_of-from.ensures ∙ ap (λ t. address t (way_to c.args.block)) same)
 
 log_same : (c : goal.After-move_live-arg-1) → c.set_address.new.self.log ≡ c.args.self.now.log
 log_same c =
@@ -61,7 +61,7 @@ move_live-requires c =
     let lies = lies_in p v.number 0 low laid staged.log in
     let inside = lies.each c.args.block may.can in
     let is = from_is c in
-    let from = sym is ∙ ap (address (tree_of p v.number)) (way_of-code_of c.args.block) in
+    let from = sym is ∙ ap (address (tree_of p v.number)) (way_of-code_of c.args.block c.requires.may.can) in
     let many = ap (λ (l : LogParts). l.memory.segments) (log_same c) in
     let least = laid.at_least in
     record {
@@ -114,7 +114,7 @@ returns c =
     let has = waiting_record p v c.requires.is in
     let same = tree_from-of p v.number v has (may.staged.whole.files v.number (fields_of v) has) in
     let is : address (tree_of p v.number) (way_of (code_of b)) ≡ c.address_of-from.result
-    = ap (address (tree_of p v.number)) (way_of-code_of b) ∙ sym (c.address_of-from.ensures ∙ ap (λ t. address t (way_to b)) same) in
+    = ap (address (tree_of p v.number)) (way_of-code_of b may.can) ∙ sym (c.address_of-from.ensures ∙ ap (λ t. address t (way_to b)) same) in
     let at : (log_state p).at v.number (code_of b) ≡ 4 * c.address_of-from.result = place-block p v.number (code_of b) may.other ∙ ap (λ a. 4 * a) is in
     let step = c.move_live.ensures.step (log_state p).at v.number at in
     let left = subst (λ (l : LogParts). Assigns (log.log_state l (log_state p).at) (log.log_state q.log (placed (log_state p).at v.number (code_of b) 0)) v.number (code_of b) 0) log_is step in

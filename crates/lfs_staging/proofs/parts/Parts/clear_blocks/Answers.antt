@@ -8,7 +8,8 @@ loop-index-init c = clears_none c.args.self.now c.args.ino c.args.first c.args.e
 
 pub clear_block-requires : goal.clear_block-requires
 clear_block-requires c =
-    may_clear c.args.self.now c.loop-index.self c.args.ino c.args.first c.loop-index.index c.args.end c.requires.may c.loop-index.invariant (omega (arith, c.loop-index-test.true))
+    may_clear c.args.self.now c.loop-index.self c.args.ino c.args.first c.loop-index.index c.args.end c.requires.may c.loop-index.invariant
+    (omega (arith, c.loop-index.auto.index)) (omega (arith, c.loop-index-test.true))
 
 pub loop-index-preserved : goal.loop-index-preserved
 loop-index-preserved c =

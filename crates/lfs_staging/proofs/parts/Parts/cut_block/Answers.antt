@@ -1,9 +1,9 @@
-use Rattle.std.proofs.Common.{sym, ap, ◌∙◌, subst, arith, ◌<◌}
+use Rattle.std.proofs.Common.{◌<◌, sym, ap, ◌∙◌, subst, arith}
 use Rattle.lfs_inodes.specs.Reading.{fields_of}
 use Rattle.lfs_bmap.specs.Reading.{read}
 use Rattle.lfs_bmap.specs.Ways.{data_way}
 use Rattle.lfs_staging.specs.View.{LiesIn, blocks_of, tree_of}
-use Rattle.lfs_staging.proofs.CutLemmas.{cut_one}
+use Rattle.lfs_staging.proofs.CutLemmas.{cut_one, cut_zeros}
 use Rattle.lfs_staging.proofs.FileLemmas.{tree_from-of}
 use Rattle.lfs_staging.proofs.ReadLemmas.{data_block-read}
 use Rattle.lfs_staging.proofs.parts.Parts.cut_block.Goals as goal
@@ -15,9 +15,9 @@ block_of-requires-clause-inside c =
     let same = tree_from-of p v.number v c.requires.may.here (c.requires.may.files.files v.number (fields_of v) c.requires.may.here) in
     subst (LiesIn (blocks_of p)) (sym same) c.requires.may.inside
 
-pub stage_block-requires-clause-version : goal.stage_block-requires-clause-version
-stage_block-requires-clause-version c =
-    (c.requires.may.files.files c.args.inode.now.number (fields_of c.args.inode.now) c.requires.may.here).own_version
+pub stage_data-requires-clause-zeros : goal.stage_data-requires-clause-zeros
+stage_data-requires-clause-zeros c =
+    cut_zeros c.args.index c.args.len c.args.inode.now.size c.block_of.result.now c.cut_piece.new.block c.cut_piece.ensures c.requires.less
 
 pub returns : goal.returns
 returns c =
@@ -29,5 +29,5 @@ returns c =
     let inside = c.requires.within in
     let low : c.args.index < 140 = omega arith in
     let block = c.block_of.ensures ∙ ap (λ t. read t (data_way c.args.index)) same ∙ sym (data_block-read (tree_of p v.number) c.args.index low) in
-    cut_one p c.stage_block.new.self v c.args.index c.args.len c.block_of.result.now c.cut_piece.new.block c.requires.may c.requires.staged c.requires.parents
-    c.stage_block.ensures inside block c.cut_piece.ensures c.requires.less
+    cut_one p c.stage_data.new.self v c.args.index c.args.len c.block_of.result.now c.cut_piece.new.block (c.stage_data.ensures.kept 0 c.requires.staged)
+    c.stage_data.ensures.staged block c.cut_piece.ensures

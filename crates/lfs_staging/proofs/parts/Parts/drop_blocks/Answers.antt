@@ -1,17 +1,19 @@
-use Rattle.lfs_staging.proofs.DroppingLemmas.{dropped_all, dropped_rest, may_single}
+use Rattle.std.proofs.Common.{min, sym, subst}
+use Rattle.lfs_staging.specs.Cutting.{ClearsBlocks, MayClearBetween}
+use Rattle.lfs_staging.proofs.DroppingLemmas.{drops_all, may_direct}
 use Rattle.lfs_staging.proofs.parts.Parts.drop_blocks.Goals as goal
 
-pub clear_block-requires : goal.clear_block-requires
-clear_block-requires c =
-    may_single c.args.self.now c.clear_blocks.new.self c.args.ino c.args.left c.args.blocks c.requires.may c.requires.ordered c.requires.all c.clear_blocks.ensures
-    c.if-left-le-DIRECT_BLOCKS.true c.if-blocks-gt-DIRECT_BLOCKS.true
+pub clear_blocks-requires-clause-may : goal.clear_blocks-requires-clause-may
+clear_blocks-requires-clause-may c =
+    let q = c.drop_tables.new.self in let end = c.data_run-direct.result.end in
+    subst (λ n. MayClearBetween q c.args.ino n c.min-2.result) (sym c.min.ensures)
+    (subst (λ n. MayClearBetween q c.args.ino (min c.args.left end) n) (sym c.min-2.ensures)
+    (may_direct c.args.self.now c.args.ino c.args.left c.args.blocks c.requires q c.data_run-direct.result.start end c.data_run-direct.ensures.own c.data_run-direct.ensures.start
+    c.drop_tables.ensures))
 
-pub returns-then-blocks-gt-DIRECT_BLOCKS : goal.returns-then-blocks-gt-DIRECT_BLOCKS
-returns-then-blocks-gt-DIRECT_BLOCKS c =
-    dropped_all c.args.self.now c.clear_blocks.new.self c.args.ino c.args.left c.args.blocks c.requires.may c.requires.ordered c.requires.all c.clear_blocks.ensures
-    c.clear_block.new.self c.if-left-le-DIRECT_BLOCKS.true c.if-blocks-gt-DIRECT_BLOCKS.true c.clear_block.ensures
-
-pub returns-else-left-le-DIRECT_BLOCKS : goal.returns-else-left-le-DIRECT_BLOCKS
-returns-else-left-le-DIRECT_BLOCKS c =
-    dropped_rest c.args.self.now c.clear_blocks.new.self c.args.ino c.args.left c.args.blocks c.requires.may c.requires.ordered c.requires.all c.clear_blocks.ensures
-    c.else-left-le-DIRECT_BLOCKS.either
+pub returns : goal.returns
+returns c =
+    let q = c.drop_tables.new.self in let r = c.clear_blocks.new.self in let end = c.data_run-direct.result.end in
+    drops_all c.args.self.now c.args.ino c.args.left c.args.blocks c.requires q c.data_run-direct.result.start end c.data_run-direct.ensures.own c.data_run-direct.ensures.start
+    c.drop_tables.ensures r
+    (subst (λ n. ClearsBlocks c.args.ino n (min c.args.blocks end) q r) c.min.ensures (subst (λ n. ClearsBlocks c.args.ino c.min.result n q r) c.min-2.ensures c.clear_blocks.ensures))

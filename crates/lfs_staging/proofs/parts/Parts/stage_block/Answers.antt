@@ -6,7 +6,7 @@ use Rattle.lfs_staging.proofs.parts.Parts.stage_block.Goals as goal
 
 pub returns : goal.returns
 returns c =
-    staged_block c.args.self.now _ c.args.inode.now.number c.args.inode.now.version c.code.result c.args.block c.args.bytes.now c.requires.version c.code.ensures
+    staged_block c.args.self.now _ c.args.inode.now.number c.args.inode.now.version c.code.result c.args.block c.args.bytes.now c.requires.block c.requires.version c.code.ensures
     refl refl c.write.ensures.dirty c.write.ensures.others c.write.ensures.one_more
     c.write.ensures.none_more c.write.ensures.formed
 

@@ -1,6 +1,6 @@
 use Rattle.std.proofs.Common.{arith}
 use Rattle.std.proofs.lemmas.Grind.{common_steps}
-use Rattle.lfs_segwrite.proofs.applying.reserve_of.Goals as goal
+use Rattle.lfs_segwrite.proofs.applying.give_back.Goals as goal
 
 pub returns : goal.returns
 returns c = grind (arith, common_steps)

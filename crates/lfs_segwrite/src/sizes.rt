@@ -1,0 +1,10 @@
+//! The sizes of the profile as numbers.
+
+ghost use Rattle.std.specs.Prelude.{◌≡◌};
+ghost use Rattle.lfs_segwrite.specs.declared.applying.TheConstants.{APPLIED_FRAMES, APPLIED_RECORDS};
+
+/// The constants that contracts cite by name are these numbers: a law, which does nothing.
+pub fn sizes()
+    ensures frames { APPLIED_FRAMES ≡ 15 }
+    ensures records { APPLIED_RECORDS ≡ 4 }
+{}
