@@ -23,6 +23,7 @@ use Rattle.lfs_calls.proofs.ChangedStore.{change_tree, change_shows}
 use Rattle.lfs_types.proofs.Maps.{get-insert_same, get-insert_other}
 use Rattle.lfs_types.proofs.Somewhere.{is_some_and}
 use Rattle.lfs_calls.proofs.StepLemmas.{ShownFile, shown_file, stored_regular}
+use Rattle.lfs_types.specs.declared.limits.TheConstants.{FILE_BYTES}
 use Rattle.lfs_calls.proofs.Visible.{Stored, shown_of, visible-regular}
 
 -- users see the bytes of a file as they are stored
@@ -49,7 +50,7 @@ module _ (c : Content) (w : World) (shows : Shows c w) (path : List (List ℕ)) 
   -- ---- the world after the bytes of a file were changed
 
   module _ (after : Content) (tree : IsTree w.rows) (caller : Caller) (by : List ℕ → List ℕ) (changes : ChangesBytes c after n caller by) (change : File → File)
-      (changed : change f.file ≡ record f.file { mode = mode_after caller f.file.mode; bytes = by f.file.bytes }) (fits : length (by f.file.bytes) ≤ 71680) where
+      (changed : change f.file ≡ record f.file { mode = mode_after caller f.file.mode; bytes = by f.file.bytes }) (fits : length (by f.file.bytes) ≤ FILE_BYTES) where
     abbrev new_file : File
     new_file = record f.file { mode = mode_after caller f.file.mode; bytes = by f.file.bytes }
 
@@ -128,7 +129,7 @@ module _ (c : Content) (n : ℕ) (a : Attrs) (shown : Some a ≡ shown_attrs c n
   can_set_mode mode = is_some_and _ changed_there (ap (λ (x : Attrs). x.kind) (sym same))
 
   -- a regular file may get as many bytes as fit
-  pub may_have : is_directory_kind a.kind ≡ false → (len : ℕ) → len ≤ 71680 → IsLength old_file.kind len
+  pub may_have : is_directory_kind a.kind ≡ false → (len : ℕ) → len ≤ FILE_BYTES → IsLength old_file.kind len
   may_have regular len fits = subst (λ k. IsLength k len) (sym (stored_regular c n a shown regular)) fits
 
   -- the stored file has as many bytes as its attributes say
@@ -146,7 +147,7 @@ pub change_more : (caller : Caller) (appends : Bool) (a : Attrs) (k : ℕ) (fits
 change_more caller appends a k fits denial h = (met_first fits denial None (passes-append (change_tests caller appends a k) (record { met = fits; denial = denial } ∷ []) h).1).0
 
 -- a file's size is one that it may have
-pub size_fits : (c : Content) (w : World) → Shows c w → (n : ℕ) (a : Attrs) → Some a ≡ shown_attrs c n → is_directory_kind a.kind ≡ false → a.size ≤ 71680
+pub size_fits : (c : Content) (w : World) → Shows c w → (n : ℕ) (a : Attrs) → Some a ≡ shown_attrs c n → is_directory_kind a.kind ≡ false → a.size ≤ FILE_BYTES
 size_fits c w shows n a shown regular =
     let f = shown_file c n a shown in
-    subst (λ (x : Attrs). x.size ≤ 71680) (sym f.same) (subst (λ k. IsLength k (length f.file.bytes)) (stored_regular c n a shown regular) (shows.sizes n f.file f.stored))
+    subst (λ (x : Attrs). x.size ≤ FILE_BYTES) (sym f.same) (subst (λ k. IsLength k (length f.file.bytes)) (stored_regular c n a shown regular) (shows.sizes n f.file f.stored))

@@ -1,7 +1,8 @@
 -- The tree and the store after a new name was put into a directory.
-use Rattle.std.proofs.Common.{◌≡◌, ◌≢◌, ℕ, ◌+◌, ◌*◌, ◌%◌, ◌<◌, ◌≤◌, List, [], ◌∷◌, length, None, Some, refl, sym, ap, subst, ◌∙◌, ⊎_elim, arith}
+use Rattle.std.proofs.Common.{◌≡◌, ◌≢◌, ℕ, ◌+◌, ◌*◌, ◌%◌, ◌<◌, ◌≤◌, List, [], ◌∷◌, length, Option, None, Some, refl, sym, ap, subst, ◌∙◌, ⊎_elim, arith}
 use Rattle.std.proofs.lemmas.Bool.{cases_eq}
 use Rattle.std.specs.FinMap as map
+use Rattle.std.specs.Prelude.{option_map}
 use Rattle.lfs_types.specs.Caller.{Caller}
 use Rattle.lfs_types.specs.Changes.{IsLength}
 use Rattle.lfs_types.specs.Splicing.{splice}
@@ -21,17 +22,21 @@ use Rattle.lfs_model.specs.Rules.{front, last, reached}
 use Rattle.lfs_model.specs.Effects.{new_file, with_new, least_unused}
 use Rattle.lfs_calls.specs.Content.{Shows, IsListing, FitsNowhere, KeepsOthers, block_at, listed}
 use Rattle.lfs_calls.specs.Makes.{CanEnter, EntersFirst, IsBlockOf, IsParent, IsRoom, ListsFirst, MakesFile}
+use Rattle.lfs_calls.specs.Names.{FindsNew, IsFound}
 use Rattle.lfs_model.specs.Steps.{AllUsed}
 use Rattle.lfs_model.proofs.Children.{child-new, child-new_other}
 use Rattle.lfs_calls.proofs.Crowded.{crowded}
-use Rattle.lfs_calls.proofs.Directories.{dir_file, dir_stored, file_kind, file_length, file_bytes, size_bounded, bytes_listing}
+use Rattle.lfs_calls.proofs.Directories.{dir_file, dir_stored, file_kind, file_length, file_bytes, directory_at, size_bounded, bytes_listing}
 use Rattle.lfs_model.proofs.Grown.{IsTree-grown}
 use Rattle.lfs_calls.proofs.GrownStore.{Shows-grown}
-use Rattle.lfs_calls.proofs.Listings.{IsListing-added}
+use Rattle.lfs_calls.proofs.ListedNames.{directory_still, found_now, found_still}
+use Rattle.lfs_calls.proofs.Listings.{IsListing-added, absent_at_first}
 use Rattle.lfs_calls.proofs.MakeLemmas.{grown_length, least_unused-is}
+use Rattle.lfs_types.proofs.Maps.{get-insert_other}
 use Rattle.lfs_types.proofs.Pieces.{put_over, splice-put_over}
-use Rattle.lfs_types.proofs.Somewhere.{present, is_some_and, there_of}
+use Rattle.lfs_types.proofs.Somewhere.{present, some_and, is_some_and, there_of}
 use Rattle.lfs_calls.proofs.StepLemmas.{ShownFile, attrs_reads, child_listed}
+use Rattle.lfs_types.specs.declared.limits.TheConstants.{FILE_BLOCKS, FILE_BYTES}
 use Rattle.lfs_calls.proofs.Visible.{Stored, shown_of, unused_of}
 
 -- a directory in which a new name may be put
@@ -117,7 +122,7 @@ module _ {c : Content} {w : World} (shows : Shows c w) {path : List (List ℕ)} 
       room_aligned = omega (arith, fits.off)
 
       -- and where one may
-      pub room_fits : room.off < 71680
+      pub room_fits : room.off < FILE_BYTES
       room_fits = omega (arith, fits.off, fits.fits)
 
       entry_is : IsEntry (number, last path)
@@ -144,11 +149,37 @@ module _ {c : Content} {w : World} (shows : Shows c w) {path : List (List ℕ)} 
           (grown_length Directory f.file.bytes room.off room.block refl dir_length.1 room_within room_aligned room_fits room_size dir_length.0)
           listing_after)
 
+      -- it lists the new name, and otherwise what it listed
+      pub gives_name : (before after : Content) → before ≡ c → (file : File) → file ≡ new_file caller kind dir.attrs.gid mode → MakesFile before after number file dir.number room.off room.block
+          → FindsNew c after dir.number (last path) (Some number)
+      gives_name before after same file new makes =
+          let grown : World = record w { rows = map.insert w.rows number new_row } in
+          let shown = subst (Shows after) world_is (shows_after before after same file new makes) in
+          let files : (d : ℕ) → d ≢ number → option_map (λ (r : Row). r.file) (map.get grown.rows d) ≡ option_map (λ (r : Row). r.file) (map.get w.rows d) =
+          λ d other. ap (option_map (λ (r : Row). r.file)) (get-insert_other w.rows number new_row d other) in
+          record {
+            keeps = λ d x found apart was. ⊎_elim
+                (λ e. found_in_new d x found e (ap (map.get c) e ∙ least.2) (ap (map.get after) e ∙ makes.made) (ap (λ (g : File). g.bytes) new) was)
+                (λ other. found_still c after w grown shows shown d (files d other) x found
+                (child-new_other w.rows number new_row absent below is.free tree.unique d x (λ e f. apart (sym e) (sym f))) was)
+                (cases_eq d number);
+            finds = found_now c after w grown shows shown dir.number (last path) (Some number)
+                (directory_still c after w grown shows shown dir.number (files dir.number unlike) (directory_at shows dir.number dir.attrs is.shown is.directory))
+                (child-new w.rows number new_row absent below is.free tree.unique);
+          }
+        where
+          found_in_new : (d : ℕ) (x : List ℕ) (found : Option ℕ) → d ≡ number → map.get c d ≡ None → map.get after d ≡ Some file → file.bytes ≡ [] → IsFound c d x found → IsFound after d x found
+          found_in_new d x None e free made empty none = λ _. ap (λ o. number_in x (listed (bytes_of_file o))) made ∙ ap (λ bs. number_in x (listed bs)) empty ∙ absent_at_first x []
+          found_in_new d x (Some m) e free made empty lists =
+              let used = some_and (map.get c d) (λ (g : File). g.kind ≡ Directory) lists.directory in
+              let there = used.is in
+              absurd (cc)
+
   -- ---- what the outcomes say
 
   -- a directory where the name fits nowhere has at least 140 names
-  pub crowded_in : FitsNowhere (bytes_of c dir.number) None (last path) → length (last path) ≤ 255 → 140 ≤ length (children w.rows (reached w.rows root (front path)))
-  crowded_in full short = subst (λ p. 140 ≤ length (children w.rows p)) (sym is.object)
+  pub crowded_in : FitsNowhere (bytes_of c dir.number) None (last path) → length (last path) ≤ 255 → FILE_BLOCKS ≤ length (children w.rows (reached w.rows root (front path)))
+  crowded_in full short = subst (λ p. FILE_BLOCKS ≤ length (children w.rows p)) (sym is.object)
       (crowded w.rows dir.number (bytes_of c dir.number) None (last path) (bytes_listing shows dir.number dir.attrs is.shown is.directory) full short)
 
   -- where the store has a free number, the tree has one
@@ -190,7 +221,7 @@ module _ {c : Content} {w : World} (shows : Shows c w) {path : List (List ℕ)} 
     room_ready =
         let at_file = subst (λ bs. IsRoom bs number (last path) room k) dir_bytes fits in
         record {
-          directory = is_some_and (λ (x : File). (x.kind ≡ Directory) × (length x.bytes % 512 ≡ 0) × (length x.bytes ≤ 71680) × (room.off ≤ length x.bytes)) f.stored
+          directory = is_some_and (λ (x : File). (x.kind ≡ Directory) × (length x.bytes % 512 ≡ 0) × (length x.bytes ≤ FILE_BYTES) × (room.off ≤ length x.bytes)) f.stored
               (dir_kind, dir_length.1, dir_length.0, omega (arith, at_file.off, at_file.within, dir_length.1));
           aligned = omega (arith, fits.off);
           fits = omega (arith, fits.off, fits.fits);

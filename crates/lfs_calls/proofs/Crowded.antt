@@ -15,6 +15,7 @@ use Rattle.lfs_dirs.specs.Reading.{entries_of}
 use Rattle.lfs_model.specs.World.{Rows, child, children, IsChild}
 use Rattle.lfs_calls.specs.Content.{block_at, entries_below, listed, IsListing, left_of, FitsNowhere}
 use Rattle.lfs_model.proofs.Children.{child-is}
+use Rattle.lfs_types.specs.declared.limits.TheConstants.{FILE_BLOCKS}
 use Rattle.lfs_model.proofs.Members.{number_eq-Decides, children-has}
 
 -- ---- counting
@@ -78,11 +79,11 @@ used_of-left_le None es = omega arith
 used_of-left_le (Some name) es = used_of-without_le name es
 
 -- where a new name fits nowhere, each of the 140 blocks has an entry, and each entry its row
-pub crowded : (rows : Rows) (parent : ℕ) (bytes : List ℕ) (taken : Option (List ℕ)) (name : List ℕ) → IsListing rows parent bytes → FitsNowhere bytes taken name → length name ≤ 255 → 140 ≤ length (children rows parent)
+pub crowded : (rows : Rows) (parent : ℕ) (bytes : List ℕ) (taken : Option (List ℕ)) (name : List ℕ) → IsListing rows parent bytes → FitsNowhere bytes taken name → length name ≤ 255 → FILE_BLOCKS ≤ length (children rows parent)
 crowded rows parent bytes taken name is nowhere short =
-    let count : length bytes / 512 ≡ 140 = omega (arith, nowhere.whole) in
-    let many = entries_below-many bytes 140 (λ k below.
+    let count : length bytes / 512 ≡ FILE_BLOCKS = omega (arith, nowhere.whole) in
+    let many = entries_below-many bytes FILE_BLOCKS (λ k below.
     entries-where_full (entries_of (block_at bytes k)) (length name) short (omega (arith, nowhere.full k below, used_of-left_le taken (entries_of (block_at bytes k))))) in
     let fewer = listed-le-children rows parent bytes is in
-    let all : 140 ≤ length (listed bytes) = subst (λ m. 140 ≤ length (entries_below bytes m)) (sym count) many in
+    let all : FILE_BLOCKS ≤ length (listed bytes) = subst (λ m. FILE_BLOCKS ≤ length (entries_below bytes m)) (sym count) many in
     omega (arith, all, fewer)

@@ -21,12 +21,13 @@ use Rattle.lfs_types.specs.Tree.{root}
 use Rattle.lfs_calls.proofs.ChangeLemmas.{bytes_shows, bytes_tree, stored, can_set_mode, may_have}
 use Rattle.lfs_types.proofs.Pieces.{length-resized}
 use Rattle.lfs_types.proofs.Somewhere.{is_some_and}
+use Rattle.lfs_types.specs.declared.limits.TheConstants.{FILE_BYTES}
 use Rattle.lfs_calls.proofs.StepLemmas.{shown_file}
 
 -- ---- what a store is asked
 
 module _ (c : Content) (n : ℕ) (a : Attrs) (shown : Some a ≡ shown_attrs c n) (caller : Caller) (len : ℕ)
-    (regular : is_directory_kind a.kind ≡ false) (fits : len ≤ 71680) where
+    (regular : is_directory_kind a.kind ≡ false) (fits : len ≤ FILE_BYTES) where
   abbrev by : List ℕ → List ℕ
   by old = resized old len
 
@@ -44,14 +45,14 @@ module _ (c : Content) (n : ℕ) (a : Attrs) (shown : Some a ≡ shown_attrs c n
 
 -- the store that has the cut file shows it
 pub cut_volume : {s mid : StoreState} (new : StoreState) (caller : Caller) (path : List (List ℕ)) (same : mid ≡ s) (file : Reached) (leads : InWorld s (λ w. Reaches s.content w.rows caller 0 path (Ok file)))
-    (len : ℕ) → is_directory_kind file.attrs.kind ≡ false → len ≤ 71680 → ChangesBytes mid.content new.content file.number caller (λ old. resized old len)
+    (len : ℕ) → is_directory_kind file.attrs.kind ≡ false → len ≤ FILE_BYTES → ChangesBytes mid.content new.content file.number caller (λ old. resized old len)
     → InWorld s (λ w. IsVolume new (with_change w path (cut caller len)))
 cut_volume {s} {mid} new caller path same file leads len regular fits changes w v =
     let r = leads w v in
     let object = walked-reached w.rows caller 0 0 root path file.number r.0 in
     let old = (shown_file s.content file.number file.attrs r.1).file.bytes in
     let here = subst (λ (c : Content). ChangesBytes c new.content file.number caller (λ old. resized old len)) (same_content same) changes in
-    let short : length (resized old len) ≤ 71680 = rw (length-resized old len) fits in
+    let short : length (resized old len) ≤ FILE_BYTES = rw (length-resized old len) fits in
     record {
       shows = bytes_shows s.content w v.shows path file.number file.attrs object r.1 regular new.content v.tree caller _ here (cut caller len) refl short;
       tree = bytes_tree s.content w v.shows path file.number file.attrs object r.1 regular new.content v.tree caller _ here (cut caller len) refl short;

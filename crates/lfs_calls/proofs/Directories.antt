@@ -5,13 +5,14 @@ use Rattle.std.specs.FinMap as map
 use Rattle.lfs_types.specs.Changes.{IsLength}
 use Rattle.lfs_types.specs.Kinds.{is_directory_kind}
 use Rattle.lfs_types.specs.Stored.{shown_attrs, bytes_of, bytes_of_file}
-use Rattle.lfs_types.specs.Tree.{World, Content}
+use Rattle.lfs_types.specs.Tree.{File, World, Content}
 use Rattle.lfs_types.specs.declared.attrs.Attrs.{Attrs}
 use Rattle.lfs_types.specs.declared.attrs.Kind.TheVariants.{Directory}
 use Rattle.lfs_dirs.specs.Directory.{number_in}
-use Rattle.lfs_calls.specs.Content.{HasBlocks, Shows, IsListing, listed}
+use Rattle.lfs_calls.specs.Content.{HasBlocks, IsDirectoryAt, Shows, IsListing, listed}
 use Rattle.lfs_calls.specs.Removes.{ListsName}
-use Rattle.lfs_types.proofs.Somewhere.{present}
+use Rattle.lfs_types.proofs.Somewhere.{is_some_and, present}
+use Rattle.lfs_types.specs.declared.limits.TheConstants.{FILE_BYTES}
 use Rattle.lfs_calls.proofs.StepLemmas.{ShownFile, shown_file, stored_directory}
 
 module _ {c : Content} {w : World} (shows : Shows c w) (n : ℕ) (a : Attrs) (shown : Some a ≡ shown_attrs c n) (directory : is_directory_kind a.kind ≡ true) where
@@ -47,9 +48,13 @@ module _ {c : Content} {w : World} (shows : Shows c w) (n : ℕ) (a : Attrs) (sh
   pub dir_stored : HasBlocks c n a.size
   dir_stored = record { used = dir_used; sized = dir_size; whole = size_whole }
 
+  -- it is a directory of the store
+  pub directory_at : IsDirectoryAt c n
+  directory_at = is_some_and (λ (f : File). f.kind ≡ Directory) dir_file.stored file_kind
+
   -- its size is within a file's limit
-  pub size_bounded : a.size ≤ 71680
-  size_bounded = subst (λ (x : Attrs). x.size ≤ 71680) (sym dir_file.same) file_length.0
+  pub size_bounded : a.size ≤ FILE_BYTES
+  size_bounded = subst (λ (x : Attrs). x.size ≤ FILE_BYTES) (sym dir_file.same) file_length.0
 
   -- its bytes are as many as a directory may have
   pub bytes_length : IsLength Directory (length (bytes_of c n))

@@ -12,6 +12,7 @@ pub mod EntryLemmas
 pub mod GrownStore
 pub mod LastNames
 pub mod ListLemmas
+pub mod ListedNames
 pub mod Listings
 pub mod ListingsSwapped
 pub mod ListingsTaken
@@ -19,8 +20,10 @@ pub mod MakeLemmas
 pub mod MakeOutcomes
 pub mod MoveJudging
 pub mod MovedBlocks
+pub mod MovedNames
 pub mod MovedPlaces
 pub mod MovedStore
+pub mod NameLemmas
 pub mod PathLemmas
 pub mod PlacedBlocks
 pub mod ReadLemmas

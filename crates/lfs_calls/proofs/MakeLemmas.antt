@@ -29,6 +29,7 @@ use Rattle.lfs_types.proofs.Maps.{get-insert_same, get-insert_other}
 use Rattle.lfs_types.proofs.Pieces.{splice-put_over, length-put_over}
 use Rattle.lfs_types.proofs.Somewhere.{present, is_some_and, there_of}
 use Rattle.lfs_calls.proofs.StepLemmas.{attrs_reads}
+use Rattle.lfs_types.specs.declared.limits.TheConstants.{FILE_BYTES}
 use Rattle.lfs_calls.proofs.Visible.{shown_of}
 
 -- ---- the last name of a path
@@ -50,33 +51,33 @@ pub last_of : (names parents : List (List ℕ)) (name : List ℕ) → names ≡ 
 last_of names parents name e = ap last e ∙ last-last parents name
 
 -- the tests behind the walk, by the names before the last and the last
-abbrev in_parent : Rows → Caller → ℕ → List (List ℕ) → List ℕ → List Check
-in_parent rows caller path parents name =
+abbrev in_parent : Rows → Caller → List (List ℕ) → List ℕ → List Check
+in_parent rows caller parents name =
     let dir = reached rows root parents in
-    making_tests caller (is_none (child rows dir name)) path (attrs_at rows dir) (length parents)
+    making_tests caller (is_none (child rows dir name)) (attrs_at rows dir) (length parents)
 
 -- no name may be given to the root
-pub make_root : (rows : Rows) (caller : Caller) (path : ℕ) (names : List (List ℕ)) → length names ≡ 0 → first_failing (making rows caller path names) ≡ Some (record { rule = NameFree; path = path; at = 0 })
-make_root rows caller path [] h = refl
-make_root rows caller path (x ∷ xs) h = absurd (omega arith)
+pub make_root : (rows : Rows) (caller : Caller) (names : List (List ℕ)) → length names ≡ 0 → first_failing (making rows caller names) ≡ Some (record { rule = NameFree; path = 0; at = 0 })
+make_root rows caller [] h = refl
+make_root rows caller (x ∷ xs) h = absurd (omega arith)
 
 -- a path of names before the last, and a last
-making_in : (rows : Rows) (caller : Caller) (path : ℕ) (names parents : List (List ℕ)) (name : List ℕ) → names ≡ parents ++ name ∷ [] → (length names == 0) ≡ false
-    → first_failing (making rows caller path names) ≡ first_failing (walk rows caller path 0 root parents ++ in_parent rows caller path parents name)
-making_in rows caller path names parents name e some =
+making_in : (rows : Rows) (caller : Caller) (names parents : List (List ℕ)) (name : List ℕ) → names ≡ parents ++ name ∷ [] → (length names == 0) ≡ false
+    → first_failing (making rows caller names) ≡ first_failing (walk rows caller 0 0 root parents ++ in_parent rows caller parents name)
+making_in rows caller names parents name e some =
     cond-true _ _ _ (ap not some)
-    ∙ ap (λ ys. first_failing (walk rows caller path 0 root (front ys) ++ in_parent rows caller path (front ys) (last ys))) e
-    ∙ ap (λ ps. first_failing (walk rows caller path 0 root ps ++ in_parent rows caller path ps (last (parents ++ name ∷ [])))) (front-last parents name)
-    ∙ ap (λ n. first_failing (walk rows caller path 0 root parents ++ in_parent rows caller path parents n)) (last-last parents name)
+    ∙ ap (λ ys. first_failing (walk rows caller 0 0 root (front ys) ++ in_parent rows caller (front ys) (last ys))) e
+    ∙ ap (λ ps. first_failing (walk rows caller 0 0 root ps ++ in_parent rows caller ps (last (parents ++ name ∷ [])))) (front-last parents name)
+    ∙ ap (λ n. first_failing (walk rows caller 0 0 root parents ++ in_parent rows caller parents n)) (last-last parents name)
 
-module _ (rows : Rows) (caller : Caller) (path : ℕ) (names parents : List (List ℕ)) (name : List ℕ) (e : names ≡ parents ++ name ∷ []) (count : length parents + 1 ≡ length names) where
+module _ (rows : Rows) (caller : Caller) (names parents : List (List ℕ)) (name : List ℕ) (e : names ≡ parents ++ name ∷ []) (count : length parents + 1 ≡ length names) where
   -- the tests are those of the walk to the directory, and those behind it
-  pub to_walk : first_failing (making rows caller path names) ≡ first_failing (walk rows caller path 0 root parents ++ in_parent rows caller path parents name)
-  to_walk = making_in rows caller path names parents name e (ne_eqb (length names) 0 (λ z. absurd (omega arith)))
+  pub to_walk : first_failing (making rows caller names) ≡ first_failing (walk rows caller 0 0 root parents ++ in_parent rows caller parents name)
+  to_walk = making_in rows caller names parents name e (ne_eqb (length names) 0 (λ z. absurd (omega arith)))
 
   -- where the walk is denied, the call is
-  pub make_denied : (denial : Denial) → walked rows caller path 0 root parents ≡ Err denial → first_failing (making rows caller path names) ≡ Some denial
-  make_denied denial h = to_walk ∙ walk_denied rows caller path parents _ denial h
+  pub make_denied : (denial : Denial) → walked rows caller 0 0 root parents ≡ Err denial → first_failing (making rows caller names) ≡ Some denial
+  make_denied denial h = to_walk ∙ walk_denied rows caller 0 parents _ denial h
 
 -- the directory to which the names before the last of a path lead
 pub record Way (c : Content) (w : World) (caller : Caller) (path : ℕ) (names parents : List (List ℕ)) (name : List ℕ) (n : ℕ) (a : Attrs) : Type 0 where
@@ -91,12 +92,6 @@ not_there None h = refl
 not_there (Some n) h = absurd (cc)
 
 module _ {c : Content} {w : World} {caller : Caller} {path : ℕ} {names parents : List (List ℕ)} {name : List ℕ} {n : ℕ} {a : Attrs} (way : Way c w caller path names parents name n a) where
-  abbrev failing : Option Denial
-  failing = first_failing (making w.rows caller path names)
-
-  abbrev fails_by : Rule → ℕ → Type 0
-  fails_by rule at = failing ≡ Some (record { rule = rule; path = path; at = at })
-
   parent_is : reached w.rows root parents ≡ n
   parent_is = walked-reached w.rows caller path 0 root parents n way.leads
 
@@ -108,23 +103,24 @@ module _ {c : Content} {w : World} {caller : Caller} {path : ℕ} {names parents
   pub last_is : last names ≡ name
   last_is = last_of names parents name way.names_are
 
+module _ {c : Content} {w : World} {caller : Caller} {names parents : List (List ℕ)} {name : List ℕ} {n : ℕ} {a : Attrs} (way : Way c w caller 0 names parents name n a) where
   -- the tests of the directory decide
-  pub to_tests : (at : ℕ) → at ≡ length parents → failing ≡ first_failing (making_tests caller (is_none (child w.rows n name)) path a at)
+  pub to_tests : (at : ℕ) → at ≡ length parents → first_failing (making w.rows caller names) ≡ first_failing (making_tests caller (is_none (child w.rows n name)) a at)
   to_tests at same =
-      to_walk w.rows caller path names parents name way.names_are way.count
-      ∙ walk_passed w.rows caller path parents _ n way.leads
-      ∙ ap (λ m. first_failing (making_tests caller (is_none (child w.rows m name)) path (attrs_at w.rows m) (length parents))) parent_is
-      ∙ ap (λ x. first_failing (making_tests caller (is_none (child w.rows n name)) path x (length parents))) (attrs_reads c w way.shows n a way.shown)
-      ∙ ap (λ k. first_failing (making_tests caller (is_none (child w.rows n name)) path a k)) (sym same)
+      to_walk w.rows caller names parents name way.names_are way.count
+      ∙ walk_passed w.rows caller 0 parents _ n way.leads
+      ∙ ap (λ m. first_failing (making_tests caller (is_none (child w.rows m name)) (attrs_at w.rows m) (length parents))) (parent_is way)
+      ∙ ap (λ x. first_failing (making_tests caller (is_none (child w.rows n name)) x (length parents))) (attrs_reads c w way.shows n a way.shown)
+      ∙ ap (λ k. first_failing (making_tests caller (is_none (child w.rows n name)) a k)) (sym same)
 
   -- where they are met, the directory may list the name
   pub parent_is_free : is_directory_kind a.kind ≡ true → is_none (child w.rows n name) ≡ true → IsParent c w.rows names (record { number = n; attrs = a })
   parent_is_free directory free = record {
     some = let count = way.count in omega (arith, count);
-    object = make_object;
+    object = make_object way;
     shown = way.shown;
     directory = directory;
-    free = ap (child w.rows n) last_is ∙ not_there (child w.rows n name) free;
+    free = ap (child w.rows n) (last_is way) ∙ not_there (child w.rows n name) free;
   }
 
 -- ---- what the store is asked
@@ -201,7 +197,7 @@ all_used c w shows numbers used n low high =
     present (shown_of c w shows n f.value f.is).there
 
 -- a directory with a block written has a length that it may have
-pub grown_length : (k : Kind) (bytes : List ℕ) (off : ℕ) (block : List ℕ) → k ≡ Directory → length bytes % 512 ≡ 0 → off ≤ length bytes → off % 512 ≡ 0 → off < 71680 → length block ≡ 512 → length bytes ≤ 71680
+pub grown_length : (k : Kind) (bytes : List ℕ) (off : ℕ) (block : List ℕ) → k ≡ Directory → length bytes % 512 ≡ 0 → off ≤ length bytes → off % 512 ≡ 0 → off < FILE_BYTES → length block ≡ 512 → length bytes ≤ FILE_BYTES
     → IsLength k (length (splice bytes off block))
 grown_length k bytes off block kind whole within aligned fits size bounded =
     let is : length (splice bytes off block) ≡ off + length block + (length bytes - (off + length block)) =

@@ -21,6 +21,7 @@ use Rattle.lfs_calls.specs.Makes.{EntersFirst, request_for}
 use Rattle.lfs_calls.specs.Outcomes.{IsOutcome}
 use Rattle.lfs_model.specs.Steps.{AllUsed, IsChanging, after_answer}
 use Rattle.lfs_calls.specs.Calls.{LooksOn, resource_of}
+use Rattle.lfs_types.specs.declared.limits.TheConstants.{FILE_BLOCKS}
 use Rattle.lfs_calls.proofs.WriteLemmas.{refused_outcome}
 
 -- such a call changes files
@@ -43,7 +44,7 @@ module _ (s : StoreState) (w : World) (caller : Caller) (path : List (List ℕ))
   may_be kind answer = IsOutcome s w caller (request_for kind path mode) answer
 
   -- a call that the rules deny
-  pub make_denial : (kind : Kind) (denial : Denial) → first_failing (making w.rows caller 0 path) ≡ Some denial → may_be kind (Denied denial)
+  pub make_denial : (kind : Kind) (denial : Denial) → first_failing (making w.rows caller path) ≡ Some denial → may_be kind (Denied denial)
   make_denial Regular denial h = h
   make_denial Directory denial h = h
 
@@ -52,7 +53,7 @@ module _ (s : StoreState) (w : World) (caller : Caller) (path : List (List ℕ))
   make_after Regular = refl
   make_after Directory = refl
 
-  module _ (allowed : first_failing (making w.rows caller 0 path) ≡ None) where
+  module _ (allowed : first_failing (making w.rows caller path) ≡ None) where
     -- a call where no number is free
     pub make_no_inodes : (kind : Kind) → AllUsed s.shape.numbers w.rows → may_be kind (Refused NoInodes)
     make_no_inodes Regular used = (allowed, used)
@@ -60,7 +61,7 @@ module _ (s : StoreState) (w : World) (caller : Caller) (path : List (List ℕ))
 
     module _ (numbered : AllUsed s.shape.numbers w.rows → ⊥) where
       -- a call in a directory that is full
-      pub make_full : (kind : Kind) → 140 ≤ length (children w.rows (reached w.rows root (front path))) → FitsNowhere (bytes_of s.content (reached w.rows root (front path))) None (last path)
+      pub make_full : (kind : Kind) → FILE_BLOCKS ≤ length (children w.rows (reached w.rows root (front path))) → FitsNowhere (bytes_of s.content (reached w.rows root (front path))) None (last path)
           → may_be kind (Refused DirectoryFull)
       make_full Regular crowded full = ((allowed, (numbered, crowded)), full)
       make_full Directory crowded full = ((allowed, (numbered, crowded)), full)

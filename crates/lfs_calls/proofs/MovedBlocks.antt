@@ -18,6 +18,7 @@ use Rattle.lfs_calls.proofs.MakeLemmas.{grown_length}
 use Rattle.lfs_calls.proofs.MovedStore.{block_there, block_others}
 use Rattle.lfs_types.proofs.Maps.{get-insert_same, get-insert_other, get-remove_same, get-remove_other}
 use Rattle.lfs_types.proofs.Pieces.{put_over, splice-put_over, length-put_over, front_length, piece-before}
+use Rattle.lfs_types.specs.declared.limits.TheConstants.{FILE_BYTES}
 use Rattle.lfs_types.proofs.Somewhere.{Some_and, some_and, is_some_and, present}
 
 -- ---- a block that is written over another
@@ -59,7 +60,7 @@ remove_alike a b gone same q = ⊎_elim
     (cases_eq q gone)
 
 module _ (c : Content) (p : ℕ) (taken : Room) (old : IsBlockOf c p taken) where
-  abbrev f : Some_and (map.get c p) (λ f. (f.kind ≡ Directory) × (length f.bytes % 512 ≡ 0) × (length f.bytes ≤ 71680) × (taken.off ≤ length f.bytes))
+  abbrev f : Some_and (map.get c p) (λ f. (f.kind ≡ Directory) × (length f.bytes % 512 ≡ 0) × (length f.bytes ≤ FILE_BYTES) × (taken.off ≤ length f.bytes))
   f = some_and (map.get c p) _ old.directory
 
   long_block : IsLength f.value.kind (length (splice f.value.bytes taken.off taken.block))
@@ -100,7 +101,7 @@ module _ (c : Content) (p : ℕ) (taken : Room) (old : IsBlockOf c p taken) wher
   }
 
   module _ (inside : taken.off + 512 ≤ length (bytes_of c p)) (q : ℕ) (room : Room) (new : IsBlockOf c q room) where
-    abbrev h : Some_and (map.get c q) (λ f. (f.kind ≡ Directory) × (length f.bytes % 512 ≡ 0) × (length f.bytes ≤ 71680) × (room.off ≤ length f.bytes))
+    abbrev h : Some_and (map.get c q) (λ f. (f.kind ≡ Directory) × (length f.bytes % 512 ≡ 0) × (length f.bytes ≤ FILE_BYTES) × (room.off ≤ length f.bytes))
     h = some_and (map.get c q) _ new.directory
 
     -- the directory has its length after the first block too

@@ -29,6 +29,7 @@ use Rattle.lfs_calls.proofs.MovedStore.{block_there, block_others, taken_listed}
 use Rattle.lfs_model.proofs.Shrunk.{child-removed, hangs_still, unique-shrunk}
 use Rattle.lfs_types.proofs.Somewhere.{Some_and, some_and, is_some_and}
 use Rattle.lfs_calls.proofs.StepLemmas.{ShownFile}
+use Rattle.lfs_types.specs.declared.limits.TheConstants.{FILE_BYTES}
 use Rattle.lfs_calls.proofs.WithBlock.{stood-here, stood-other, length-stood}
 
 module _ {c : Content} {w : World} (shows : Shows c w) (tree : IsTree w.rows) {move : Move} {old : List ℕ} (goes : Leaves c w.rows move old) where
@@ -182,7 +183,7 @@ module _ {c : Content} {w : World} (shows : Shows c w) (tree : IsTree w.rows) {m
     -- where the new name fits nowhere in what is seen, it fits nowhere without the old one
     pub nowhere : {new : List ℕ} → FitsNowhere seen None new → FitsNowhere new_bytes (name_left move old) new
     nowhere full =
-        let whole : length new_bytes ≡ 71680 = sym seen_length ∙ full.whole in
+        let whole : length new_bytes ≡ FILE_BYTES = sym seen_length ∙ full.whole in
         record {
           whole = whole;
           full = λ j below.

@@ -32,6 +32,17 @@ AreSized c = (n : ℕ) (f : File) → map.get c n ≡ Some f → IsLength f.kind
 abbrev pub AreListed : Content → Rows → Type 0
 AreListed c rows = (n : ℕ) (f : File) → map.get c n ≡ Some f → f.kind ≡ Directory → IsListing rows n f.bytes
 
+-- a row that hangs elsewhere has the file that it had, and so has each other
+pub same_files : (w : World) (n : ℕ) (row : Row) → map.get w.rows n ≡ Some row → (parent : ℕ) (name : List ℕ) (m : ℕ)
+    → option_map (λ (r : Row). r.file) (map.get (map.insert w.rows n (record row { parent = parent; name = name })) m) ≡ option_map (λ (r : Row). r.file) (map.get w.rows m)
+same_files w n row there parent name m =
+    let moved : Row = record row { parent = parent; name = name } in
+    ⊎_elim
+    (λ e. ap (λ i. option_map (λ (r : Row). r.file) (map.get (map.insert w.rows n moved) i)) e ∙ ap (option_map (λ (r : Row). r.file)) (get-insert_same w.rows n moved)
+    ∙ sym (ap (option_map (λ (r : Row). r.file)) (ap (map.get w.rows) e ∙ there)))
+    (λ apart. ap (option_map (λ (r : Row). r.file)) (get-insert_other w.rows n moved m apart))
+    (cases_eq m n)
+
 -- ---- a block of a directory is written
 
 module _ (c : Content) (d : ℕ) (f : File) (stored : map.get c d ≡ Some f) (directory : f.kind ≡ Directory) (room : Room) where
@@ -149,19 +160,11 @@ module _ (c : Content) (w : World) (shows : Shows c w) (tree : IsTree w.rows) (n
     moved_sized : AreSized c_after
     moved_sized = sized_after (block_put p taken c) q g stored_new directory_new room taken_sized long_after
 
-    -- the moved row's file is the old one
-    same_files : (m : ℕ) → option_map (λ (r : Row). r.file) (map.get rows_moved m) ≡ option_map (λ (r : Row). r.file) (map.get w.rows m)
-    same_files m = ⊎_elim
-        (λ e. ap (λ i. option_map (λ (r : Row). r.file) (map.get rows_moved i)) e ∙ ap (option_map (λ (r : Row). r.file)) (get-insert_same w.rows n row)
-        ∙ sym (ap (option_map (λ (r : Row). r.file)) (ap (map.get w.rows) e ∙ hangs.there)))
-        (λ apart. ap (option_map (λ (r : Row). r.file)) (get-insert_other w.rows n row m apart))
-        (cases_eq m n)
-
     -- the store shows the world with the moved row
     pub Shows-moved : (after : Content) → ((m : ℕ) → map.get after m ≡ map.get c_after m) → Shows after (record w { rows = rows_moved })
     Shows-moved after same = record {
       files = λ m. ap (option_map visible) (same m) ∙ seen_same (block_put p taken c) q g stored_new directory_new room m ∙ seen_same c p f stored directory taken m
-          ∙ shows.files m ∙ sym (same_files m);
+          ∙ shows.files m ∙ sym (same_files w n hangs.row hangs.there q name m);
       sizes = λ m x e. moved_sized m x (sym (same m) ∙ e);
       listings = λ m x e. moved_listed m x (sym (same m) ∙ e);
     }

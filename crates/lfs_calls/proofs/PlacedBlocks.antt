@@ -12,6 +12,7 @@ use Rattle.lfs_calls.specs.Removes.{IsTaking}
 use Rattle.lfs_calls.specs.Renames.{IsSwap, Leaves}
 use Rattle.lfs_calls.proofs.Directories.{dir_file, file_bytes, file_kind, file_length}
 use Rattle.lfs_calls.proofs.MovedPlaces.{at_file, f, kind_old, seen, seen_length}
+use Rattle.lfs_types.specs.declared.limits.TheConstants.{FILE_BYTES}
 use Rattle.lfs_types.proofs.Somewhere.{is_some_and}
 
 module _ {c : Content} {w : World} (shows : Shows c w) (tree : IsTree w.rows) {move : Move} {old : List ℕ} (leaves : Leaves c w.rows move old)
@@ -22,7 +23,7 @@ module _ {c : Content} {w : World} (shows : Shows c w) (tree : IsTree w.rows) {m
       let t = at_file shows tree leaves taking in
       let long = file_length shows move.removal.dir.number move.removal.dir.attrs leaves.hangs.shown_dir leaves.hangs.directory in
       record {
-        directory = is_some_and (λ (x : File). (x.kind ≡ Directory) × (length x.bytes % 512 ≡ 0) × (length x.bytes ≤ 71680) × (taken.off ≤ length x.bytes)) (f shows tree leaves).stored
+        directory = is_some_and (λ (x : File). (x.kind ≡ Directory) × (length x.bytes % 512 ≡ 0) × (length x.bytes ≤ FILE_BYTES) × (taken.off ≤ length x.bytes)) (f shows tree leaves).stored
             (kind_old shows tree leaves taking, long.1, long.0, omega (arith, t.off, t.within));
         aligned = omega (arith, t.off);
         fits = omega (arith, t.off, t.within, long.0);
@@ -41,7 +42,7 @@ module _ {c : Content} {w : World} (shows : Shows c w) (tree : IsTree w.rows) {m
       let same : length (bytes_of c move.dir.number) ≡ length d.file.bytes = ap (λ (bs : List ℕ). length bs) (file_bytes shows move.dir.number move.dir.attrs leaves.shown leaves.directory) in
       let count = seen_length shows tree leaves taking in
       record {
-        directory = is_some_and (λ (x : File). (x.kind ≡ Directory) × (length x.bytes % 512 ≡ 0) × (length x.bytes ≤ 71680) × (room.off ≤ length x.bytes)) d.stored
+        directory = is_some_and (λ (x : File). (x.kind ≡ Directory) × (length x.bytes % 512 ≡ 0) × (length x.bytes ≤ FILE_BYTES) × (room.off ≤ length x.bytes)) d.stored
             (file_kind shows move.dir.number move.dir.attrs leaves.shown leaves.directory, long.1, long.0, omega (arith, r.off, r.within, count, same, long.1));
         aligned = omega (arith, r.off);
         fits = omega (arith, r.off, r.fits);
@@ -56,7 +57,7 @@ module _ {c : Content} {w : World} (shows : Shows c w) (tree : IsTree w.rows) {m
       let same : length (bytes_of c move.dir.number) ≡ length d.file.bytes = ap (λ (bs : List ℕ). length bs) (file_bytes shows move.dir.number move.dir.attrs leaves.shown leaves.directory) in
       let count = seen_length shows tree leaves taking in
       record {
-        directory = is_some_and (λ (x : File). (x.kind ≡ Directory) × (length x.bytes % 512 ≡ 0) × (length x.bytes ≤ 71680) × (room.off ≤ length x.bytes)) d.stored
+        directory = is_some_and (λ (x : File). (x.kind ≡ Directory) × (length x.bytes % 512 ≡ 0) × (length x.bytes ≤ FILE_BYTES) × (room.off ≤ length x.bytes)) d.stored
             (file_kind shows move.dir.number move.dir.attrs leaves.shown leaves.directory, long.1, long.0, omega (arith, r.off, r.within, count, same, long.1));
         aligned = omega (arith, r.off);
         fits = omega (arith, r.off, r.within, count, same, long.0);

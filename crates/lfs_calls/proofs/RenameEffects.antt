@@ -20,9 +20,9 @@ use Rattle.lfs_model.proofs.Children.{child-is}
 use Rattle.lfs_calls.proofs.Crowded.{crowded}
 use Rattle.lfs_calls.proofs.Directories.{bytes_listing}
 use Rattle.lfs_calls.proofs.MovedPlaces.{above, at_file, f, g, hung, kind_old, small, somewhere}
-use Rattle.lfs_calls.proofs.MovedStore.{Shows-moved}
+use Rattle.lfs_calls.proofs.MovedNames as names
 use Rattle.lfs_calls.proofs.SwappedRows.{swapped}
-use Rattle.lfs_calls.proofs.SwappedStore.{Shows-swapped}
+use Rattle.lfs_types.specs.declared.limits.TheConstants.{FILE_BLOCKS}
 
 module _ {c : Content} {w : World} (shows : Shows c w) (tree : IsTree w.rows) (caller : Caller) {from to : List (List ℕ)} {move : Move} (is : IsMove c w.rows from to move) where
   abbrev p : ℕ
@@ -71,10 +71,10 @@ module _ {c : Content} {w : World} (shows : Shows c w) (tree : IsTree w.rows) (c
 
     -- a directory where it fits nowhere has at least 140 names
     pub crowds : HasNoRoom c move (last from) (last to) → length (last to) ≤ 255
-        → (child w.rows (reached w.rows root (front to)) (last to) ≡ None) × (140 ≤ length (children w.rows (reached w.rows root (front to))))
+        → (child w.rows (reached w.rows root (front to)) (last to) ≡ None) × (FILE_BLOCKS ≤ length (children w.rows (reached w.rows root (front to))))
     crowds full short = (
       free_at,
-      subst (λ m. 140 ≤ length (children w.rows m)) (sym is.arrival.object)
+      subst (λ m. FILE_BLOCKS ≤ length (children w.rows m)) (sym is.arrival.object)
           (crowded w.rows q (bytes_of c q) (name_left move (last from)) (last to) (bytes_listing shows q move.dir.attrs is.arrival.shown is.arrival.directory) full short),
     )
 
@@ -110,13 +110,7 @@ module _ {c : Content} {w : World} (shows : Shows c w) (tree : IsTree w.rows) (c
     module _ (free : child w.rows q (last to) ≡ None) (after : Content) (writes : WritesBlocks c after p places.taken q places.room) where
       -- the store with both blocks shows the world after it
       pub shows_after : (numbers : ℕ) → Shows after (effect numbers w caller (Rename from to))
-      shows_after numbers =
-          let d = f shows tree leaves in
-          let e = g shows tree leaves found.taking.1 in
-          subst (Shows after) (sym (world_free free numbers))
-          (Shows-moved c w shows tree n p (last from) (hung shows tree leaves) d.file d.stored (kind_old shows tree leaves found.taking.1) places.taken found.taking.0 (at_file shows tree leaves found.taking.1)
-          q (last to) free e.value e.is e.holds places.room found.room.0 (subst (λ o. IsRoom (bytes_of_file o) n (last to) places.room found.room.0) e.is found.room.1)
-          after writes)
+      shows_after numbers = subst (Shows after) (sym (world_free free numbers)) (names.shows_free shows tree leaves free found after writes)
 
       -- the new name is listed where there was room first
       pub moves_first : MovesFirst c after w.rows from to
@@ -150,14 +144,7 @@ module _ {c : Content} {w : World} (shows : Shows c w) (tree : IsTree w.rows) (c
     module _ {places : Places} (found : AreSwapped c move (last from) (last to) places) (after : Content) (writes : SwapsBlocks c after p places.taken q places.room m) where
       -- the store with both blocks, and without the other's file, shows the world after it
       pub shows_over : (numbers : ℕ) → Shows after (effect numbers w caller (Rename from to))
-      shows_over numbers =
-          let d = f shows tree leaves in
-          let e = g shows tree leaves found.taking.1 in
-          subst (Shows after) (sym (world_over numbers))
-          (Shows-swapped c w shows tree n p (last from) (hung shows tree leaves) d.file d.stored (kind_old shows tree leaves found.taking.1) places.taken found.taking.0 (at_file shows tree leaves found.taking.1)
-          q (last to) m (child-is w.rows q (last to) m there) apart (above shows tree leaves) (small shows tree leaves)
-          e.value e.is e.holds places.room found.swap.0 (subst (λ o. IsSwap (bytes_of_file o) (last to) n places.room found.swap.0) e.is found.swap.1)
-          after writes)
+      shows_over numbers = subst (Shows after) (sym (world_over numbers)) (names.shows_over shows tree leaves m there apart found after writes)
 
       -- the new name keeps its place, with the row's number
       pub swaps_place : SwapsInPlace c after w.rows from to m

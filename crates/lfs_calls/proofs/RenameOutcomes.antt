@@ -1,5 +1,5 @@
 -- What a Rename comes to, by what has its new name.
-use Rattle.std.proofs.Common.{◌≡◌, ℕ, ◌≤◌, ◌==◌, Bool, true, false, List, length, Option, None, Some, Result, Ok, Err, inl, refl, sym, ap, subst, ◌∙◌, eq-eqb, ne_eqb}
+use Rattle.std.proofs.Common.{◌≡◌, ◌≢◌, ℕ, ◌≤◌, ◌==◌, Bool, true, false, List, length, Option, None, Some, Result, Ok, Err, inl, refl, sym, ap, subst, ◌∙◌, eq-eqb, ne_eqb}
 use Rattle.lfs_types.specs.Caller.{Caller}
 use Rattle.lfs_types.specs.StoreStates.{Follows, StoreState}
 use Rattle.lfs_types.specs.Tree.{World, root}
@@ -14,15 +14,19 @@ use Rattle.lfs_calls.specs.declared.renaming.Move.{Move}
 use Rattle.lfs_calls.specs.declared.renaming.Target.{Target}
 use Rattle.lfs_calls.specs.declared.renaming.Target.TheVariants as targets
 use Rattle.lfs_model.specs.World.{child}
-use Rattle.lfs_model.specs.Rules.{decide, front, last, reached}
+use Rattle.lfs_model.specs.Rules.{arriving, decide, first_failing, front, last, moving_tests, reached, removing}
 use Rattle.lfs_model.specs.Effects.{effect}
 use Rattle.lfs_model.specs.Steps.{after_answer}
-use Rattle.lfs_model.proofs.LawTree.{effect_tree}
+use Rattle.lfs_model.proofs.Allowed.{may_go}
+use Rattle.lfs_model.proofs.Children.{child-answer}
+use Rattle.lfs_model.proofs.Deciding.{passes-append}
+use Rattle.lfs_model.proofs.LawTree.{childless, effect_tree}
 use Rattle.lfs_types.specs.Stored.{MayRefuse}
 use Rattle.lfs_types.specs.declared.store.StoreRefusal.{StoreRefusal}
 use Rattle.lfs_types.specs.declared.store.StoreRefusal.TheVariants.{NoSpace, NoMemory}
 use Rattle.lfs_calls.specs.Calls.{answered, resource_of}
 use Rattle.lfs_calls.specs.Content.{Shows}
+use Rattle.lfs_calls.specs.Removes.{IsChildless}
 use Rattle.lfs_calls.specs.Entries.{OnServed}
 use Rattle.lfs_calls.specs.Outcomes.{FillsDirectory, IsOutcome}
 use Rattle.lfs_calls.specs.Renames.{GoesWith, HasNoRoom, IsCauseOf, IsMove, IsTarget, PlacesName, PlacesOver, PlacesRow, target_number}
@@ -75,12 +79,6 @@ module _ (s : StoreState) {w : World} (v : IsVolume s w) (caller : Caller) {from
   other_is : (t : Target) → move.target ≡ t → IsTarget s.content n t
   other_is t e = subst (IsTarget s.content n) e is.target
 
-  -- the row goes there
-  pub goes_with : (t : Target) → move.target ≡ t → GoesWith s.content w.rows move (last from) (last to) t
-  goes_with targets.Itself e = tt
-  goes_with targets.Free e = record { leaves = leaves v.shows v.tree caller is; free = found_by targets.Free e }
-  goes_with (targets.Taken there) e = record { leaves = leaves v.shows v.tree caller is; taken = found_by (targets.Taken there) e; other = (other_is (targets.Taken there) e).0 }
-
   -- the name leads to the row itself, as the judge found
   pub itself : child w.rows (reached w.rows root (front to)) (last to) ≡ Some (reached w.rows root from) → (t : Target) → move.target ≡ t → t ≡ targets.Itself
   itself there t e = by_target t e (sym (found_by t e) ∙ ap (λ m. child w.rows m (last to)) (sym is.arrival.object) ∙ there ∙ ap Some is.removal.row) where
@@ -95,6 +93,25 @@ module _ (s : StoreState) {w : World} (v : IsVolume s w) (caller : Caller) {from
   stays_so there t e result after h = subst (λ x. PlacesRow s move (last from) (last to) x result after) (itself there t e) h
 
   module _ (allowed : decide w caller (Rename from to) ≡ None) where
+    -- nothing hangs in a row that is to give way
+    gives_way : (m : ℕ) → child w.rows move.dir.number (last to) ≡ Some m → m ≢ n → IsChildless w.rows m
+    gives_way m there apart name =
+        let one = passes-append (removing w.rows caller from) _ allowed in
+        let two = passes-append (arriving w.rows caller to) _ one.1 in
+        let at : child w.rows (reached w.rows root (front to)) (last to) ≡ Some m = ap (λ k. child w.rows k (last to)) is.arrival.object ∙ there in
+        let moving = subst (λ o. first_failing (moving_tests w.rows caller from to o) ≡ None) at two.1 in
+        let goes = may_go w.rows caller from to (Some m) (ap (λ k. m == k) is.removal.row ∙ ne_eqb m n apart) moving in
+        child-answer w.rows v.tree.unique m name None (childless w.rows m (goes.gives m refl).empty name)
+
+    -- the row goes there
+    pub goes_with : (t : Target) → move.target ≡ t → GoesWith s.content w.rows move (last from) (last to) t
+    goes_with targets.Itself e = tt
+    goes_with targets.Free e = record { leaves = leaves v.shows v.tree caller is; free = found_by targets.Free e }
+    goes_with (targets.Taken there) e =
+        let taken = found_by (targets.Taken there) e in
+        let other = (other_is (targets.Taken there) e).0 in
+        record { leaves = leaves v.shows v.tree caller is; taken = taken; other = other; childless = gives_way there.number taken other }
+
     -- ---- a call that isn't served
 
     lacks : (full : Type 0) (why : NotServed) → IsCauseOf s full why → (FillsDirectory s.content w (Rename from to) → full)

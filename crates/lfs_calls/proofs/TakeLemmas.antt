@@ -1,23 +1,27 @@
 -- What a store is asked where a row is taken away, and what it shows without it.
-use Rattle.std.proofs.Common.{◌≡◌, ◌≢◌, ℕ, List, [], ◌∷◌, length, Some, refl, sym, ap, subst, ◌∙◌, arith}
-use Rattle.std.specs.Prelude.{IsSome}
+use Rattle.std.proofs.Common.{◌≡◌, ◌≢◌, ℕ, List, [], ◌∷◌, length, None, Some, refl, sym, ap, subst, ◌∙◌, ⊎_elim, arith}
+use Rattle.std.proofs.lemmas.Bool.{cases_eq}
+use Rattle.std.specs.Prelude.{IsSome, option_map}
 use Rattle.std.specs.Borrow.{Bor}
 use Rattle.std.specs.FinMap as map
 use Rattle.lfs_types.specs.Changes.{IsLength, CanApply, changed_at}
 use Rattle.lfs_types.specs.Splicing.{splice}
 use Rattle.lfs_types.specs.Stored.{bytes_of}
-use Rattle.lfs_types.specs.Tree.{File, World, Content}
+use Rattle.lfs_types.specs.Tree.{File, Row, World, Content}
 use Rattle.lfs_types.specs.declared.attrs.Kind.TheVariants.{Directory}
 use Rattle.lfs_types.specs.declared.store.Change.TheVariants.{Put, Remove}
 use Rattle.lfs_dirs.specs.Directory.{number_in}
 use Rattle.lfs_calls.specs.declared.making.Room.{Room}
 use Rattle.lfs_calls.specs.declared.removing.Removal.{Removal}
-use Rattle.lfs_model.specs.World.{IsChild, IsTree}
+use Rattle.lfs_model.specs.World.{IsChild, IsTree, child}
 use Rattle.lfs_model.specs.Effects.{without_row}
 use Rattle.lfs_calls.specs.Content.{Shows, listed}
-use Rattle.lfs_calls.specs.Removes.{HangsAs, IsTaking, TakesFile}
+use Rattle.lfs_calls.specs.Names.{FindsNew}
+use Rattle.lfs_calls.specs.Removes.{HangsAs, IsChildless, IsTaking, TakesFile}
 use Rattle.lfs_model.proofs.Children.{child-is}
-use Rattle.lfs_calls.proofs.Directories.{dir_file, file_kind, file_length, file_bytes}
+use Rattle.lfs_model.proofs.Shrunk.{child-left_elsewhere, child-removed}
+use Rattle.lfs_calls.proofs.ListedNames.{directory_still, found_gone, found_now, found_still}
+use Rattle.lfs_calls.proofs.Directories.{dir_file, directory_at, file_kind, file_length, file_bytes}
 use Rattle.lfs_calls.proofs.ListingsTaken.{taken_length, IsListing-taken}
 use Rattle.lfs_types.proofs.Maps.{get-insert_same, get-insert_other, get-remove_same, get-remove_other}
 use Rattle.lfs_calls.proofs.ShrunkStore.{Shows-shrunk}
@@ -100,3 +104,20 @@ module _ (c : Content) (w : World) (shows : Shows c w) (tree : IsTree w.rows) (r
     shows_without after takes =
         Shows-shrunk c after w shows tree number dir name hung f.file put_file.bytes f.stored kind unlike takes.gone (takes.listed f.file f.stored) takes.others put_length
         (IsListing-taken w.rows tree.unique dir number name hung f.file.bytes (shows.listings dir f.file f.stored kind) size.1 room k at_file)
+
+    -- its directories list what they listed, but for the name, under which none is found
+    pub loses_name : IsChildless w.rows number → (after : Content) → TakesFile c after number dir room.off room.block → FindsNew c after dir name None
+    loses_name childless after takes =
+        let shown = shows_without after takes in
+        let left : World = without_row number w in
+        let files : (d : ℕ) → d ≢ number → option_map (λ (r : Row). r.file) (map.get left.rows d) ≡ option_map (λ (r : Row). r.file) (map.get w.rows d) =
+        λ d other. ap (option_map (λ (r : Row). r.file)) (get-remove_other w.rows number d other) in
+        record {
+          keeps = λ d x found apart was. ⊎_elim
+              (λ e. found_gone c after w shows d (λ q. ap (λ k. child w.rows k q) e ∙ childless q) (ap (map.get after) e ∙ takes.gone) x found was)
+              (λ other. found_still c after w left shows shown d (files d other) x found (child-left_elsewhere w.rows number tree.unique dir name hung d x apart) was)
+              (cases_eq d number);
+          finds = found_now c after w left shows shown dir name None
+              (directory_still c after w left shows shown dir (files dir unlike) (directory_at shows dir removal.dir.attrs is.shown_dir is.directory))
+              (child-removed w.rows number tree.unique dir name hung);
+        }

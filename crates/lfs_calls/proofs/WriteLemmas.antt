@@ -31,6 +31,7 @@ use Rattle.std.proofs.Common.{Ok, refl, eqb-true}
 use Rattle.std.specs.Prelude.{◌==◌}
 use Rattle.lfs_calls.proofs.ChangeLemmas.{size_fits, bytes_shows, bytes_tree, old_file, stored, can_set_mode, may_have, old_size}
 use Rattle.lfs_types.proofs.Somewhere.{is_some_and}
+use Rattle.lfs_types.specs.declared.limits.TheConstants.{FILE_BYTES}
 use Rattle.lfs_calls.proofs.StepLemmas.{shown_file}
 
 -- bytes put into a file make it no longer than its old end and theirs
@@ -41,14 +42,14 @@ length-splice old start most (b ∷ bs) h k = simp (length-append, length-take, 
 -- ---- what a store is asked
 
 module _ (c : Content) (n : ℕ) (a : Attrs) (shown : Some a ≡ shown_attrs c n) (caller : Caller) (start : ℕ) (bytes : Bor (List ℕ))
-    (regular : is_directory_kind a.kind ≡ false) (few : length bytes.now ≤ 4096) (size : a.size ≤ 71680) (fits : start + length bytes.now ≤ 71680) where
+    (regular : is_directory_kind a.kind ≡ false) (few : length bytes.now ≤ 4096) (size : a.size ≤ FILE_BYTES) (fits : start + length bytes.now ≤ FILE_BYTES) where
   abbrev by : List ℕ → List ℕ
   by old = splice old start bytes.now
 
   length_fits : IsLength (old_file c n a shown caller by).kind (length (splice (old_file c n a shown caller by).bytes start bytes.now))
   length_fits =
       let s = old_size c n a shown caller by in
-      may_have c n a shown caller by regular _ (length-splice _ start 71680 bytes.now (omega arith) fits)
+      may_have c n a shown caller by regular _ (length-splice _ start FILE_BYTES bytes.now (omega arith) fits)
 
   -- a store may be asked for the bytes and a mode
   pub can_put : (numbers mode : ℕ) → CanApply numbers (Put n start bytes ∷ SetAttrs n (record a { mode = mode }) ∷ []) c
@@ -64,7 +65,7 @@ module _ (c : Content) (n : ℕ) (a : Attrs) (shown : Some a ≡ shown_attrs c n
 
 module _ {s mid : StoreState} (new : StoreState) (caller : Caller) (path : List (List ℕ)) (place : Place) (same : mid ≡ s) (file : Reached) (leads : InWorld s (λ w. Reaches s.content w.rows caller 0 path (Ok file)))
     (regular : is_directory_kind file.attrs.kind ≡ false) where
-  some_put : (start b : ℕ) (bs : List ℕ) → start ≡ start_of place file.attrs.size → start + length (b ∷ bs) ≤ 71680
+  some_put : (start b : ℕ) (bs : List ℕ) → start ≡ start_of place file.attrs.size → start + length (b ∷ bs) ≤ FILE_BYTES
       → ChangesBytes mid.content new.content file.number caller (λ old. splice old start (b ∷ bs)) → InWorld s (λ w. IsVolume new (after_write w caller path place (b ∷ bs)))
   some_put start b bs begins fits changes w v =
       let r = leads w v in
@@ -74,14 +75,14 @@ module _ {s mid : StoreState} (new : StoreState) (caller : Caller) (path : List 
       let at : start_of place (length f.file.bytes) ≡ start = ap (λ (x : Attrs). start_of place x.size) (sym f.same) ∙ sym begins in
       let written_is : written caller place (b ∷ bs) f.file ≡ record f.file { mode = mode_after caller f.file.mode; bytes = splice f.file.bytes start (b ∷ bs) } =
       ap (λ n. record f.file { mode = mode_after caller f.file.mode; bytes = splice f.file.bytes n (b ∷ bs) }) at in
-      let short = length-splice f.file.bytes start 71680 (b ∷ bs) (subst (λ (x : Attrs). x.size ≤ 71680) f.same (size_fits s.content w v.shows file.number file.attrs r.1 regular)) fits in
+      let short = length-splice f.file.bytes start FILE_BYTES (b ∷ bs) (subst (λ (x : Attrs). x.size ≤ FILE_BYTES) f.same (size_fits s.content w v.shows file.number file.attrs r.1 regular)) fits in
       record {
         shows = bytes_shows s.content w v.shows path file.number file.attrs object r.1 regular new.content v.tree caller _ here (written caller place (b ∷ bs)) written_is short;
         tree = bytes_tree s.content w v.shows path file.number file.attrs object r.1 regular new.content v.tree caller _ here (written caller place (b ∷ bs)) written_is short;
       }
 
   -- the store that has the written file shows it
-  pub write_volume : (start : ℕ) (bytes : List ℕ) → (length bytes == 0) ≡ false → start ≡ start_of place file.attrs.size → start + length bytes ≤ 71680
+  pub write_volume : (start : ℕ) (bytes : List ℕ) → (length bytes == 0) ≡ false → start ≡ start_of place file.attrs.size → start + length bytes ≤ FILE_BYTES
       → ChangesBytes mid.content new.content file.number caller (λ old. splice old start bytes) → InWorld s (λ w. IsVolume new (after_write w caller path place bytes))
   write_volume start [] some begins fits changes = absurd (cc)
   write_volume start (b ∷ bs) some begins fits changes = some_put start b bs begins fits changes

@@ -4,6 +4,7 @@ pub mod Calls
 pub mod Content
 pub mod Entries
 pub mod Makes
+pub mod Names
 pub mod Outcomes
 pub mod Reaches
 pub mod Removes

@@ -25,10 +25,14 @@ pub record IsRemoval (c : Content) (rows : Rows) (path : List (List ℕ)) (remov
   pub shown_file : Some removal.file.attrs ≡ shown_attrs c removal.file.number
   pub directory : is_directory_kind removal.dir.attrs.kind ≡ true
 
+-- nothing hangs in a row
+abbrev pub IsChildless : Rows → ℕ → Type 0
+IsChildless rows n = (name : List ℕ) → child rows n name ≡ None
+
 -- such a row, in which nothing hangs
 pub record IsRemovable (c : Content) (rows : Rows) (path : List (List ℕ)) (removal : Removal) : Type 0 where
   pub is : IsRemoval c rows path removal
-  pub childless : (name : List ℕ) → child rows removal.file.number name ≡ None
+  pub childless : IsChildless rows removal.file.number
 
 -- a row hangs in a directory under a name, and the store shows both
 pub record HangsAs (c : Content) (rows : Rows) (removal : Removal) (name : List ℕ) : Type 0 where

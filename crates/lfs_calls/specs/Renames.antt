@@ -31,7 +31,7 @@ use Rattle.lfs_types.specs.declared.limits.TheConstants.{FILE_BYTES}
 use Rattle.lfs_types.specs.declared.store.StoreRefusal.TheVariants.{NoSpace, NoMemory}
 use Rattle.lfs_calls.specs.declared.not_served.NotServed.{NotServed}
 use Rattle.lfs_calls.specs.declared.not_served.NotServed.TheVariants as reasons
-use Rattle.lfs_calls.specs.Removes.{IsRemoval, HangsAs, IsTaking}
+use Rattle.lfs_calls.specs.Removes.{IsChildless, IsRemoval, HangsAs, IsTaking}
 
 -- the number of what has a name
 abbrev pub target_number : ℕ → Target → Option ℕ
@@ -108,6 +108,7 @@ pub record GoesOver (c : Content) (rows : Rows) (move : Move) (old new : List �
   pub leaves : Leaves c rows move old
   pub taken : child rows move.dir.number new ≡ Some there
   pub other : there ≢ move.removal.file.number
+  pub childless : IsChildless rows there
 
 -- the block that lists the old name, without it, and after that was written the block that lists the new one, with the
 -- moved row's number

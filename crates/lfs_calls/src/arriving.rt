@@ -10,6 +10,7 @@ ghost use Rattle.lfs_calls.specs.Volumes.{HasWorld, InWorld};
 
 use crate::directory::look_up;
 use crate::removing::is_empty_directory;
+use crate::tree::Tree;
 use crate::walking::{Reached, component, denial, reach};
 use lfs_checks::asking::ask;
 use lfs_checks::names::{may_enter, may_remove, may_replace, may_search};
@@ -29,7 +30,7 @@ pub(crate) struct Arrival {
 
 /// The directory of a row's new path, and what has the name there, or the first rule that fails on the way.
 pub(crate) fn judge_arrival<F: FileStore>(
-    store: &mut F,
+    store: &mut Tree<F>,
     cred: &Cred,
     names: &[Name],
 ) -> Result<Arrival, Denial>
@@ -52,7 +53,7 @@ pub(crate) fn judge_arrival<F: FileStore>(
 /// What has the new name, and may be replaced by a moved row, or the first rule that fails, of the directory, which stands
 /// at component `at`, and of what has the name. Only a directory is searched for names.
 pub(crate) fn judge_there<F: FileStore>(
-    store: &mut F,
+    store: &mut Tree<F>,
     cred: &Cred,
     arrival: &Arrival,
     moved: &Reached,

@@ -7,6 +7,7 @@ ghost use Rattle.lfs_calls.specs.Calls.{ChangesTo, IsCall, IsCallAt};
 ghost use Rattle.lfs_calls.specs.Volumes.{HasWorld};
 
 use crate::not_served::NotServed;
+use crate::tree::Tree;
 use crate::walking::{Reached, depth, find};
 use lfs_checks::attributes::{may_chflags, may_chmod, may_chown, mode_after};
 use lfs_types::answer::Served;
@@ -21,7 +22,7 @@ use lfs_types::store::{Change, FileStore, StoreRefusal};
 
 /// Sets the mode.
 pub fn chmod<F: FileStore>(
-    store: &mut F,
+    store: &mut Tree<F>,
     cred: &Cred,
     path: &Path,
     mode: Mode,
@@ -38,7 +39,7 @@ pub fn chmod<F: FileStore>(
 
 /// Sets the owner and the group; a caller who is not the superuser clears the set-id bits.
 pub fn chown<F: FileStore>(
-    store: &mut F,
+    store: &mut Tree<F>,
     cred: &Cred,
     path: &Path,
     uid: u32,
@@ -64,7 +65,7 @@ pub fn chown<F: FileStore>(
 
 /// Sets the flags, at this securelevel.
 pub fn chflags<F: FileStore>(
-    store: &mut F,
+    store: &mut Tree<F>,
     cred: &Cred,
     path: &Path,
     level: Level,
@@ -82,7 +83,11 @@ pub fn chflags<F: FileStore>(
 }
 
 /// Gives a file these attributes, of its kind; its bytes stay.
-fn set_attrs<F: FileStore>(store: &mut F, number: u32, attrs: Attrs) -> Result<(), StoreRefusal>
+fn set_attrs<F: FileStore>(
+    store: &mut Tree<F>,
+    number: u32,
+    attrs: Attrs,
+) -> Result<(), StoreRefusal>
     requires kind { IsSomeAnd (get (F.state store.old).content number) (λ f. f.kind ≡ attrs.kind) }
     ensures { ChangesTo (F.state store.old)
         (λ after. SetsAttrs (F.state store.old).content after number attrs) result

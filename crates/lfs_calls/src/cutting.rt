@@ -10,6 +10,7 @@ ghost use Rattle.lfs_calls.specs.Volumes.{HasWorld};
 ghost use Rattle.lfs_calls.specs.Writes.{ChangesBytes};
 
 use crate::not_served::NotServed;
+use crate::tree::Tree;
 use crate::walking::{Reached, depth, find};
 use lfs_checks::attributes::mode_after;
 use lfs_checks::bytes::may_set_length;
@@ -22,7 +23,7 @@ use lfs_types::store::{Change, FileStore, StoreRefusal};
 
 /// Cuts a file, or adds zeros to it.
 pub fn set_length<F: FileStore>(
-    store: &mut F,
+    store: &mut Tree<F>,
     cred: &Cred,
     path: &Path,
     len: u64,
@@ -40,7 +41,7 @@ pub fn set_length<F: FileStore>(
 
 /// Gives a file so many bytes, as it may have; a caller who isn't the superuser clears its set-id bits.
 fn cut<F: FileStore>(
-    store: &mut F,
+    store: &mut Tree<F>,
     cred: &Cred,
     file: &Reached,
     len: u64,

@@ -3,6 +3,7 @@
 
 mod arriving;
 pub mod attributes;
+mod cleaning;
 pub mod cutting;
 mod directory;
 pub mod listing;
@@ -12,5 +13,6 @@ pub mod reading;
 pub mod removing;
 pub mod renaming;
 pub mod serving;
+pub mod tree;
 pub mod walking;
 pub mod writing;

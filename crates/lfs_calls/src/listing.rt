@@ -14,6 +14,7 @@ ghost use Rattle.lfs_calls.specs.Volumes.{HasWorld};
 
 use crate::directory::read_block;
 use crate::not_served::NotServed;
+use crate::tree::Tree;
 use crate::walking::{depth, find};
 use lfs_checks::names::may_list;
 use lfs_dirs::entries;
@@ -30,7 +31,7 @@ use std::alloc::{AllocError, Global};
 /// The names in a directory, in byte order.
 pub fn list<F: FileStore>(
     alloc: Global,
-    store: &mut F,
+    store: &mut Tree<F>,
     cred: &Cred,
     path: &Path,
 ) -> Result<Served, NotServed>
@@ -50,7 +51,7 @@ pub fn list<F: FileStore>(
 /// The names that a directory of this size lists, as they stand in its blocks; an error where a growth was refused.
 fn names_of_directory<F: FileStore>(
     alloc: Global,
-    store: &mut F,
+    store: &mut Tree<F>,
     dir: u32,
     size: u64,
 ) -> Result<Vec<Name>, AllocError>

@@ -5,7 +5,7 @@ ghost use Rattle.std.specs.FinMap.{get};
 ghost use Rattle.lfs_types.specs.declared.path.TheConstants.{PATH_MAX};
 ghost use Rattle.lfs_types.specs.declared.block.TheConstants.{BLOCK_SIZE};
 ghost use Rattle.lfs_types.specs.Stored.{bytes_of, shown_attrs};
-ghost use Rattle.lfs_types.specs.Tree.{file_of};
+ghost use Rattle.lfs_types.specs.Tree.{Content, file_of};
 ghost use Rattle.lfs_dirs.specs.Directory.{IsDirectoryBlock};
 ghost use Rattle.lfs_dirs.specs.Reading.{entries_of};
 ghost use Rattle.lfs_model.specs.World.{child};
@@ -13,10 +13,12 @@ ghost use Rattle.lfs_model.specs.Rules.{Judges, judged, making, making_tests};
 ghost use Rattle.lfs_calls.specs.Calls.{ChangesTo, IsCall};
 ghost use Rattle.lfs_calls.specs.Volumes.{HasWorld, InWorld};
 ghost use Rattle.lfs_calls.specs.Content.{FitsNowhere};
+ghost use Rattle.lfs_calls.specs.Names.{FindsNew};
 ghost use Rattle.lfs_calls.specs.Makes.{CanEnter, CanMake, IsParent, request_for, IsRoom, StandsIn, with_block, MakesFile};
 
 use crate::directory::{look_up, read_block};
 use crate::not_served::NotServed;
+use crate::tree::Tree;
 use crate::walking::{Reached, component, denial, last_name, reach};
 use lfs_checks::asking::ask;
 use lfs_checks::names::{may_enter, may_search};
@@ -45,56 +47,54 @@ pub(crate) struct Room {
 
 /// The directory in which a new name may be put, or the first rule that fails.
 pub(crate) fn judge_make<F: FileStore>(
-    store: &mut F,
+    store: &mut Tree<F>,
     cred: &Cred,
-    path: u8,
     names: &[Name],
 ) -> Result<Reached, Denial>
     requires world { HasWorld (F.state store.old) }
     requires short { length names.now ≤ PATH_MAX }
-    ensures judge { InWorld (F.state store.old) (λ w. Judges (making w.rows cred.now path names.now)
+    ensures judge { InWorld (F.state store.old) (λ w. Judges (making w.rows cred.now names.now)
         (IsParent (F.state store.old).content w.rows names.now) result) }
     ensures state { F.state store.new ≡ F.state store.old }
 {
     let Some((name, parents)) = names.split_last() else {
-        return Err(denial(Rule::NameFree, path, 0));
+        return Err(denial(Rule::NameFree, 0, 0));
     };
     let at = component(parents);
-    let dir = reach(store, cred, path, parents)?;
-    may_make(store, cred, &dir, name, path, at)?;
+    let dir = reach(store, cred, 0, parents)?;
+    may_make(store, cred, &dir, name, at)?;
     Ok(dir)
 }
 
-/// Whether a caller may put a name into a directory, which stands at component `at` of the path of this index, or the
-/// first rule that fails. The name is looked up only where search in the directory is granted.
+/// Whether a caller may put a name into a directory, which stands at component `at` of the path, or the first rule that
+/// fails. The name is looked up only where search in the directory is granted.
 fn may_make<F: FileStore>(
-    store: &mut F,
+    store: &mut Tree<F>,
     cred: &Cred,
     dir: &Reached,
     name: &Name,
-    path: u8,
     at: u32,
 ) -> Result<(), Denial>
     requires world { HasWorld (F.state store.old) }
     requires shown { Some dir.now.attrs ≡ shown_attrs (F.state store.old).content dir.now.number }
     requires short { at < PATH_MAX }
     ensures judge { InWorld (F.state store.old) (λ w. result
-        ≡ judged (making_tests cred.now (is_none (child w.rows dir.now.number name.now)) path
+        ≡ judged (making_tests cred.now (is_none (child w.rows dir.now.number name.now))
         dir.now.attrs at)) }
     ensures state { F.state store.new ≡ F.state store.old }
 {
     let Reached { number, attrs } = *dir;
-    may_search(&attrs, cred, path, at)?;
+    may_search(&attrs, cred, 0, at)?;
     let free = look_up(store, number, attrs.size, name).is_none();
-    ask(free, Rule::NameFree, path, at + 1)?;
-    may_enter(&attrs, cred, path, at)
+    ask(free, Rule::NameFree, 0, at + 1)?;
+    may_enter(&attrs, cred, 0, at)
 }
 
 /// The first block of a directory that has room for a new entry, with that entry, else a new block at the end; None
 /// where the directory has all the blocks that it may have. The block `taken`, if there is one, is read in place of
 /// the stored one.
 pub(crate) fn find_room<F: FileStore>(
-    store: &mut F,
+    store: &mut Tree<F>,
     dir: u32,
     size: u64,
     taken: Option<&Room>,
@@ -127,7 +127,7 @@ pub(crate) fn find_room<F: FileStore>(
 
 /// The block of a directory that begins at byte `off`: that in `taken` if it begins there, else the stored one.
 pub(crate) fn seen_block<F: FileStore>(
-    store: &mut F,
+    store: &mut Tree<F>,
     dir: u32,
     off: u64,
     taken: Option<&Room>,
@@ -161,33 +161,38 @@ fn lone_entry(name: &Name, number: u32) -> Block
     }
 }
 
-/// Makes a file under a number and writes the block of its directory that lists it.
+/// Makes a file under a number and writes the block of its directory that lists it under a name.
 fn put_new<F: FileStore>(
-    store: &mut F,
+    store: &mut Tree<F>,
     number: u32,
     attrs: Attrs,
     dir: u32,
     room: &Room,
+    name: &Name,
 ) -> Result<(), StoreRefusal>
-    requires { CanMake (F.state store.old) number dir room.now }
+    requires can { CanMake (F.state store.old) number dir room.now }
+    requires finds { (after : Content) → MakesFile (F.state store.old).content after
+        number (file_of attrs []) dir room.now.off room.now.block
+        → FindsNew (F.state store.old).content after dir name.now (Some number) }
     ensures { ChangesTo (F.state store.old)
         (λ after. MakesFile (F.state store.old).content after
         number (file_of attrs []) dir room.now.off room.now.block)
         result (F.state store.new) }
 {
-    store.apply(&[
+    let changes = [
         Change::Make { ino: number, attrs },
         Change::Put {
             ino: dir,
             off: room.off,
             bytes: &room.block,
         },
-    ])
+    ];
+    store.apply_naming(&changes, dir, name, Some(number))
 }
 
 /// Makes an empty file.
 pub fn create<F: FileStore>(
-    store: &mut F,
+    store: &mut Tree<F>,
     cred: &Cred,
     path: &Path,
     mode: Mode,
@@ -201,7 +206,7 @@ pub fn create<F: FileStore>(
 
 /// Makes an empty directory.
 pub fn mkdir<F: FileStore>(
-    store: &mut F,
+    store: &mut Tree<F>,
     cred: &Cred,
     path: &Path,
     mode: Mode,
@@ -215,7 +220,7 @@ pub fn mkdir<F: FileStore>(
 
 /// Makes an empty file of this kind.
 fn make<F: FileStore>(
-    store: &mut F,
+    store: &mut Tree<F>,
     cred: &Cred,
     path: &Path,
     kind: Kind,
@@ -226,7 +231,7 @@ fn make<F: FileStore>(
         result }
 {
     let names = path.names();
-    let dir = judge_make(store, cred, 0, names)?;
+    let dir = judge_make(store, cred, names)?;
     let name = last_name(names);
     prove!(name.as_bytes().len() <= NAME_MAX);
     let Some(number) = store.least_free() else {
@@ -243,6 +248,6 @@ fn make<F: FileStore>(
         flags: FileFlags::none(),
         size: 0,
     };
-    put_new(store, number, attrs, dir.number, &room)?;
+    put_new(store, number, attrs, dir.number, &room, name)?;
     Ok(Served::Done)
 }

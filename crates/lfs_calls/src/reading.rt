@@ -7,6 +7,7 @@ ghost use Rattle.lfs_calls.specs.Calls.{IsCall};
 ghost use Rattle.lfs_calls.specs.Volumes.{HasWorld};
 
 use crate::not_served::NotServed;
+use crate::tree::Tree;
 use crate::walking::{depth, find};
 use lfs_checks::attributes::shown_size;
 use lfs_checks::bytes::may_read;
@@ -21,7 +22,11 @@ use lfs_types::store::FileStore;
 use std::alloc::Global;
 
 /// The number and the attributes of a file.
-pub fn stat<F: FileStore>(store: &mut F, cred: &Cred, path: &Path) -> Result<Served, NotServed>
+pub fn stat<F: FileStore>(
+    store: &mut Tree<F>,
+    cred: &Cred,
+    path: &Path,
+) -> Result<Served, NotServed>
     requires { HasWorld (F.state store.old) }
     ensures call { IsCall (F.state store.old) (F.state store.new) cred.now (Request.Stat path.now)
         result }
@@ -35,7 +40,7 @@ pub fn stat<F: FileStore>(store: &mut F, cred: &Cred, path: &Path) -> Result<Ser
 /// At most `len` bytes of a file from `off` on, and at most 4,096.
 pub fn read<F: FileStore>(
     alloc: Global,
-    store: &mut F,
+    store: &mut Tree<F>,
     cred: &Cred,
     path: &Path,
     off: u64,
@@ -59,7 +64,7 @@ pub fn read<F: FileStore>(
 /// The bytes of a file of this size from `off` on, at most `count`; None where a growth was refused.
 fn read_bytes<F: FileStore>(
     alloc: Global,
-    store: &mut F,
+    store: &mut Tree<F>,
     ino: u32,
     off: u64,
     size: u64,

@@ -9,11 +9,12 @@ ghost use Rattle.lfs_model.specs.World.{children};
 ghost use Rattle.lfs_calls.specs.Calls.{ChangesTo, IsCall};
 ghost use Rattle.lfs_calls.specs.Volumes.{HasWorld, InWorld, IsVolume};
 ghost use Rattle.lfs_calls.specs.Content.{HasBlocks, listed};
-ghost use Rattle.lfs_calls.specs.Removes.{HangsAs, IsRemovable, IsRemoval, IsTaking, ListsName, TakesRow};
+ghost use Rattle.lfs_calls.specs.Removes.{HangsAs, IsChildless, IsRemovable, IsRemoval, IsTaking, ListsName, TakesRow};
 
 use crate::directory::read_block;
 use crate::making::Room;
 use crate::not_served::NotServed;
+use crate::tree::Tree;
 use crate::walking::{Reached, component, denial, last_name, reach, step};
 use lfs_checks::asking::ask;
 use lfs_checks::names::{may_remove, may_unlink};
@@ -38,7 +39,7 @@ pub(crate) struct Removal {
 
 /// The row whose name may be taken away, or the first rule that fails, of those that files and directories share.
 pub(crate) fn judge_remove<F: FileStore>(
-    store: &mut F,
+    store: &mut Tree<F>,
     cred: &Cred,
     names: &[Name],
 ) -> Result<Removal, Denial>
@@ -63,7 +64,7 @@ pub(crate) fn judge_remove<F: FileStore>(
 }
 
 /// The block of a directory that lists a name, without the name, and where it goes.
-pub(crate) fn take_name<F: FileStore>(store: &mut F, dir: u32, size: u64, name: &Name) -> Room
+pub(crate) fn take_name<F: FileStore>(store: &mut Tree<F>, dir: u32, size: u64, name: &Name) -> Room
     requires { ListsName (F.state store.old).content dir size name.now }
     ensures room { (k : ℕ) × IsTaking (bytes_of (F.state store.old).content dir) name.now result k }
     ensures state { F.state store.new ≡ F.state store.old }
@@ -81,16 +82,21 @@ pub(crate) fn take_name<F: FileStore>(store: &mut F, dir: u32, size: u64, name: 
 }
 
 /// Takes away a row: its name from the directory, and the file under its number.
-fn take_row<F: FileStore>(store: &mut F, removal: &Removal, name: &Name) -> Result<(), StoreRefusal>
+fn take_row<F: FileStore>(
+    store: &mut Tree<F>,
+    removal: &Removal,
+    name: &Name,
+) -> Result<(), StoreRefusal>
     requires world { (w : World) × (IsVolume (F.state store.old) w
-        × HangsAs (F.state store.old).content w.rows removal.now name.now) }
+        × HangsAs (F.state store.old).content w.rows removal.now name.now
+        × IsChildless w.rows removal.now.file.number) }
     ensures { ChangesTo (F.state store.old)
         (λ after. TakesRow (F.state store.old).content after removal.now name.now)
         result (F.state store.new) }
 {
     let Reached { number, attrs } = removal.dir;
     let room = take_name(store, number, attrs.size, name);
-    store.apply(&[
+    let changes = [
         Change::Put {
             ino: number,
             off: room.off,
@@ -99,11 +105,16 @@ fn take_row<F: FileStore>(store: &mut F, removal: &Removal, name: &Name) -> Resu
         Change::Remove {
             ino: removal.file.number,
         },
-    ])
+    ];
+    store.apply_naming(&changes, number, name, None)
 }
 
 /// Removes a file.
-pub fn unlink<F: FileStore>(store: &mut F, cred: &Cred, path: &Path) -> Result<Served, NotServed>
+pub fn unlink<F: FileStore>(
+    store: &mut Tree<F>,
+    cred: &Cred,
+    path: &Path,
+) -> Result<Served, NotServed>
     requires { HasWorld (F.state store.old) }
     ensures { IsCall (F.state store.old) (F.state store.new) cred.now (Request.Unlink path.now)
         result }
@@ -115,7 +126,11 @@ pub fn unlink<F: FileStore>(store: &mut F, cred: &Cred, path: &Path) -> Result<S
 }
 
 /// The file that may be unlinked, or the first rule that fails.
-fn judge_unlink<F: FileStore>(store: &mut F, cred: &Cred, names: &[Name]) -> Result<Removal, Denial>
+fn judge_unlink<F: FileStore>(
+    store: &mut Tree<F>,
+    cred: &Cred,
+    names: &[Name],
+) -> Result<Removal, Denial>
     requires world { HasWorld (F.state store.old) }
     requires short { length names.now ≤ PATH_MAX }
     ensures judge { InWorld (F.state store.old) (λ w.
@@ -129,7 +144,11 @@ fn judge_unlink<F: FileStore>(store: &mut F, cred: &Cred, names: &[Name]) -> Res
 }
 
 /// Removes an empty directory.
-pub fn rmdir<F: FileStore>(store: &mut F, cred: &Cred, path: &Path) -> Result<Served, NotServed>
+pub fn rmdir<F: FileStore>(
+    store: &mut Tree<F>,
+    cred: &Cred,
+    path: &Path,
+) -> Result<Served, NotServed>
     requires { HasWorld (F.state store.old) }
     ensures { IsCall (F.state store.old) (F.state store.new) cred.now (Request.Rmdir path.now)
         result }
@@ -141,7 +160,11 @@ pub fn rmdir<F: FileStore>(store: &mut F, cred: &Cred, path: &Path) -> Result<Se
 }
 
 /// The directory that may be removed, or the first rule that fails.
-fn judge_rmdir<F: FileStore>(store: &mut F, cred: &Cred, names: &[Name]) -> Result<Removal, Denial>
+fn judge_rmdir<F: FileStore>(
+    store: &mut Tree<F>,
+    cred: &Cred,
+    names: &[Name],
+) -> Result<Removal, Denial>
     requires world { HasWorld (F.state store.old) }
     requires short { length names.now ≤ PATH_MAX }
     ensures judge { InWorld (F.state store.old) (λ w.
@@ -156,7 +179,7 @@ fn judge_rmdir<F: FileStore>(store: &mut F, cred: &Cred, names: &[Name]) -> Resu
 
 /// Whether what a Rmdir names, which stands at component `at`, may be removed, or the first rule that fails. Only a
 /// directory is searched for names.
-fn may_rmdir<F: FileStore>(store: &mut F, row: &Reached, at: u32) -> Result<(), Denial>
+fn may_rmdir<F: FileStore>(store: &mut Tree<F>, row: &Reached, at: u32) -> Result<(), Denial>
     requires world { HasWorld (F.state store.old) }
     requires shown { Some row.now.attrs ≡ shown_attrs (F.state store.old).content row.now.number }
     ensures judge { InWorld (F.state store.old) (λ w. result
@@ -169,7 +192,7 @@ fn may_rmdir<F: FileStore>(store: &mut F, row: &Reached, at: u32) -> Result<(), 
 }
 
 /// Whether a directory of this size lists no name.
-pub(crate) fn is_empty_directory<F: FileStore>(store: &mut F, dir: u32, size: u64) -> bool
+pub(crate) fn is_empty_directory<F: FileStore>(store: &mut Tree<F>, dir: u32, size: u64) -> bool
     requires { HasBlocks (F.state store.old).content dir size }
     ensures empty { IsTrue result ↔ (listed (bytes_of (F.state store.old).content dir) ≡ []) }
     ensures state { F.state store.new ≡ F.state store.old }

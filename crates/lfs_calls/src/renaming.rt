@@ -5,12 +5,13 @@ ghost use Rattle.std.specs.FinMap.{get};
 ghost use Rattle.lfs_types.specs.declared.path.TheConstants.{PATH_MAX};
 ghost use Rattle.lfs_types.specs.declared.block.TheConstants.{BLOCK_SIZE};
 ghost use Rattle.lfs_types.specs.Stored.{bytes_of, shown_attrs};
-ghost use Rattle.lfs_types.specs.Tree.{World, root};
+ghost use Rattle.lfs_types.specs.Tree.{Content, World, root};
 ghost use Rattle.lfs_types.specs.declared.rule.Rule.TheVariants.{IsNotBeneathItself};
 ghost use Rattle.lfs_model.specs.Rules.{Judges, apart_test, arriving, first_failing, front, judged, last, moving_tests, position, reached, rule_table, visited};
 ghost use Rattle.lfs_calls.specs.Calls.{ChangesTo, IsCall};
 ghost use Rattle.lfs_calls.specs.Volumes.{HasWorld, InWorld, IsVolume};
 ghost use Rattle.lfs_calls.specs.Content.{FitsNowhere};
+ghost use Rattle.lfs_calls.specs.Names.{MovesName};
 ghost use Rattle.lfs_model.specs.Walks.{is_on_way};
 ghost use Rattle.lfs_calls.specs.Makes.{IsBlockOf, with_block};
 ghost use Rattle.lfs_calls.specs.Renames.{ArePlaces, AreSwapped, CanSwap, GoesOver, GoesTo, GoesWith, HasNoRoom, IsMove, IsSwap, IsTarget, MovesOver, MovesTo, PlacesRow, PutsRow, StaysInPlace, SwapsBlocks, WritesBlocks, name_left, target_number};
@@ -23,6 +24,7 @@ use crate::arriving::{Arrival, judge_arrival, judge_there};
 use crate::making::{Room, find_room, seen_block};
 use crate::not_served::NotServed;
 use crate::removing::{Removal, judge_remove, take_name};
+use crate::tree::Tree;
 use crate::walking::{Reached, component, denial, last_name, parents_of, step};
 use lfs_checks::names::may_move;
 use lfs_dirs::{find, replaced};
@@ -67,9 +69,20 @@ struct Places {
     room: Room,
 }
 
+/// The names that a Rename takes away and gives, and the number that has them.
+#[derive(Clone, Copy)]
+struct Renaming<'a> {
+    /// The old name.
+    old: &'a Name,
+    /// The new name.
+    new: &'a Name,
+    /// The row's number.
+    number: u32,
+}
+
 /// The row that may get another name, or the first rule that fails.
 fn judge_rename<F: FileStore>(
-    store: &mut F,
+    store: &mut Tree<F>,
     cred: &Cred,
     from: &[Name],
     to: &[Name],
@@ -94,7 +107,7 @@ fn judge_rename<F: FileStore>(
 
 /// What has the new name, or the first rule that fails of those behind the way to it.
 fn judge_target<F: FileStore>(
-    store: &mut F,
+    store: &mut Tree<F>,
     cred: &Cred,
     from: &[Name],
     to: &[Name],
@@ -132,7 +145,7 @@ fn judge_target<F: FileStore>(
 
 /// Whether a row doesn't lie on the way to its new place, or the rule that fails.
 fn judge_apart<F: FileStore>(
-    store: &mut F,
+    store: &mut Tree<F>,
     cred: &Cred,
     to: &[Name],
     file: &Reached,
@@ -155,7 +168,7 @@ fn judge_apart<F: FileStore>(
 
 /// Whether a directory isn't among those through which names lead from the root, or else the rule that fails.
 fn judge_way<F: FileStore>(
-    store: &mut F,
+    store: &mut Tree<F>,
     cred: &Cred,
     names: &[Name],
     number: u32,
@@ -191,7 +204,7 @@ fn judge_way<F: FileStore>(
 /// The blocks that list a row under its new name and no more under the old one; None where the new name fits in no
 /// block of its directory.
 fn find_places<F: FileStore>(
-    store: &mut F,
+    store: &mut Tree<F>,
     planned: &Move,
     old: &Name,
     new: &Name,
@@ -220,16 +233,20 @@ fn find_places<F: FileStore>(
 
 /// Writes two blocks of directories, one after the other; where both stand at one place, the second alone.
 fn put_blocks<F: FileStore>(
-    store: &mut F,
+    store: &mut Tree<F>,
     old_dir: u32,
     taken: &Room,
     dir: u32,
     room: &Room,
+    names: &Renaming<'_>,
 ) -> Result<(), StoreRefusal>
     requires old { IsBlockOf (F.state store.old).content old_dir taken.now }
     requires old_within { taken.now.off + BLOCK_SIZE ≤ length
         (bytes_of (F.state store.old).content old_dir) }
     requires new { IsBlockOf (F.state store.old).content dir room.now }
+    requires moves { (after : Content) → WritesBlocks (F.state store.old).content after
+        old_dir taken.now dir room.now → MovesName (F.state store.old).content after
+        old_dir names.now.old.now dir names.now.new.now names.now.number }
     ensures { ChangesTo (F.state store.old)
         (λ after. WritesBlocks (F.state store.old).content after old_dir taken.now dir room.now)
         result (F.state store.new) }
@@ -239,20 +256,21 @@ fn put_blocks<F: FileStore>(
         off: room.off,
         bytes: &room.block,
     };
+    let (from, to) = ((old_dir, names.old), (dir, names.new));
     if old_dir == dir && taken.off == room.off {
-        return store.apply(&[put]);
+        return store.apply_moving(&[put], from, to, names.number);
     }
     let take = Change::Put {
         ino: old_dir,
         off: taken.off,
         bytes: &taken.block,
     };
-    store.apply(&[take, put])
+    store.apply_moving(&[take, put], from, to, names.number)
 }
 
 /// The blocks that list a row under a name that another row has, and no more under the old one.
 fn find_swap<F: FileStore>(
-    store: &mut F,
+    store: &mut Tree<F>,
     planned: &Move,
     there: u32,
     old: &Name,
@@ -280,7 +298,7 @@ fn find_swap<F: FileStore>(
 /// The block of a directory that lists a name, with another number for it, and where it goes. The block `taken`, if there
 /// is one, is read in place of the stored one.
 fn swap_number<F: FileStore>(
-    store: &mut F,
+    store: &mut Tree<F>,
     dir: u32,
     size: u64,
     taken: Option<&Room>,
@@ -307,18 +325,22 @@ fn swap_number<F: FileStore>(
 /// Writes two blocks of directories, one after the other, and removes a file; where both blocks stand at one place, the
 /// second alone is written.
 fn put_swapped<F: FileStore>(
-    store: &mut F,
+    store: &mut Tree<F>,
     old_dir: u32,
     taken: &Room,
     dir: u32,
     room: &Room,
     gone: u32,
+    names: &Renaming<'_>,
 ) -> Result<(), StoreRefusal>
     requires old { IsBlockOf (F.state store.old).content old_dir taken.now }
     requires old_within { taken.now.off + BLOCK_SIZE ≤ length
         (bytes_of (F.state store.old).content old_dir) }
     requires new { IsBlockOf (F.state store.old).content dir room.now }
     requires used { IsSome (get (F.state store.old).content gone) }
+    requires moves { (after : Content) → SwapsBlocks (F.state store.old).content after
+        old_dir taken.now dir room.now gone → MovesName (F.state store.old).content after
+        old_dir names.now.old.now dir names.now.new.now names.now.number }
     ensures { ChangesTo (F.state store.old)
         (λ after. SwapsBlocks (F.state store.old).content after old_dir taken.now dir room.now gone)
         result (F.state store.new) }
@@ -329,21 +351,22 @@ fn put_swapped<F: FileStore>(
         bytes: &room.block,
     };
     let remove = Change::Remove { ino: gone };
+    let (from, to) = ((old_dir, names.old), (dir, names.new));
     if old_dir == dir && taken.off == room.off {
-        return store.apply(&[put, remove]);
+        return store.apply_moving(&[put, remove], from, to, names.number);
     }
     let take = Change::Put {
         ino: old_dir,
         off: taken.off,
         bytes: &taken.block,
     };
-    store.apply(&[take, put, remove])
+    store.apply_moving(&[take, put, remove], from, to, names.number)
 }
 
 /// Gives a file or a directory another name, in the same directory or in another. A file that has the name gives way to a
 /// file, an empty directory to a directory.
 pub fn rename<F: FileStore>(
-    store: &mut F,
+    store: &mut Tree<F>,
     cred: &Cred,
     from: &Path,
     to: &Path,
@@ -366,7 +389,7 @@ pub fn rename<F: FileStore>(
 
 /// Puts a row in its new place, unless it has it already.
 fn place_row<F: FileStore>(
-    store: &mut F,
+    store: &mut Tree<F>,
     planned: &Move,
     old: &Name,
     new: &Name,
@@ -385,7 +408,7 @@ fn place_row<F: FileStore>(
 
 /// Puts a row in a place that is free.
 fn move_free<F: FileStore>(
-    store: &mut F,
+    store: &mut Tree<F>,
     planned: &Move,
     old: &Name,
     new: &Name,
@@ -402,13 +425,15 @@ fn move_free<F: FileStore>(
     };
     let Places { taken, room } = places;
     let (old_dir, new_dir) = (planned.removal.dir.number, planned.dir.number);
-    put_blocks(store, old_dir, &taken, new_dir, &room)?;
+    let number = planned.removal.file.number;
+    let names = Renaming { old, new, number };
+    put_blocks(store, old_dir, &taken, new_dir, &room, &names)?;
     Ok(())
 }
 
 /// Puts a row in the place of another, which is removed.
 fn move_over<F: FileStore>(
-    store: &mut F,
+    store: &mut Tree<F>,
     planned: &Move,
     there: u32,
     old: &Name,
@@ -422,5 +447,7 @@ fn move_over<F: FileStore>(
 {
     let Places { taken, room } = find_swap(store, planned, there, old, new);
     let (old_dir, new_dir) = (planned.removal.dir.number, planned.dir.number);
-    put_swapped(store, old_dir, &taken, new_dir, &room, there)
+    let number = planned.removal.file.number;
+    let names = Renaming { old, new, number };
+    put_swapped(store, old_dir, &taken, new_dir, &room, there, &names)
 }

@@ -13,6 +13,7 @@ use crate::not_served::NotServed;
 use crate::reading::{read, stat};
 use crate::removing::{rmdir, unlink};
 use crate::renaming::rename;
+use crate::tree::Tree;
 use crate::writing::write;
 use lfs_checks::level::may_set_level;
 use lfs_types::answer::Served;
@@ -26,7 +27,7 @@ use std::alloc::Global;
 /// their own. Where a Sync is served, nothing waits in the store.
 pub fn serve<F: FileStore>(
     alloc: Global,
-    store: &mut F,
+    store: &mut Tree<F>,
     level: Level,
     cred: &Cred,
     request: &Request,
@@ -57,7 +58,7 @@ pub fn serve<F: FileStore>(
 
 /// Whether the rules allow the securelevel to be set; whoever keeps the level sets it.
 fn set_level<F: FileStore>(
-    store: &mut F,
+    store: &mut Tree<F>,
     level: Level,
     cred: &Cred,
     new: Level,
@@ -70,7 +71,7 @@ fn set_level<F: FileStore>(
 }
 
 /// Has the store write what waits.
-fn sync<F: FileStore>(store: &mut F) -> Result<Served, NotServed>
+fn sync<F: FileStore>(store: &mut Tree<F>) -> Result<Served, NotServed>
     ensures call { (caller : Caller) → IsCall (F.state store.old) (F.state store.new) caller
         Request.Sync result }
     ensures synced { OnOk result (F.is_settled store.new) }

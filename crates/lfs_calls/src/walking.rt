@@ -10,6 +10,7 @@ ghost use Rattle.lfs_calls.specs.Reaches.{Reaches};
 ghost use Rattle.lfs_calls.specs.Volumes.{HasWorld, InWorld};
 
 use crate::directory::look_up;
+use crate::tree::Tree;
 use lfs_checks::names::may_search;
 use lfs_types::attrs::Attrs;
 use lfs_types::cred::Cred;
@@ -21,7 +22,7 @@ use lfs_types::store::FileStore;
 
 /// One step of a walk: from the row at component `at` to a name, or the first rule that fails.
 pub(crate) fn step<F: FileStore>(
-    store: &mut F,
+    store: &mut Tree<F>,
     cred: &Cred,
     path: u8,
     at: u32,
@@ -44,7 +45,7 @@ pub(crate) fn step<F: FileStore>(
 
 /// Where a walk from the root along names ends, or the first rule that fails on the way.
 pub(crate) fn walk<F: FileStore>(
-    store: &mut F,
+    store: &mut Tree<F>,
     cred: &Cred,
     path: u8,
     names: &[Name],
@@ -73,7 +74,7 @@ pub(crate) struct Reached {
 
 /// The file that names lead to from the root, or the first rule that fails on the way.
 pub(crate) fn reach<F: FileStore>(
-    store: &mut F,
+    store: &mut Tree<F>,
     cred: &Cred,
     path: u8,
     names: &[Name],
@@ -92,7 +93,11 @@ pub(crate) fn reach<F: FileStore>(
 }
 
 /// The file that the only path of a call leads to, or the first rule that fails on the way.
-pub(crate) fn find<F: FileStore>(store: &mut F, cred: &Cred, path: &Path) -> Result<Reached, Denial>
+pub(crate) fn find<F: FileStore>(
+    store: &mut Tree<F>,
+    cred: &Cred,
+    path: &Path,
+) -> Result<Reached, Denial>
     requires world { HasWorld (F.state store.old) }
     ensures reach { InWorld (F.state store.old)
         (λ w. Reaches (F.state store.old).content w.rows cred.now 0 path.now result) }

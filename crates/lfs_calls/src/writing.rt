@@ -10,6 +10,7 @@ ghost use Rattle.lfs_calls.specs.Volumes.{HasWorld};
 ghost use Rattle.lfs_calls.specs.Writes.{ChangesBytes};
 
 use crate::not_served::NotServed;
+use crate::tree::Tree;
 use crate::walking::{Reached, depth, find};
 use lfs_checks::attributes::mode_after;
 use lfs_checks::bytes::{may_write, start_in};
@@ -23,7 +24,7 @@ use lfs_types::store::{Change, FileStore, StoreRefusal};
 
 /// Puts bytes into a file.
 pub fn write<F: FileStore>(
-    store: &mut F,
+    store: &mut Tree<F>,
     cred: &Cred,
     path: &Path,
     place: Place,
@@ -45,7 +46,7 @@ pub fn write<F: FileStore>(
 
 /// Puts bytes into a file that may be written; a caller who isn't the superuser clears its set-id bits.
 fn put<F: FileStore>(
-    store: &mut F,
+    store: &mut Tree<F>,
     cred: &Cred,
     file: &Reached,
     start: u64,

@@ -15,6 +15,7 @@ use Rattle.lfs_types.specs.declared.store.Change.TheVariants.{Make, Remove, SetA
 use Rattle.lfs_flatfiles.specs.declared.flat_files.place.Place.{Place}
 use Rattle.lfs_flatfiles.specs.FlatFiles.{file_in, content_of, end_of, IsInReach}
 use Rattle.lfs_flatfiles.proofs.FlatFilesContent.{get-content_of, file_in_past}
+use Rattle.lfs_types.specs.declared.limits.TheConstants.{FILE_BYTES}
 use Rattle.lfs_types.proofs.Maps.{get-insert_other, get-remove_same, get-remove_other}
 
 -- each number in use is below this one
@@ -35,22 +36,22 @@ pub content_below : (ps : List Place) → IsBelow (length ps) (content_of ps)
 content_below ps ino some =
     elim (cases_lt ino (length ps)) [ inl below ↦ below | inr past ↦ some_past ps ino past some ]
 
-length_limit : (kind : Kind) (len : ℕ) → IsLength kind len → len ≤ 71680
+length_limit : (kind : Kind) (len : ℕ) → IsLength kind len → len ≤ FILE_BYTES
 length_limit Regular len h = h
 length_limit Directory len h = h.0
 
-end_within : (old : List ℕ) (off : ℕ) (bytes : List ℕ) → length (splice old off bytes) ≤ 71680 → end_of off bytes ≤ 71680
+end_within : (old : List ℕ) (off : ℕ) (bytes : List ℕ) → length (splice old off bytes) ≤ FILE_BYTES → end_of off bytes ≤ FILE_BYTES
 end_within old off [] h = omega arith
 end_within old off (b ∷ bs) h =
     let all = simp (length-append, length-take, length-replicate) at h in
     omega arith
 
-pub end_of_file : (o : Option File) (off : ℕ) (bytes : List ℕ) → IsSomeAnd o (λ f. IsLength f.kind (length (splice f.bytes off bytes))) → end_of off bytes ≤ 71680
+pub end_of_file : (o : Option File) (off : ℕ) (bytes : List ℕ) → IsSomeAnd o (λ f. IsLength f.kind (length (splice f.bytes off bytes))) → end_of off bytes ≤ FILE_BYTES
 end_of_file None off bytes h = absurd h
 end_of_file (Some f) off bytes h = end_within f.bytes off bytes (length_limit f.kind _ h)
 
 -- a length that a file may have
-pub length_of_file : (o : Option File) (len : ℕ) → IsSomeAnd o (λ f. IsLength f.kind len) → len ≤ 71680
+pub length_of_file : (o : Option File) (len : ℕ) → IsSomeAnd o (λ f. IsLength f.kind len) → len ≤ FILE_BYTES
 length_of_file None len h = absurd h
 length_of_file (Some f) len h = length_limit f.kind len h
 

@@ -3,7 +3,8 @@ use Rattle.std.specs.Prelude.{ℕ, true, zero, suc, ◌+◌, ◌<◌, ◌≤◌,
 use Rattle.std.specs.FinMap as map
 use Rattle.lfs_types.specs.Tree.{File, Content, file_of, opening_content}
 use Rattle.lfs_types.specs.StoreStates.{Shape, StoreState}
-use Rattle.lfs_types.specs.declared.limits.TheConstants.{FILE_BYTES, MOST_SEGMENTS}
+use Rattle.lfs_types.specs.declared.limits.TheConstants.{FILE_BYTES}
+use Rattle.lfs_types.specs.Ranges.{most_segments}
 use Rattle.lfs_types.specs.Splicing.{splice, resized}
 use Rattle.lfs_types.specs.declared.attrs.Attrs.{Attrs}
 use Rattle.lfs_types.specs.declared.store.Change.{Change}
@@ -30,15 +31,15 @@ content_of ps = content_from 0 ps
 
 -- the shape of a store of so many places, which has as many segments as a volume may have; its changes take memory
 abbrev pub shape_of : ℕ → Shape
-shape_of numbers = record { numbers = numbers; segments = MOST_SEGMENTS; can_lack_memory = true }
+shape_of numbers = record { numbers = numbers; segments = most_segments; can_lack_memory = true }
 
 -- a store of so many places, all of whose segments are clean
 abbrev pub state_of : ℕ → List Place → StoreState
-state_of numbers ps = record { content = content_of ps; clean = MOST_SEGMENTS; shape = shape_of numbers }
+state_of numbers ps = record { content = content_of ps; clean = most_segments; shape = shape_of numbers }
 
 -- a fresh store with so many inode numbers
 abbrev pub opening_state : ℕ → StoreState
-opening_state numbers = record { content = opening_content; clean = MOST_SEGMENTS; shape = shape_of numbers }
+opening_state numbers = record { content = opening_content; clean = most_segments; shape = shape_of numbers }
 
 -- the file of a number, if there is one
 abbrev pub file_in : List Place → ℕ → Option File
@@ -74,8 +75,8 @@ abbrev pub IsInReach : ℕ → Change → Type 0
 IsInReach numbers (Make ino attrs) = ino < numbers
 IsInReach numbers (Remove ino) = ino < numbers
 IsInReach numbers (SetAttrs ino attrs) = ino < numbers
-IsInReach numbers (Put ino off bytes) = (ino < numbers) × (end_of off bytes.now ≤ 71680)
-IsInReach numbers (SetLength ino len) = (ino < numbers) × (len ≤ 71680)
+IsInReach numbers (Put ino off bytes) = (ino < numbers) × (end_of off bytes.now ≤ FILE_BYTES)
+IsInReach numbers (SetLength ino len) = (ino < numbers) × (len ≤ FILE_BYTES)
 
 -- there is room for what a change puts
 abbrev pub HasRoom : List Place → Change → Type 0

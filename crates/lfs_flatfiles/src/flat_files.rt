@@ -5,6 +5,7 @@ ghost use Rattle.std.specs.FinMap as map;
 ghost use Rattle.std.specs.Vec.{vec_len};
 ghost use Rattle.lfs_types.specs.Changes.{CanChange, CanChangeAll, changed, changed_at, applied};
 ghost use Rattle.lfs_types.specs.Tree.{attrs_of, fresh_root, file_of};
+ghost use Rattle.lfs_types.specs.Ranges.{least_inodes, most_inodes};
 ghost use Rattle.lfs_flatfiles.specs.FlatFiles.{content_of, file_in, room_in, end_of, with_attrs, with_bytes, with_length, opening_state, IsInReach, HasRoom, Grows, CanHold, HasFile};
 
 mod place;
@@ -31,7 +32,7 @@ pub struct FlatFiles {
     places: Vec<Place>,
     /// The least number from 4 up whose place is free, or the number of places if none is.
     least_free: usize,
-    ghost bounded: { vec_len places ≤ 4096 },
+    ghost bounded: { vec_len places ≤ most_inodes },
     ghost reserved: { 4 ≤ least_free },
     ghost within: { least_free ≤ vec_len places },
     ghost used: { (ino : ℕ) → 4 ≤ ino → ino < least_free → IsSome (file_in places.items ino) },
@@ -45,10 +46,10 @@ impl FlatFiles {
     pub fn new(alloc: Global, inodes: u32) -> Result<FlatFiles, FormatFault>
         ensures opening { IfOk result (λ store. ⟦<FlatFiles as FileStore>⟧.state store
             ≡ opening_state inodes) }
-        ensures too_few { IsErrOf result FormatFault.TooFew ↔ (inodes < 16) }
-        ensures too_many { IsErrOf result FormatFault.TooMany ↔ (4096 < inodes) }
+        ensures too_few { IsErrOf result FormatFault.TooFew ↔ (inodes < least_inodes) }
+        ensures too_many { IsErrOf result FormatFault.TooMany ↔ (most_inodes < inodes) }
         ensures memory_in_range { IsErrOf result FormatFault.Memory
-            → (16 ≤ inodes) × (inodes ≤ 4096) }
+            → (least_inodes ≤ inodes) × (inodes ≤ most_inodes) }
     {
         if inodes < LEAST_INODES {
             return Err(FormatFault::TooFew);

@@ -145,11 +145,11 @@ fits_last rows caller path appends more h =
     let attrs = attrs_at rows (reached rows root path) in
     (passes-append (change_tests caller appends attrs (length path)) (more attrs (length path)) behind).1
 
--- a call may give a new name to a row
-pub record MayMake (rows : Rows) (caller : Caller) (path : ℕ) (names : List (List ℕ)) : Type 0 where
+-- a call may make a row
+pub record MayMake (rows : Rows) (caller : Caller) (names : List (List ℕ)) : Type 0 where
   pub filled : (length names == 0) ≡ false
-  pub walks : first_failing (walk rows caller path 0 root (front names)) ≡ None
-  pub way : walked rows caller path 0 root (front names) ≡ Ok (reached rows root (front names))
+  pub walks : first_failing (walk rows caller 0 0 root (front names)) ≡ None
+  pub way : walked rows caller 0 0 root (front names) ≡ Ok (reached rows root (front names))
   pub directory : is_directory_row (map.get rows (reached rows root (front names))) ≡ true
   pub searches : row_grants caller bits.Search (map.get rows (reached rows root (front names))) ≡ true
   pub mutable : is_immutable (attrs_at rows (reached rows root (front names))) ≡ false
@@ -157,20 +157,20 @@ pub record MayMake (rows : Rows) (caller : Caller) (path : ℕ) (names : List (L
   pub granted : row_grants caller bits.Write (map.get rows (reached rows root (front names))) ≡ true
 
 -- what the tests of a new name say, where none fails
-pub may_make : (rows : Rows) → IsTree rows → (caller : Caller) (path : ℕ) (names : List (List ℕ)) → first_failing (making rows caller path names) ≡ None → MayMake rows caller path names
-may_make rows tree caller path names h =
+pub may_make : (rows : Rows) → IsTree rows → (caller : Caller) (names : List (List ℕ)) → first_failing (making rows caller names) ≡ None → MayMake rows caller names
+may_make rows tree caller names h =
     let some = met_first _ _ _ h in
-    let walks = passes-append (walk rows caller path 0 root (front names)) _ some.1 in
+    let walks = passes-append (walk rows caller 0 0 root (front names)) _ some.1 in
     let a = met_first _ _ _ walks.1 in
     let b = met_first _ _ _ a.1 in
     let c = met_first _ _ _ b.1 in
     let d = met_first _ _ _ c.1 in
     let e = met_first _ _ _ d.1 in
-    let there = path_there rows tree caller path (front names) walks.0 in
+    let there = path_there rows tree caller 0 (front names) walks.0 in
     record {
       filled = not-true _ some.0;
       walks = walks.0;
-      way = walked_there rows caller path 0 root (front names) walks.0;
+      way = walked_there rows caller 0 0 root (front names) walks.0;
       directory = directory_attrs _ there ∙ a.0;
       searches = grants_attrs caller bits.Search _ there ∙ b.0;
       mutable = not-true _ d.0;

@@ -119,18 +119,18 @@ module _ (numbers : ℕ) (w : World) (caller : Caller) (tree : IsTree w.rows) (n
   made_by (Write path place (b ∷ bs)) allowed room is = none_there _ s (file_absent _ w n _ (written caller place (b ∷ bs)) refl none) is
   made_by (SetLength path len) allowed room is = none_there _ s (file_absent _ w n _ (cut caller len) refl none) is
   made_by (Create path mode) allowed room is =
-      made_row (Create path mode) path Regular mode room (placed w caller tree 0 path (may_make w.rows tree caller 0 path allowed))
+      made_row (Create path mode) path Regular mode room (placed w caller tree path (may_make w.rows tree caller path allowed))
       (λ row e. (
         ap (λ (y : Row). y.file.kind) e,
         ap (λ (y : Row). y.file.mode) (sym e),
-        subst (λ (y : Row). LeadsTo w.rows path y.parent y.name) (sym e) (leads_last w caller 0 path (may_make w.rows tree caller 0 path allowed)),
+        subst (λ (y : Row). LeadsTo w.rows path y.parent y.name) (sym e) (leads_last w caller path (may_make w.rows tree caller path allowed)),
       )) is
   made_by (Mkdir path mode) allowed room is =
-      made_row (Mkdir path mode) path Directory mode room (placed w caller tree 0 path (may_make w.rows tree caller 0 path allowed))
+      made_row (Mkdir path mode) path Directory mode room (placed w caller tree path (may_make w.rows tree caller path allowed))
       (λ row e. (
         ap (λ (y : Row). y.file.kind) e,
         ap (λ (y : Row). y.file.mode) (sym e),
-        subst (λ (y : Row). LeadsTo w.rows path y.parent y.name) (sym e) (leads_last w caller 0 path (may_make w.rows tree caller 0 path allowed)),
+        subst (λ (y : Row). LeadsTo w.rows path y.parent y.name) (sym e) (leads_last w caller path (may_make w.rows tree caller path allowed)),
       )) is
   made_by (Unlink path) allowed room is = none_there _ s (removed_absent w.rows n (reached w.rows root path) none) is
   made_by (Rmdir path) allowed room is = none_there _ s (removed_absent w.rows n (reached w.rows root path) none) is

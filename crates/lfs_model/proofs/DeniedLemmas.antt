@@ -286,27 +286,28 @@ module _ (w : World) (caller : Caller) (request : Request) (tree : IsTree w.rows
     tell_at : (n j k : ℕ) → j ≡ k → (a : At w.rows caller path n j) (rule : Rule) → Broken n j a rule → D (record { rule = rule; path = index; at = k })
     tell_at n j k e a rule says = subst (λ q. D (record { rule = rule; path = index; at = q })) e (ok n j a rule says)
 
-    -- the tests of a new name
-    made : (denial : Denial) → first_failing (making w.rows caller index path) ≡ Some denial → D denial
+  -- the tests of a new row
+  module _ (D : Denial → Type 0) (tells : (rule : Rule) (k : ℕ) → Tells w caller request path rule k → D (record { rule = rule; path = 0; at = k })) where
+    made : (denial : Denial) → first_failing (making w.rows caller path) ≡ Some denial → D denial
     made = fails D (not (length path == 0)) _ _
-        (λ none. ok root 0 start NameFree (λ r there. no_path path none))
-        (λ some. along (front path) (last path ∷ []) root 0 start (sym (split_last path (not-true _ some))) _
+        (λ none. ok 0 D tells root 0 start NameFree (λ r there. no_path path none))
+        (λ some. along 0 D tells (front path) (last path ∷ []) root 0 start (sym (split_last path (not-true _ some))) _
         (λ j e b is. let at : j ≡ length (front path) = omega (arith, e) in
         let dir = reached w.rows root (front path) in
         let attrs = attrs_at w.rows dir in
         let kind_is = directory_attrs (map.get w.rows dir) (there_of _ b.there) in
         let search_is = grants_attrs caller bits.Search (map.get w.rows dir) (there_of _ b.there) in
-        fails D (is_directory_kind attrs.kind) _ _ (λ none. tell_at _ j _ at b IsDirectory (λ r there. regular_of r.file.kind (of_row w.rows dir r there (λ x. is_directory_kind x.kind ≡ false) none)))
+        fails D (is_directory_kind attrs.kind) _ _ (λ none. tell_at 0 D tells _ j _ at b IsDirectory (λ r there. regular_of r.file.kind (of_row w.rows dir r there (λ x. is_directory_kind x.kind ≡ false) none)))
         (λ d. fails D (grants_of caller attrs bits.Search) _ _
-        (λ none. tell_at _ j _ at b GrantsSearch (λ r there. (directory_of r.file.kind (of_row w.rows dir r there (λ x. is_directory_kind x.kind ≡ true) d), of_row w.rows dir r there (λ x. grants_of caller x bits.Search ≡ false) none)))
+        (λ none. tell_at 0 D tells _ j _ at b GrantsSearch (λ r there. (directory_of r.file.kind (of_row w.rows dir r there (λ x. is_directory_kind x.kind ≡ true) d), of_row w.rows dir r there (λ x. grants_of caller x bits.Search ≡ false) none)))
         (λ s. fails D (is_none (child w.rows dir (last path))) _ _
         (λ taken. let m = not_none (child w.rows dir (last path)) taken in
         let c = next_at _ j b (last path) [] is (kind_is ∙ d, search_is ∙ s) m.0 m.1 in
-        tell_at m.0 (j + 1) _ (ap (λ q. q + 1) at) c NameFree (λ r there. refl))
+        tell_at 0 D tells m.0 (j + 1) _ (ap (λ q. q + 1) at) c NameFree (λ r there. refl))
         (λ free. fails D (not (is_immutable attrs)) _ _
-        (λ none. tell_at _ j _ at b IsMutable (λ r there. (one_left b.behind (last path) is, of_row w.rows dir r there (λ x. is_immutable x ≡ true) (true_of _ none))))
+        (λ none. tell_at 0 D tells _ j _ at b IsMutable (λ r there. (one_left b.behind (last path) is, of_row w.rows dir r there (λ x. is_immutable x ≡ true) (true_of _ none))))
         (λ m. fails D (grants_of caller attrs bits.Write) _ _
-        (λ none. tell_at _ j _ at b GrantsWrite (λ r there. (one_left b.behind (last path) is, of_row w.rows dir r there (λ x. grants_of caller x bits.Write ≡ false) none)))
+        (λ none. tell_at 0 D tells _ j _ at b GrantsWrite (λ r there. (one_left b.behind (last path) is, of_row w.rows dir r there (λ x. grants_of caller x bits.Write ≡ false) none)))
         (λ g. none_fails D)))))))
 
   -- ---- where a walk that passes ends
@@ -568,8 +569,8 @@ module _ (w : World) (caller : Caller) (tree : IsTree w.rows) where
   told (Write path place bytes) = by_path (Write path place bytes) path (write_tests caller place (length bytes))
       (change_told (Write path place bytes) path (is_end place) (λ attrs. nat_le (start_of place attrs.size + length bytes) file_max) (λ r f. not_most _ _ f))
   told (SetLength path len) = by_path (SetLength path len) path (length_tests caller len) (change_told (SetLength path len) path false (λ attrs. nat_le len file_max) (λ r f. not_most _ _ f))
-  told (Create path mode) = made w caller (Create path mode) tree path 0 (Along (Create path mode) path) (λ rule k t. t)
-  told (Mkdir path mode) = made w caller (Mkdir path mode) tree path 0 (Along (Mkdir path mode) path) (λ rule k t. t)
+  told (Create path mode) = made w caller (Create path mode) tree path (Along (Create path mode) path) (λ rule k t. t)
+  told (Mkdir path mode) = made w caller (Mkdir path mode) tree path (Along (Mkdir path mode) path) (λ rule k t. t)
   told (Unlink path) =
       let n = reached w.rows root path in
       let rest = unlink_tests (attrs_at w.rows n) (length path) in

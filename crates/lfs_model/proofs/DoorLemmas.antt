@@ -126,9 +126,11 @@ module _ (w : World) (tree : IsTree w.rows) (d : ℕ) (dir : Row) (at : map.get 
   stays_door v caller request kind c shut other (Gives uid gid e x) = owned_not caller shut other x.allowed.owns
   stays_door v caller request kind c shut other (Reflags flags e x) = owned_not caller shut other x.owns
 
--- an event is a call to remove a directory
+-- an event is a served call to remove a directory
 abbrev pub RemovesDirectory : World → ℕ → Event → Type 0
-RemovesDirectory w d (User request answer) = Removes w d Directory request
+RemovesDirectory w d (User request (Served shown)) = Removes w d Directory request
+RemovesDirectory w d (User request (Denied denial)) = ⊥
+RemovesDirectory w d (User request (Refused resource)) = ⊥
 RemovesDirectory w d (Cleaner kind outcome) = ⊥
 
 module _ (numbers segments : ℕ) where

@@ -247,15 +247,15 @@ module _ (w : World) (caller : Caller) (tree : IsTree w.rows) (n : ℕ) (r : Row
 -- ---- each call
 
 -- the path of a call that may give a new name leads to it
-pub leads_last : (w : World) (caller : Caller) (index : ℕ) (path : List (List ℕ)) → MayMake w.rows caller index path → LeadsTo w.rows path (reached w.rows root (front path)) (last path)
-leads_last w caller index path may = record { front = front path; split = split_last path may.filled; leads = refl }
+pub leads_last : (w : World) (caller : Caller) (path : List (List ℕ)) → MayMake w.rows caller path → LeadsTo w.rows path (reached w.rows root (front path)) (last path)
+leads_last w caller path may = record { front = front path; split = split_last path may.filled; leads = refl }
 
 -- where a call may give a new name, a row may be placed
-pub placed : (w : World) (caller : Caller) → IsTree w.rows → (index : ℕ) (path : List (List ℕ)) → MayMake w.rows caller index path
+pub placed : (w : World) (caller : Caller) → IsTree w.rows → (path : List (List ℕ)) → MayMake w.rows caller path
     → MayPlace w.rows caller (reached w.rows root (front path)) (last path)
-placed w caller tree index path may = record {
+placed w caller tree path may = record {
   directory = may.directory;
-  writes = record { reaches = walk_reaches w.rows caller index 0 root (front path) (reaches_root w.rows caller tree) may.walks; granted = may.granted; mutable = may.mutable };
+  writes = record { reaches = walk_reaches w.rows caller 0 0 root (front path) (reaches_root w.rows caller tree) may.walks; granted = may.granted; mutable = may.mutable };
   searches = may.searches;
   free = child-none w.rows _ (last path) may.free;
 }

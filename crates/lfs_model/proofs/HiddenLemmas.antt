@@ -18,7 +18,7 @@ use Rattle.lfs_model.proofs.DeniedLemmas.{tells_little}
 use Rattle.lfs_model.proofs.ServedLemmas.{led_none}
 use Rattle.lfs_model.specs.LawDenied.{MayEnter, MayPass, SaysAt, Tells, led}
 use Rattle.lfs_model.specs.World.{Rows, ancestor, child, children, file_at, parent_of, IsChild, IsTree}
-use Rattle.lfs_model.specs.LawHidden.{DifferBeneath, HasSameNames, HidesFromCall, IsBeneath, IsOnto}
+use Rattle.lfs_model.specs.LawHidden.{DifferBeneath, HasSameNames, HidesFromCall, IsBeneath, IsListing, IsOnto}
 use Rattle.lfs_model.specs.LawView.{HasSameView, ShowsAlike, TellsEmpty, may_enter, seen, sight}
 use Rattle.lfs_model.specs.Rights.{Reaches, paths}
 use Rattle.lfs_model.specs.Rules.{decide, first_failing, is_directory_row, next, reached, removing, row_grants, walk}
@@ -190,38 +190,41 @@ module _ (w v : World) (d : ℕ) (dir : Row) (tree : IsTree w.rows) (other : IsT
 
     -- ---- his view
 
-    module _ (names : grants_of caller (attrs_of dir.file) bits.Read ≡ true → HasSameNames d w v) where
-      contents : (request : Request) → ShowsAlike w v caller request
-      contents (Stat path) = tt
-      contents (Read path off len) = λ may. sym (ap (λ o. (file_at o).bytes) (same_row w v d dir tree other below differ may.number may.row may.there (far may.number may.row may.there may.reaches)))
-      contents (Names path) = λ may name. ⊎_elim
-          (λ same.
-          let is : may.row ≡ dir = cc (may.there, differ.one, ap (map.get w.rows) same) in
-          let readable = subst (λ (x : Row). grants_of caller (attrs_of x.file) bits.Read ≡ true) is may.holds in
-          subst (λ m. lists.◌↔◌ ((n : ℕ) × IsChild w.rows m name n) ((n : ℕ) × IsChild v.rows m name n)) (sym same) (names readable name))
-          (λ off.
-          let a = apart_row w v d dir tree other below differ may.number may.row may.there (far may.number may.row may.there may.reaches) in
-          (λ x. (x.0, child_goes may.number a off name x.0 x.1), λ x. (x.0, child_comes may.number a off name x.0 x.1)))
-          (cases_eq may.number d)
-      contents (Write path place bytes) = tt
-      contents (SetLength path len) = tt
-      contents (Create path mode) = tt
-      contents (Mkdir path mode) = tt
-      contents (Unlink path) = tt
-      contents (Rmdir path) = tt
-      contents (Rename from to) = tt
-      contents (Chmod path mode) = tt
-      contents (Chown path uid gid) = tt
-      contents (Chflags path flags) = tt
-      contents (SetLevel level) = tt
-      contents Sync = tt
+    -- where he lists the directory, which he may read, its names are the same
+    abbrev pub NamesAlike : Request → Type 0
+    NamesAlike request = IsListing w d request → grants_of caller (attrs_of dir.file) bits.Read ≡ true → HasSameNames d w v
 
-      pub same_view : (request : Request) → HasSameView w v caller request
-      same_view request = record {
-        level = differ.level;
-        rows = λ i. lists.map (λ path. seen_root path i) (paths request);
-        contents = contents request;
-      }
+    contents : (request : Request) → NamesAlike request → ShowsAlike w v caller request
+    contents (Stat path) names = tt
+    contents (Read path off len) names = λ may. sym (ap (λ o. (file_at o).bytes) (same_row w v d dir tree other below differ may.number may.row may.there (far may.number may.row may.there may.reaches)))
+    contents (Names path) names = λ may name. ⊎_elim
+        (λ same.
+        let is : may.row ≡ dir = cc (may.there, differ.one, ap (map.get w.rows) same) in
+        let readable = subst (λ (x : Row). grants_of caller (attrs_of x.file) bits.Read ≡ true) is may.holds in
+        subst (λ m. lists.◌↔◌ ((n : ℕ) × IsChild w.rows m name n) ((n : ℕ) × IsChild v.rows m name n)) (sym same) (names (may.named ∙ same) readable name))
+        (λ off.
+        let a = apart_row w v d dir tree other below differ may.number may.row may.there (far may.number may.row may.there may.reaches) in
+        (λ x. (x.0, child_goes may.number a off name x.0 x.1), λ x. (x.0, child_comes may.number a off name x.0 x.1)))
+        (cases_eq may.number d)
+    contents (Write path place bytes) names = tt
+    contents (SetLength path len) names = tt
+    contents (Create path mode) names = tt
+    contents (Mkdir path mode) names = tt
+    contents (Unlink path) names = tt
+    contents (Rmdir path) names = tt
+    contents (Rename from to) names = tt
+    contents (Chmod path mode) names = tt
+    contents (Chown path uid gid) names = tt
+    contents (Chflags path flags) names = tt
+    contents (SetLevel level) names = tt
+    contents Sync names = tt
+
+    pub same_view : (request : Request) → NamesAlike request → HasSameView w v caller request
+    same_view request names = record {
+      level = differ.level;
+      rows = λ i. lists.map (λ path. seen_root path i) (paths request);
+      contents = contents request names;
+    }
 
 -- ---- what a Rmdir and a Rename tell
 
@@ -340,7 +343,7 @@ module _ (w v : World) (d : ℕ) (dir : Row) (tree : IsTree w.rows) (other : IsT
 
 pub hides_from_call : HidesFromCall
 hides_from_call w v d dir caller request tree other below differ shut names =
-    let both = view w v caller request tree other (same_view w v d dir tree other below differ caller shut names request) in (
+    let both = view w v caller request tree other (same_view w v d dir tree other below differ caller shut request names) in (
       ⊎_elim (λ e. inl e) (λ h. let t = told w v d dir tree other below differ caller shut request h in
           inr (subst (λ m. IsOnto w m request) (told_door w v d dir tree other below differ caller shut request t) t.onto, h)) both.0,
       both.1,

@@ -25,6 +25,8 @@ use Rattle.lfs_types.specs.declared.attrs.Kind.TheVariants.{File as Regular, Dir
 use Rattle.lfs_types.specs.declared.limits.TheConstants.{FILE_BLOCKS}
 use Rattle.lfs_types.specs.declared.request.Request.{Request}
 use Rattle.lfs_types.specs.declared.request.Request.TheVariants.{Stat, Read, Write, List as Names, SetLength, Create, Mkdir, Unlink, Rmdir, Rename, Chmod, Chown, Chflags, SetLevel, Sync}
+use Rattle.lfs_types.specs.declared.rule.Denial.{Denial}
+use Rattle.lfs_types.specs.declared.rule.Rule.TheVariants.{IsEmpty}
 use Rattle.lfs_rules.specs.Grants.{grants_of}
 use Rattle.lfs_model.specs.declared.journal.Entry.{Entry}
 use Rattle.lfs_model.specs.declared.journal.Event.{Event}
@@ -32,10 +34,10 @@ use Rattle.lfs_model.specs.declared.journal.Event.TheVariants.{User, Cleaner}
 use Rattle.lfs_model.specs.World.{Rows, ancestor, children, file_at, parent_of, IsChild, IsTree, child}
 use Rattle.lfs_model.specs.LawDoor.{AreOutside, IsOutside}
 use Rattle.lfs_model.specs.LawGone.{Removes}
-use Rattle.lfs_model.specs.LawHidden.{AllSeeTheSame, DifferBeneath, HasSameNames, HidesFromRun, IsEmptyAlike, IsFilled, IsHidden, IsMaking, IsOnto, IsRmdirOrRename, MayMakeRow, SeesTheSame, UseSameNumbers}
+use Rattle.lfs_model.specs.LawHidden.{AllSeeTheSame, DifferBeneath, HasSameNames, HidesFromRun, IsDeniedBehind, IsEmptyAlike, IsFilled, IsHidden, IsMaking, IsOnto, IsToldEmpty, MayMakeRow, SeesTheSame, UseSameNumbers}
 use Rattle.lfs_model.specs.LawMoved.{HangsStill}
 use Rattle.lfs_model.specs.LawNew.{Makes}
-use Rattle.lfs_model.specs.LawView.{TellsEmpty}
+use Rattle.lfs_model.specs.LawView.{MayFollow, TellsEmpty}
 use Rattle.lfs_model.specs.Rules.{Check, decide, first_failing, front, last, making, reached, removing, row_grants, walk, arriving}
 use Rattle.lfs_model.specs.Effects.{answer_of, cut, effect, given, least_unused, new_file, with_file, with_place, written, after_rename, without_row}
 use Rattle.lfs_model.specs.Steps.{AllUsed, IsAnswer, IsCrowded, IsEvent, IsLegal, LacksInodes, MayLack, after_answer, after_event}
@@ -44,7 +46,7 @@ use Rattle.lfs_model.proofs.BetweenLemmas.{cases_place}
 use Rattle.lfs_model.proofs.CallLaws.{new_law}
 use Rattle.lfs_model.proofs.Deciding.{met_first, passes-append}
 use Rattle.lfs_model.proofs.DoorLemmas.{RemovesDirectory, SameDoor, a_child, door_event, has_directory, outside_on, row_event, way_stays}
-use Rattle.lfs_model.proofs.HiddenLemmas.{Apart, Filled, WalkEnd, child_comes, child_goes, entered, filled, none_there, same_view, top, told, told_door, walk_end, same_child}
+use Rattle.lfs_model.proofs.HiddenLemmas.{Apart, Filled, NamesAlike, WalkEnd, child_comes, child_goes, entered, filled, none_there, same_view, top, told, told_door, walk_end, same_child}
 use Rattle.lfs_model.proofs.LawTree.{childless, event_tree}
 use Rattle.lfs_model.proofs.LevelLemmas.{with_file-level, with_place-level}
 use Rattle.lfs_model.proofs.LockedLemmas.{both}
@@ -130,48 +132,60 @@ one_list ms ns sorted ordered there back =
 
 -- ---- one call
 
-rmdir_by : (w : World) (n : ℕ) (request : Request) → Removes w n Directory request → IsRmdirOrRename request
-rmdir_by w n (Stat path) h = h
-rmdir_by w n (Read path off len) h = h
-rmdir_by w n (Names path) h = h
-rmdir_by w n (Write path place bytes) h = h
-rmdir_by w n (SetLength path len) h = h
-rmdir_by w n (Create path mode) h = h
-rmdir_by w n (Mkdir path mode) h = h
-rmdir_by w n (Unlink path) h = h
-rmdir_by w n (Rmdir path) h = tt
-rmdir_by w n (Rename from to) h = tt
-rmdir_by w n (Chmod path mode) h = h
-rmdir_by w n (Chown path uid gid) h = h
-rmdir_by w n (Chflags path flags) h = h
-rmdir_by w n (SetLevel level) h = h
-rmdir_by w n Sync h = h
+-- what removes a directory is called onto it
+removes_onto : (w : World) (n : ℕ) (request : Request) → Removes w n Directory request → IsOnto w n request
+removes_onto w n (Stat path) h = h
+removes_onto w n (Read path off len) h = h
+removes_onto w n (Names path) h = h
+removes_onto w n (Write path place bytes) h = h
+removes_onto w n (SetLength path len) h = h
+removes_onto w n (Create path mode) h = h
+removes_onto w n (Mkdir path mode) h = h
+removes_onto w n (Unlink path) h = h
+removes_onto w n (Rmdir path) h = h
+removes_onto w n (Rename from to) h = h.0
+removes_onto w n (Chmod path mode) h = h
+removes_onto w n (Chown path uid gid) h = h
+removes_onto w n (Chflags path flags) h = h
+removes_onto w n (SetLevel level) h = h
+removes_onto w n Sync h = h
 
-onto_by : (w : World) (n : ℕ) (request : Request) → IsOnto w n request → IsRmdirOrRename request
-onto_by w n (Stat path) h = h
-onto_by w n (Read path off len) h = h
-onto_by w n (Names path) h = h
-onto_by w n (Write path place bytes) h = h
-onto_by w n (SetLength path len) h = h
-onto_by w n (Create path mode) h = h
-onto_by w n (Mkdir path mode) h = h
-onto_by w n (Unlink path) h = h
-onto_by w n (Rmdir path) h = tt
-onto_by w n (Rename from to) h = tt
-onto_by w n (Chmod path mode) h = h
-onto_by w n (Chown path uid gid) h = h
-onto_by w n (Chflags path flags) h = h
-onto_by w n (SetLevel level) h = h
-onto_by w n Sync h = h
+-- where a call is denied in one of two worlds, and tells whether a directory is empty, the denial does
+module _ (w v : World) (denial : Denial) where
+  rmdir_behind : (path : List (List ℕ)) (x y : Option Denial) → x ≡ Some denial → TellsEmpty w v (Rmdir path) x y → denial.rule ≡ IsEmpty
+  rmdir_behind path None y e h = absurd (cc)
+  rmdir_behind path (Some one) None e h = ap (λ (a : Denial). a.rule) (number e) ∙ h.0
+    where
+      number : Some one ≡ Some denial → denial ≡ one
+      number f = cc
+  rmdir_behind path (Some one) (Some second) e h = absurd h
+
+  denied_behind : (request : Request) (x y : Option Denial) → x ≡ Some denial → TellsEmpty w v request x y → IsDeniedBehind request denial
+  denied_behind (Stat path) x y e h = absurd h
+  denied_behind (Read path off len) x y e h = absurd h
+  denied_behind (Names path) x y e h = absurd h
+  denied_behind (Write path place bytes) x y e h = absurd h
+  denied_behind (SetLength path len) x y e h = absurd h
+  denied_behind (Create path mode) x y e h = absurd h
+  denied_behind (Mkdir path mode) x y e h = absurd h
+  denied_behind (Unlink path) x y e h = absurd h
+  denied_behind (Rmdir path) x y e h = rmdir_behind path x y e h
+  denied_behind (Rename from to) x y e h = ⊎_elim (λ m. inl (subst MayFollow e m.0)) (λ m. inr (sym e ∙ m.1)) h
+  denied_behind (Chmod path mode) x y e h = absurd h
+  denied_behind (Chown path uid gid) x y e h = absurd h
+  denied_behind (Chflags path flags) x y e h = absurd h
+  denied_behind (SetLevel level) x y e h = absurd h
+  denied_behind Sync x y e h = absurd h
 
 module _ (numbers : ℕ) (w v : World) (d : ℕ) (dir : Row) (tree : IsTree w.rows) (other : IsTree v.rows) (below : d ≢ root) (differ : DifferBeneath d dir w v)
     (caller : Caller) (shut : grants_of caller (attrs_of dir.file) bits.Search ≡ false) where
-  -- a Rmdir tells nothing
-  none_told : (request : Request) → (IsRmdirOrRename request → Filled w.rows d × Filled v.rows d) → TellsEmpty w v request (decide w caller request) (decide v caller request) → ⊥
+  -- what would tell whether the directory is empty tells nothing, where something hangs in it in both
+  none_told : (request : Request) → (TellsEmpty w v request (decide w caller request) (decide v caller request) → IsOnto w d request → Filled w.rows d × Filled v.rows d)
+      → TellsEmpty w v request (decide w caller request) (decide v caller request) → ⊥
   none_told request full h =
       let t = told w v d dir tree other below differ caller shut request h in
       let same = told_door w v d dir tree other below differ caller shut request t in
-      let both = full (onto_by w t.number request t.onto) in
+      let both = full h (subst (λ m. IsOnto w m request) same t.onto) in
       let one = both.0 in
       let two = both.1 in
       ⊎_elim
@@ -261,8 +275,8 @@ module _ (numbers : ℕ) (w v : World) (d : ℕ) (dir : Row) (tree : IsTree w.ro
   reaches : (path : List (List ℕ)) (tests : List Check) → first_failing (walk w.rows caller 0 0 root path ++ tests) ≡ None → End path
   reaches path tests h = ends 0 path (passes-append (walk w.rows caller 0 0 root path) tests h).0
 
-  makes : (index : ℕ) (path : List (List ℕ)) → first_failing (making w.rows caller index path) ≡ None → End (front path)
-  makes index path h = ends index (front path) (may_make w.rows tree caller index path h).walks
+  makes : (path : List (List ℕ)) → first_failing (making w.rows caller path) ≡ None → End (front path)
+  makes path h = ends 0 (front path) (may_make w.rows tree caller path h).walks
 
   removes : (path : List (List ℕ)) → first_failing (removing w.rows caller path) ≡ None → End path
   removes path h = reaches path _ (met_first _ _ _ h).1
@@ -274,8 +288,8 @@ module _ (numbers : ℕ) (w v : World) (d : ℕ) (dir : Row) (tree : IsTree w.ro
   effect_same (Write path place []) used h = no_effect
   effect_same (Write path place (b ∷ bs)) used h = file_effect path (written caller place (b ∷ bs)) (reaches path _ h)
   effect_same (SetLength path len) used h = file_effect path (cut caller len) (reaches path _ h)
-  effect_same (Create path mode) used h = made_effect (used tt) path Regular mode (makes 0 path h)
-  effect_same (Mkdir path mode) used h = made_effect (used tt) path Directory mode (makes 0 path h)
+  effect_same (Create path mode) used h = made_effect (used tt) path Regular mode (makes path h)
+  effect_same (Mkdir path mode) used h = made_effect (used tt) path Directory mode (makes path h)
   effect_same (Unlink path) used h = removed_effect path (removes path (passes-append (removing w.rows caller path) _ h).0)
   effect_same (Rmdir path) used h = removed_effect path (removes path (passes-append (removing w.rows caller path) _ h).0)
   effect_same (Rename from to) used h =
@@ -295,11 +309,11 @@ module _ (numbers : ℕ) (w v : World) (d : ℕ) (dir : Row) (tree : IsTree w.ro
       (λ n c. children-has v.rows at _ n (child_goes w v d dir tree other below differ at a off _ n (children-hang w.rows at n c)))
       (λ n c. children-has w.rows at _ n (child_comes w v d dir tree other below differ at a off _ n (children-hang v.rows at n c)))
 
-  many_same : (index : ℕ) (path : List (List ℕ)) → first_failing (making w.rows caller index path) ≡ None
+  many_same : (path : List (List ℕ)) → first_failing (making w.rows caller path) ≡ None
       → FILE_BLOCKS ≤ length (children w.rows (reached w.rows root (front path))) → FILE_BLOCKS ≤ length (children v.rows (reached v.rows root (front path)))
-  many_same index path h many =
-      let end = makes index path h in
-      let off = entered w v d dir tree other below differ caller shut _ (may_make w.rows tree caller index path h).searches in
+  many_same path h many =
+      let end = makes path h in
+      let off = entered w v d dir tree other below differ caller shut _ (may_make w.rows tree caller path h).searches in
       subst (λ l. FILE_BLOCKS ≤ length l) (children_same _ end.apart off ∙ ap (children v.rows) end.same) many
 
   crowded_same : (request : Request) → decide w caller request ≡ None → IsCrowded w request → IsCrowded v request
@@ -308,8 +322,8 @@ module _ (numbers : ℕ) (w v : World) (d : ℕ) (dir : Row) (tree : IsTree w.ro
   crowded_same (Names path) allowed h = h
   crowded_same (Write path place bytes) allowed h = h
   crowded_same (SetLength path len) allowed h = h
-  crowded_same (Create path mode) allowed h = many_same 0 path allowed h
-  crowded_same (Mkdir path mode) allowed h = many_same 0 path allowed h
+  crowded_same (Create path mode) allowed h = many_same path allowed h
+  crowded_same (Mkdir path mode) allowed h = many_same path allowed h
   crowded_same (Unlink path) allowed h = h
   crowded_same (Rmdir path) allowed h = h
   crowded_same (Rename from to) allowed h =
@@ -333,18 +347,18 @@ module _ (numbers : ℕ) (w v : World) (d : ℕ) (dir : Row) (tree : IsTree w.ro
 
   -- ---- answers
 
-  module _ (names : grants_of caller (attrs_of dir.file) bits.Read ≡ true → HasSameNames d w v) where
-    decide_same : (request : Request) → (IsRmdirOrRename request → Filled w.rows d × Filled v.rows d) → decide w caller request ≡ decide v caller request
-    decide_same request full = ⊎_elim (λ e. e) (λ h. absurd (none_told request full h))
-        (view w v caller request tree other (same_view w v d dir tree other below differ caller shut names request)).0
+  module _ (request : Request) (names : NamesAlike w v d dir tree other below differ caller shut request) where
+    decide_same : (TellsEmpty w v request (decide w caller request) (decide v caller request) → IsOnto w d request → Filled w.rows d × Filled v.rows d) → decide w caller request ≡ decide v caller request
+    decide_same full = ⊎_elim (λ e. e) (λ h. absurd (none_told request full h))
+        (view w v caller request tree other (same_view w v d dir tree other below differ caller shut request names)).0
 
-    answer_same : (request : Request) → decide w caller request ≡ None → answer_of w request ≡ answer_of v request
-    answer_same request allowed = (view w v caller request tree other (same_view w v d dir tree other below differ caller shut names request)).1 allowed
+    answer_same : decide w caller request ≡ None → answer_of w request ≡ answer_of v request
+    answer_same allowed = (view w v caller request tree other (same_view w v d dir tree other below differ caller shut request names)).1 allowed
 
-    answer_too : (request : Request) (answer : Answer) → (IsRmdirOrRename request → Filled w.rows d × Filled v.rows d) → (MayMakeRow request answer → UseSameNumbers w v) → IsAnswer numbers w caller request answer → IsAnswer numbers v caller request answer
-    answer_too request (Served shown) full used is = (sym (decide_same request full) ∙ is.0, λ lacks. is.1 (lacks_same numbers v w request (λ m n. sym (used m n)) lacks), is.2 ∙ answer_same request is.0)
-    answer_too request (Denied denial) full used is = sym (decide_same request full) ∙ is
-    answer_too request (Refused resource) full used is = (sym (decide_same request full) ∙ is.0, lack_same request resource used is.0 is.1)
+    answer_too : (answer : Answer) → (IsToldEmpty w d request answer → Filled w.rows d × Filled v.rows d) → (MayMakeRow request answer → UseSameNumbers w v) → IsAnswer numbers w caller request answer → IsAnswer numbers v caller request answer
+    answer_too (Served shown) full used is = (sym (decide_same (λ h. full)) ∙ is.0, λ lacks. is.1 (lacks_same numbers v w request (λ m n. sym (used m n)) lacks), is.2 ∙ answer_same is.0)
+    answer_too (Denied denial) full used is = sym (decide_same (λ h onto. full (onto, denied_behind w v denial request _ _ is h))) ∙ is
+    answer_too (Refused resource) full used is = (sym (decide_same (λ h. full)) ∙ is.0, lack_same request resource used is.0 is.1)
 
 -- ---- one entry
 
@@ -471,15 +485,15 @@ module _ (numbers segments : ℕ) (d : ℕ) (below : d ≢ root) where
 
   module _ (SameNames SameNumbers EmptyAlike : Type 0) (w v : World) (dir : Row) (tree : IsTree w.rows) (other : IsTree v.rows) (differ : DifferBeneath d dir w v) (full : EmptyAlike → Filled w.rows d × Filled v.rows d)
       (names : SameNames → HasSameNames d w v) (used : SameNumbers → UseSameNumbers w v) where
-    event_too : (caller : Caller) (event : Event) → IsOutside dir caller event → SeesTheSame dir SameNames SameNumbers EmptyAlike caller event → IsEvent numbers segments w caller event → IsEvent numbers segments v caller event
+    event_too : (caller : Caller) (event : Event) → IsOutside dir caller event → SeesTheSame w d dir SameNames SameNumbers EmptyAlike caller event → IsEvent numbers segments w caller event → IsEvent numbers segments v caller event
     event_too caller (User request answer) out sees is =
-        answer_too numbers w v d dir tree other below differ caller out.0 (λ h. names (sees.0 h)) request answer (λ m. full (sees.2 m)) (λ m. used (sees.1 m)) is
+        answer_too numbers w v d dir tree other below differ caller out.0 request (λ on h. names (sees.0 on h)) answer (λ m. full (sees.2 m)) (λ m. used (sees.1 m)) is
     event_too caller (Cleaner kind outcome) out sees is = is
 
     abbrev SameAfter : World → World → Type 0
     SameAfter x y = (x.level ≡ y.level) × ((n : ℕ) → map.get w.rows n ≡ map.get v.rows n → map.get x.rows n ≡ map.get y.rows n)
 
-    event_same : (caller : Caller) (event : Event) → IsOutside dir caller event → SeesTheSame dir SameNames SameNumbers EmptyAlike caller event → IsEvent numbers segments w caller event
+    event_same : (caller : Caller) (event : Event) → IsOutside dir caller event → SeesTheSame w d dir SameNames SameNumbers EmptyAlike caller event → IsEvent numbers segments w caller event
         → SameAfter (after_event numbers w caller event) (after_event numbers v caller event)
     event_same caller (User request (Served shown)) out sees is =
         let e = effect_same numbers w v d dir tree other below differ caller out.0 request (λ m. used (sees.1 m)) is.0 in (e.level, e.rows)
@@ -487,11 +501,11 @@ module _ (numbers segments : ℕ) (d : ℕ) (below : d ≢ root) where
     event_same caller (User request (Refused resource)) out sees is = (differ.level, λ n e. e)
     event_same caller (Cleaner kind outcome) out sees is = (differ.level, λ n e. e)
 
-    made_numbers : (caller : Caller) (event : Event) → SeesTheSame dir SameNames SameNumbers EmptyAlike caller event → MakesRow event → SameNumbers
+    made_numbers : (caller : Caller) (event : Event) → SeesTheSame w d dir SameNames SameNumbers EmptyAlike caller event → MakesRow event → SameNumbers
     made_numbers caller (User request answer) sees m = sees.1 m
     made_numbers caller (Cleaner kind outcome) sees m = absurd m
 
-    module _ (caller : Caller) (event : Event) (out : IsOutside dir caller event) (sees : SeesTheSame dir SameNames SameNumbers EmptyAlike caller event)
+    module _ (caller : Caller) (event : Event) (out : IsOutside dir caller event) (sees : SeesTheSame w d dir SameNames SameNumbers EmptyAlike caller event)
         (is : IsEvent numbers segments w caller event) (too : IsEvent numbers segments v caller event) where
       abbrev one : World
       one = after_event numbers w caller event
@@ -537,23 +551,26 @@ module _ (numbers segments : ℕ) (d : ℕ) (below : d ≢ root) where
 
 -- ---- runs
 
-sees_one : (SameNames SameNumbers EmptyAlike : Type 0) (dir new : Row) → SameDoor dir new → (caller : Caller) (event : Event) → SeesTheSame dir SameNames SameNumbers EmptyAlike caller event → SeesTheSame new SameNames SameNumbers EmptyAlike caller event
-sees_one SameNames SameNumbers EmptyAlike dir new same caller (User request answer) sees = (λ h. sees.0 (sym (same.grants caller bits.Read) ∙ h), sees.1, sees.2)
-sees_one SameNames SameNumbers EmptyAlike dir new same caller (Cleaner kind outcome) sees = tt
+sees_one : (w : World) (d : ℕ) (SameNames SameNumbers EmptyAlike : Type 0) (dir new : Row) → SameDoor dir new → (caller : Caller) (event : Event) → SeesTheSame w d dir SameNames SameNumbers EmptyAlike caller event → SeesTheSame w d new SameNames SameNumbers EmptyAlike caller event
+sees_one w d SameNames SameNumbers EmptyAlike dir new same caller (User request answer) sees = (λ on h. sees.0 on (sym (same.grants caller bits.Read) ∙ h), sees.1, sees.2)
+sees_one w d SameNames SameNumbers EmptyAlike dir new same caller (Cleaner kind outcome) sees = tt
 
-sees_on : (SameNames SameNumbers EmptyAlike : Type 0) (dir new : Row) → SameDoor dir new → (entries : List Entry) → AllSeeTheSame dir SameNames SameNumbers EmptyAlike entries → AllSeeTheSame new SameNames SameNumbers EmptyAlike entries
-sees_on SameNames SameNumbers EmptyAlike dir new same [] sees = tt
-sees_on SameNames SameNumbers EmptyAlike dir new same (e ∷ es) sees = (sees_one SameNames SameNumbers EmptyAlike dir new same e.cred e.event sees.0, sees_on SameNames SameNumbers EmptyAlike dir new same es sees.1)
+module _ (numbers d : ℕ) (SameNames SameNumbers EmptyAlike : Type 0) (dir new : Row) (same : SameDoor dir new) where
+  sees_on : (entries : List Entry) (w : World) → AllSeeTheSame numbers d dir SameNames SameNumbers EmptyAlike entries w → AllSeeTheSame numbers d new SameNames SameNumbers EmptyAlike entries w
+  sees_on [] w sees = tt
+  sees_on (e ∷ es) w sees = (sees_one w d SameNames SameNumbers EmptyAlike dir new same e.cred e.event sees.0, sees_on es (after_event numbers w e.cred e.event) sees.1)
 
 module _ (numbers segments : ℕ) (d : ℕ) (below : d ≢ root) (SameNames SameNumbers EmptyAlike : Type 0) where
-  -- a Rmdir meets a directory in which something hangs
-  met : (w v : World) (dir : Row) → (EmptyAlike → Filled w.rows d × Filled v.rows d) → (caller : Caller) (event : Event) → SeesTheSame dir SameNames SameNumbers EmptyAlike caller event → RemovesDirectory w d event → Filled w.rows d
-  met w v dir full caller (User request answer) sees r = (full (sees.2 (rmdir_by w d request r))).0
+  -- what would remove the directory meets one in which something hangs
+  met : (w v : World) (dir : Row) → (EmptyAlike → Filled w.rows d × Filled v.rows d) → (caller : Caller) (event : Event) → SeesTheSame w d dir SameNames SameNumbers EmptyAlike caller event → RemovesDirectory w d event → Filled w.rows d
+  met w v dir full caller (User request (Served shown)) sees r = (full (sees.2 (removes_onto w d request r))).0
+  met w v dir full caller (User request (Denied denial)) sees r = absurd r
+  met w v dir full caller (User request (Refused resource)) sees r = absurd r
   met w v dir full caller (Cleaner kind outcome) sees r = absurd r
 
   legal_too : (entries : List Entry) (w v : World) (dir : Row) → IsTree w.rows → IsTree v.rows → DifferBeneath d dir w v → dir.file.kind ≡ Directory → (EmptyAlike → Filled w.rows d × Filled v.rows d)
       → (SameNames → HasSameNames d w v) → (SameNumbers → UseSameNumbers w v)
-      → AreOutside dir entries → AllSeeTheSame dir SameNames SameNumbers EmptyAlike entries → IsLegal numbers segments entries w → IsLegal numbers segments entries v
+      → AreOutside dir entries → AllSeeTheSame numbers d dir SameNames SameNumbers EmptyAlike entries w → IsLegal numbers segments entries w → IsLegal numbers segments entries v
   legal_too [] w v dir tree other differ kind full names used out sees legal = tt
   legal_too (e ∷ es) w v dir tree other differ kind full names used out sees legal =
       let too = event_too numbers segments d below SameNames SameNumbers EmptyAlike w v dir tree other differ full names used e.cred e.event out.0 sees.0 legal.0 in
@@ -567,7 +584,7 @@ module _ (numbers segments : ℕ) (d : ℕ) (below : d ≢ root) (SameNames Same
             (λ alike. (stays w tree differ.one legal.0 (full alike).0, stays v other differ.other too (full alike).1))
             (names_after numbers segments d below SameNames SameNumbers EmptyAlike w v dir tree other differ full names used e.cred e.event out.0 sees.0 legal.0 too)
             (used_after numbers segments d below SameNames SameNumbers EmptyAlike w v dir tree other differ full names used e.cred e.event out.0 sees.0 legal.0 too)
-            (outside_on dir next.value next.same es out.1) (sees_on SameNames SameNumbers EmptyAlike dir next.value next.same es sees.1) legal.1,
+            (outside_on dir next.value next.same es out.1) (sees_on numbers d SameNames SameNumbers EmptyAlike dir next.value next.same es (after_event numbers w e.cred e.event) sees.1) legal.1,
       )
 
 -- nothing hides in an empty directory

@@ -28,6 +28,7 @@ use Rattle.lfs_model.specs.Rights.{Reaches}
 use Rattle.lfs_model.specs.Steps.{AllUsed, LacksInodes, IsCrowded, MayLack, IsAnswer}
 use Rattle.lfs_model.proofs.CallLaws.{shown_law}
 use Rattle.lfs_model.proofs.Deciding.{met_first, passes-append}
+use Rattle.lfs_types.specs.declared.limits.TheConstants.{FILE_BLOCKS}
 use Rattle.lfs_model.proofs.SameKeys.{same_keys}
 
 -- ---- rows that look alike
@@ -133,11 +134,11 @@ module _ (caller : Caller) (w v : World) (tree : IsTree w.rows) (differ : Differ
   visited_at at [] = refl
   visited_at at (name ∷ names) = ap (λ ns. at ∷ ns) (visited_at (next w.rows at name) names ∙ ap (λ o. visited v.rows (unwrap_or o 0) names) (λ i. child_same i at name))
 
-  making_same : (path : ℕ) (names : List (List ℕ)) → making w.rows caller path names ≡ making v.rows caller path names
-  making_same path names = λ i.
+  making_same : (names : List (List ℕ)) → making w.rows caller names ≡ making v.rows caller names
+  making_same names = λ i.
       let dir = reached_same i root (front names) in
-      asks (not (length names == 0)) NameFree path 0
-      ∷ walk_at path 0 root (front names) i ++ making_tests caller (is_none (child_same i dir (last names))) path (attributes i dir) (length (front names))
+      asks (not (length names == 0)) NameFree 0 0
+      ∷ walk_at 0 0 root (front names) i ++ making_tests caller (is_none (child_same i dir (last names))) (attributes i dir) (length (front names))
 
   removing_same : (names : List (List ℕ)) → removing w.rows caller names ≡ removing v.rows caller names
   removing_same names = λ i.
@@ -183,8 +184,8 @@ module _ (caller : Caller) (w v : World) (tree : IsTree w.rows) (differ : Differ
   table_same (Names path) = reaching_same path (list_tests caller)
   table_same (Write path place bytes) = reaching_same path (write_tests caller place (length bytes))
   table_same (SetLength path len) = reaching_same path (length_tests caller len)
-  table_same (Create path mode) = making_same 0 path
-  table_same (Mkdir path mode) = making_same 0 path
+  table_same (Create path mode) = making_same path
+  table_same (Mkdir path mode) = making_same path
   table_same (Unlink path) = λ i.
       removing_same path i ++ unlink_tests (attributes i (reached_same i root path)) (length path)
   table_same (Rmdir path) = λ i.
@@ -288,7 +289,7 @@ module _ (caller : Caller) (w v : World) (tree : IsTree w.rows) (differ : Differ
   lacks_back numbers (SetLevel level) h = h
   lacks_back numbers Sync h = h
 
-  many_same : (path : List (List ℕ)) → 140 ≤ length (children w.rows (reached w.rows root (front path))) → 140 ≤ length (children v.rows (reached v.rows root (front path)))
+  many_same : (path : List (List ℕ)) → FILE_BLOCKS ≤ length (children w.rows (reached w.rows root (front path))) → FILE_BLOCKS ≤ length (children v.rows (reached v.rows root (front path)))
   many_same path h =
       let count : length (children w.rows (reached w.rows root (front path))) ≡ length (children v.rows (reached v.rows root (front path))) = λ i. length (children_same i (reached_same i root (front path))) in
       omega (arith, count, h)

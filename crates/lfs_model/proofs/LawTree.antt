@@ -67,7 +67,7 @@ place_tree : (w : World) → IsTree w.rows → (n : ℕ) → (n ≡ root → ⊥
 place_tree w tree n below parent name dir there directory free apart None e = tree
 place_tree w tree n below parent name dir there directory free apart (Some r) e = IsTree-moved w.rows tree n r e below parent name dir there directory free apart
 
-new_tree : (numbers : ℕ) (w : World) → IsTree w.rows → (caller : Caller) (path : List (List ℕ)) (kind : Kind) (gid mode : ℕ) → MayMake w.rows caller 0 path → (AllUsed numbers w.rows → ⊥)
+new_tree : (numbers : ℕ) (w : World) → IsTree w.rows → (caller : Caller) (path : List (List ℕ)) (kind : Kind) (gid mode : ℕ) → MayMake w.rows caller path → (AllUsed numbers w.rows → ⊥)
     → IsTree (map.insert w.rows (least_unused w.rows numbers 4) (record { parent = reached w.rows root (front path); name = last path; file = new_file caller kind gid mode }))
 new_tree numbers w tree caller path kind gid mode may room =
     let dir = directory_there _ may.directory in
@@ -142,8 +142,8 @@ module _ (numbers : ℕ) (w : World) (caller : Caller) (tree : IsTree w.rows) wh
       changed_tree path (is_end place) (written caller place (b ∷ bs)) (may_change w.rows caller path (is_end place) (λ attrs k. asks (nat_le (start_of place attrs.size + length (b ∷ bs)) file_max) FitsFile 0 k ∷ []) allowed) (λ f. refl)
   effect_tree (SetLength path len) allowed room =
       changed_tree path false (cut caller len) (may_change w.rows caller path false (λ attrs k. asks (nat_le len file_max) FitsFile 0 k ∷ []) allowed) (λ f. refl)
-  effect_tree (Create path mode) allowed room = new_tree numbers w tree caller path Regular _ mode (may_make w.rows tree caller 0 path allowed) room
-  effect_tree (Mkdir path mode) allowed room = new_tree numbers w tree caller path Directory _ mode (may_make w.rows tree caller 0 path allowed) room
+  effect_tree (Create path mode) allowed room = new_tree numbers w tree caller path Regular _ mode (may_make w.rows tree caller path allowed) room
+  effect_tree (Mkdir path mode) allowed room = new_tree numbers w tree caller path Directory _ mode (may_make w.rows tree caller path allowed) room
   effect_tree (Unlink path) allowed room =
       let two = passes-append (removing w.rows caller path) _ allowed in
       let may = may_remove w.rows caller path two.0 in

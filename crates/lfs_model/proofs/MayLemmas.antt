@@ -77,12 +77,12 @@ module _ (w : World) (caller : Caller) (tree : IsTree w.rows) where
     holds = holds there.value there.is;
   }
 
-  place_at : (index : ℕ) (path : List (List ℕ)) (P : ℕ → Type 0) → first_failing (making w.rows caller index path) ≡ None → P (reached w.rows root (front path)) → HasPlace w caller path P
-  place_at index path P h holds = let may = may_make w.rows tree caller index path h in record {
+  place_at : (path : List (List ℕ)) (P : ℕ → Type 0) → first_failing (making w.rows caller path) ≡ None → P (reached w.rows root (front path)) → HasPlace w caller path P
+  place_at path P h holds = let may = may_make w.rows tree caller path h in record {
     parent = reached w.rows root (front path);
     filled = some_path path may.filled;
-    leads = led_met w.rows caller index 0 root (front path) may.walks;
-    placed = placed w caller tree index path may;
+    leads = led_met w.rows caller 0 0 root (front path) may.walks;
+    placed = placed w caller tree path may;
     holds = holds;
   }
 
@@ -209,8 +209,8 @@ module _ (w : World) (caller : Caller) (tree : IsTree w.rows) where
         not-true _ (known w caller tree _ r there (λ x. (false || not (is_append_only x)) ≡ true) _ refl change.keeps),
         le-true _ _ fits.0,
       ))
-  may (Create path mode) h = place_at 0 path _ h tt
-  may (Mkdir path mode) h = place_at 0 path _ h tt
+  may (Create path mode) h = place_at path _ h tt
+  may (Mkdir path mode) h = place_at path _ h tt
   may (Unlink path) h =
       let two = passes-append (removing w.rows caller path) _ h in
       let file = met_first _ _ _ two.1 in

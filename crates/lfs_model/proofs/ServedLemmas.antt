@@ -181,12 +181,12 @@ module _ (rows : Rows) (caller : Caller) (tree : IsTree rows) where
   filled_path [] some = absurd (some refl)
   filled_path (name ∷ names) some = ne_eqb (suc (length names)) 0 (omega arith)
 
-  makes : (index : ℕ) (path : List (List ℕ)) (p : ℕ) → path ≢ [] → led rows (Some root) (front path) ≡ Some p → MayPlace rows caller p (last path)
-      → first_failing (making rows caller index path) ≡ None
-  makes index path p filled e may =
-      let way = passes index 0 root (front path) p e may.writes.reaches in
+  makes : (path : List (List ℕ)) (p : ℕ) → path ≢ [] → led rows (Some root) (front path) ≡ Some p → MayPlace rows caller p (last path)
+      → first_failing (making rows caller path) ≡ None
+  makes path p filled e may =
+      let way = passes 0 0 root (front path) p e may.writes.reaches in
       let there = there_is _ may.directory in
-      met_then _ _ _ (not_true _ (filled_path path filled)) (failing-behind (walk rows caller index 0 root (front path)) _ way.walks
+      met_then _ _ _ (not_true _ (filled_path path filled)) (failing-behind (walk rows caller 0 0 root (front path)) _ way.walks
       ∙ met_then _ _ _ (ap (λ n. is_directory_kind (attrs_at rows n).kind) way.ends ∙ sym (directory_attrs _ there) ∙ may.directory)
       (met_then _ _ _ (ap (λ n. grants_of caller (attrs_at rows n) bits.Search) way.ends ∙ sym (grants_attrs caller bits.Search _ there) ∙ may.searches)
       (met_then _ _ _ (ap (λ n. is_none (child rows n (last path))) way.ends ∙ free_name p (last path) _ refl may.free)
@@ -406,8 +406,8 @@ module _ (w : World) (caller : Caller) (tree : IsTree w.rows) where
       (met_then _ _ _ (ap (row_grants caller bits.Write) (sym may.there) ∙ writes.granted)
       (met_then _ _ _ (not_true _ may.holds.2)
       (met_then _ _ _ (at_most _ _ may.holds.3) refl)))))
-  served (Create path mode) may = makes w.rows caller tree 0 path may.parent may.filled may.leads may.placed
-  served (Mkdir path mode) may = makes w.rows caller tree 0 path may.parent may.filled may.leads may.placed
+  served (Create path mode) may = makes w.rows caller tree path may.parent may.filled may.leads may.placed
+  served (Mkdir path mode) may = makes w.rows caller tree path may.parent may.filled may.leads may.placed
   served (Unlink path) may =
       let way = passes w.rows caller tree 0 0 root path may.number may.leads may.holds.0.reaches in
       failing-behind (removing w.rows caller path) _ (removes w.rows caller tree path may.number may.row may.leads may.there may.holds.0)

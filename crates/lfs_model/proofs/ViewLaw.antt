@@ -67,37 +67,32 @@ module _ (rows others : Rows) (caller : Caller) (tree : IsTree rows) where
 
   -- ---- names that are made
 
-  making_tail : (index k dir : ℕ) (name : List ℕ) → There (map.get rows dir) → Sees rows others caller (Some dir) (name ∷ [])
-      → first_failing (making_tests caller (is_none (child rows dir name)) index (attrs_at rows dir) k)
-      ≡ first_failing (making_tests caller (is_none (child others dir name)) index (attrs_at others dir) k)
-  making_tail index k dir name there e =
+  making_tail : (k dir : ℕ) (name : List ℕ) → There (map.get rows dir) → Sees rows others caller (Some dir) (name ∷ [])
+      → first_failing (making_tests caller (is_none (child rows dir name)) (attrs_at rows dir) k)
+      ≡ first_failing (making_tests caller (is_none (child others dir name)) (attrs_at others dir) k)
+  making_tail k dir name there e =
       let attrs = attrs_alike rows others dir (sees_first rows others caller dir (name ∷ []) e) in
       alike_cons _ _ _ _ _ (ap (λ (a : Attrs). is_directory_kind a.kind) attrs) (λ d.
       alike_cons _ _ _ _ _ (ap (λ (a : Attrs). grants_of caller a bits.Search) attrs) (λ s.
       let step = sees_step rows others caller dir name [] e (directory_attrs _ there ∙ d) (grants_attrs caller bits.Search _ there ∙ s) in
       λ i. first_failing (
-      asks (is_none (step.leads i)) NameFree index (k + 1)
-      ∷ asks (not (is_immutable (attrs i))) IsMutable index k
-      ∷ asks (grants_of caller (attrs i) bits.Write) GrantsWrite index k
+      asks (is_none (step.leads i)) NameFree 0 (k + 1)
+      ∷ asks (not (is_immutable (attrs i))) IsMutable 0 k
+      ∷ asks (grants_of caller (attrs i) bits.Write) GrantsWrite 0 k
       ∷ [])))
 
   made_end : (index : ℕ) (path : List (List ℕ)) → (length path == 0) ≡ false → Way path → first_failing (walk rows caller index 0 root (front path)) ≡ None
       → Ends rows others caller (front path) (last path ∷ []) root
   made_end index path filled e walks = walk_ends rows others caller (front path) (last path ∷ []) index 0 root (parted path filled e) walks
 
-  making_alike : (index : ℕ) (path : List (List ℕ)) → Way path → first_failing (making rows caller index path) ≡ first_failing (making others caller index path)
-  making_alike index path e = alike_cons _ _ _ _ _ refl (λ some.
+  making_alike : (path : List (List ℕ)) → Way path → first_failing (making rows caller path) ≡ first_failing (making others caller path)
+  making_alike path e = alike_cons _ _ _ _ _ refl (λ some.
       let filled = not-true _ some in
-      alike_behind Same (λ d. refl) (walk rows caller index 0 root (front path)) (walk others caller index 0 root (front path)) _ _
-      (walk_alike rows others caller (front path) (last path ∷ []) index 0 root (parted path filled e))
-      (λ walks. let end = made_end index path filled e walks in
-      making_tail index (length (front path)) (reached rows root (front path)) (last path) (path_there rows tree caller index (front path) walks) end.sees
-      ∙ ap (λ n. first_failing (making_tests caller (is_none (child others n (last path))) index (attrs_at others n) (length (front path)))) end.same))
-
-  made : (index : ℕ) (path : List (List ℕ)) → Way path → first_failing (making rows caller index path) ≡ None → Ends rows others caller (front path) (last path ∷ []) root
-  made index path e h =
-      let some = met_first _ _ _ h in
-      made_end index path (not-true _ some.0) e (passes-append (walk rows caller index 0 root (front path)) _ some.1).0
+      alike_behind Same (λ d. refl) (walk rows caller 0 0 root (front path)) (walk others caller 0 0 root (front path)) _ _
+      (walk_alike rows others caller (front path) (last path ∷ []) 0 0 root (parted path filled e))
+      (λ walks. let end = made_end 0 path filled e walks in
+      making_tail (length (front path)) (reached rows root (front path)) (last path) (path_there rows tree caller 0 (front path) walks) end.sees
+      ∙ ap (λ n. first_failing (making_tests caller (is_none (child others n (last path))) (attrs_at others n) (length (front path)))) end.same))
 
   -- ---- names that are taken away
 
@@ -293,8 +288,8 @@ module _ (w v : World) (caller : Caller) (tree : IsTree w.rows) (other : IsTree 
   decided (Names path) h = inl (reach path (list_tests caller) (first_same _ _ _ _ h.rows))
   decided (Write path place bytes) h = inl (reach path (write_tests caller place (length bytes)) (first_same _ _ _ _ h.rows))
   decided (SetLength path len) h = inl (reach path (length_tests caller len) (first_same _ _ _ _ h.rows))
-  decided (Create path mode) h = inl (making_alike w.rows v.rows caller tree 0 path (first_same _ _ _ _ h.rows))
-  decided (Mkdir path mode) h = inl (making_alike w.rows v.rows caller tree 0 path (first_same _ _ _ _ h.rows))
+  decided (Create path mode) h = inl (making_alike w.rows v.rows caller tree path (first_same _ _ _ _ h.rows))
+  decided (Mkdir path mode) h = inl (making_alike w.rows v.rows caller tree path (first_same _ _ _ _ h.rows))
   decided (Unlink path) h = inl (let e = first_same _ _ _ _ h.rows in
       alike_behind Same (λ d. refl) (removing w.rows caller path) (removing v.rows caller path) _ _ (removing_alike w.rows v.rows caller tree path e)
       (λ out. ap (λ attrs. first_failing (unlink_tests attrs (length path))) (removed w.rows v.rows caller tree path e out).file.attrs))

@@ -123,24 +123,24 @@ entering_tests caller path dir k =
     ∷ asks (grants_of caller dir bits.Write) GrantsWrite path k
     ∷ []
 
--- the tests of the directory that gets a new name, at component k of the path of this index; the name may be free in it
-abbrev pub making_tests : Caller → Bool → ℕ → Attrs → ℕ → List Check
-making_tests caller free path dir k =
-    asks (is_directory_kind dir.kind) IsDirectory path k
-    ∷ asks (grants_of caller dir bits.Search) GrantsSearch path k
-    ∷ asks free NameFree path (k + 1)
-    ∷ asks (not (is_immutable dir)) IsMutable path k
-    ∷ asks (grants_of caller dir bits.Write) GrantsWrite path k
+-- the tests of the directory, at component k of the path, that gets a new row; its name may be free in it
+abbrev pub making_tests : Caller → Bool → Attrs → ℕ → List Check
+making_tests caller free dir k =
+    asks (is_directory_kind dir.kind) IsDirectory 0 k
+    ∷ asks (grants_of caller dir bits.Search) GrantsSearch 0 k
+    ∷ asks free NameFree 0 (k + 1)
+    ∷ asks (not (is_immutable dir)) IsMutable 0 k
+    ∷ asks (grants_of caller dir bits.Write) GrantsWrite 0 k
     ∷ []
 
--- the tests of a call that gives a new name to a row, in the path of this index
-abbrev pub making : Rows → Caller → ℕ → List (List ℕ) → List Check
-making rows caller path names =
+-- the tests of a call that makes a row
+abbrev pub making : Rows → Caller → List (List ℕ) → List Check
+making rows caller names =
     let parents = front names in
     let dir = reached rows root parents in
     let free = is_none (child rows dir (last names)) in
-    asks (not (length names == 0)) NameFree path 0
-    ∷ walk rows caller path 0 root parents ++ making_tests caller free path (attrs_at rows dir) (length parents)
+    asks (not (length names == 0)) NameFree 0 0
+    ∷ walk rows caller 0 0 root parents ++ making_tests caller free (attrs_at rows dir) (length parents)
 
 -- the tests of a directory, at component k of the path of this index, and of what hangs in it, whose name is to be taken
 -- away
@@ -313,8 +313,8 @@ rule_table w caller (Read path off len) = reaching w.rows caller path (read_test
 rule_table w caller (Names path) = reaching w.rows caller path (list_tests caller)
 rule_table w caller (Write path place bytes) = reaching w.rows caller path (write_tests caller place (length bytes))
 rule_table w caller (SetLength path len) = reaching w.rows caller path (length_tests caller len)
-rule_table w caller (Create path mode) = making w.rows caller 0 path
-rule_table w caller (Mkdir path mode) = making w.rows caller 0 path
+rule_table w caller (Create path mode) = making w.rows caller path
+rule_table w caller (Mkdir path mode) = making w.rows caller path
 rule_table w caller (Unlink path) =
     removing w.rows caller path ++ unlink_tests (attrs_at w.rows (reached w.rows root path)) (length path)
 rule_table w caller (Rmdir path) =

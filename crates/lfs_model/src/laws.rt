@@ -242,10 +242,10 @@ pub fn closed_door()
 /// What stands beneath a directory makes no difference to users whom the directory doesn't grant search. Two trees that differ
 /// only there decide each call of theirs alike, but that a Rmdir of the directory itself and a Rename onto it tell whether it
 /// is empty; and where they allow it, they answer it alike. Where none of them owns the directory, this holds through each run:
-/// the answers that may come from the one tree may come from the other, refusals for a resource among them. If one of them may
-/// read the directory, the same names must hang in it. If one calls Rmdir or Rename, it must be empty in both trees or in
-/// neither. If one is allowed to make a row, the same numbers must be in use: they are no secret, since a new row gets the least
-/// that no row has, wherever the others hang.
+/// the answers that may come from the one tree may come from the other, refusals for a resource among them. If one of them lists
+/// the directory, which grants him read, the same names must hang in it. If one would take it away, and no rule before K2 denies
+/// that, it must be empty in both trees or in neither. If one is allowed to make a row, the same numbers must be in use: they are
+/// no secret, since a new row gets the least that no row has, wherever the others hang.
 pub fn closed_door_hides()
     ensures call { HidesFromCall }
     ensures run { HidesFromRun }

@@ -7,6 +7,7 @@ ghost use Rattle.lfs_types.specs.declared.cleaner.BlockInfo.{BlockInfo};
 ghost use Rattle.lfs_model.specs.Runs.{outcome_of};
 ghost use Rattle.lfs_volume.specs.Cleanings.{IsCleaned, IsCleanerAnswer, IsCounted, IsDone, cleaner_of};
 
+use lfs_calls::tree::Tree;
 use lfs_model::journal::{CleanerAnswer, CleanerOutcome};
 use lfs_types::answer::Resource;
 use lfs_types::cleaned::CleanedStore;
@@ -16,7 +17,11 @@ use lfs_types::payload::Bytes;
 use lfs_types::rule::{Denial, Rule};
 
 /// The answer to a cleaner's call: a denial where the caller is not the superuser, else what the store's call gives.
-pub fn cleaned<F: CleanedStore>(store: &mut F, cred: &Cred, call: CleanerCall) -> CleanerAnswer
+pub fn cleaned<F: CleanedStore>(
+    store: &mut Tree<F>,
+    cred: &Cred,
+    call: CleanerCall,
+) -> CleanerAnswer
     ensures answered { IsCleanerAnswer
         (cleaner_of F.state F.is_settled F.gives_ifile F.gives_infos F.gives_addresses F.writes_again F.reclaims)
         store.old cred.now call result store.new }
@@ -33,7 +38,7 @@ pub fn cleaned<F: CleanedStore>(store: &mut F, cred: &Cred, call: CleanerCall) -
 }
 
 /// The answer to a superuser's call: what the store's call gives.
-fn done<F: CleanedStore>(store: &mut F, call: CleanerCall) -> CleanerAnswer
+fn done<F: CleanedStore>(store: &mut Tree<F>, call: CleanerCall) -> CleanerAnswer
     ensures done { IsDone
         (cleaner_of F.state F.is_settled F.gives_ifile F.gives_infos F.gives_addresses F.writes_again F.reclaims)
         store.old call result store.new }
@@ -80,7 +85,7 @@ pub fn outcome(answer: &CleanerAnswer) -> Option<CleanerOutcome>
 }
 
 /// The bytes of the ifile, where there is memory for them and a u32 counts them.
-fn ifile<F: CleanedStore>(store: &F) -> Option<Bytes>
+fn ifile<F: CleanedStore>(store: &Tree<F>) -> Option<Bytes>
     ensures given { IfSome result (λ bytes. F.gives_ifile store.now bytes) }
     ensures size { IfSome result (λ bytes. length bytes ≡ ifile_size (F.state store.now).shape) }
     ensures counted { IfSome result (λ bytes. length bytes < 2 ^ 32) }
@@ -93,7 +98,7 @@ fn ifile<F: CleanedStore>(store: &F) -> Option<Bytes>
 }
 
 /// The infos of a segment.
-fn infos<F: CleanedStore>(store: &F, segment: u32) -> Result<InfoList, CleanFault>
+fn infos<F: CleanedStore>(store: &Tree<F>, segment: u32) -> Result<InfoList, CleanFault>
     ensures given { MatchResult result
         (λ infos. F.gives_infos store.now segment (Ok tt) infos)
         (λ fault. (infos : List BlockInfo) × F.gives_infos store.now segment (Err fault) infos) }
@@ -106,7 +111,7 @@ fn infos<F: CleanedStore>(store: &F, segment: u32) -> Result<InfoList, CleanFaul
 }
 
 /// The infos with their present addresses.
-fn addresses<F: CleanedStore>(store: &F, infos: InfoList) -> InfoList
+fn addresses<F: CleanedStore>(store: &Tree<F>, infos: InfoList) -> InfoList
     ensures given { F.gives_addresses store.now infos result }
     ensures few { length result ≤ INFO_LIMIT }
 {

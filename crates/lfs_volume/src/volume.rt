@@ -20,6 +20,7 @@ ghost use Rattle.lfs_volume.specs.StepRuns.{AreLegalAlone, AreSteps, IsActMade};
 use crate::cleaning::{cleaned, outcome};
 use lfs_calls::not_served::answered;
 use lfs_calls::serving::serve;
+use lfs_calls::tree::Tree;
 use lfs_model::counts::Counts;
 use lfs_model::journal::{Call, CleanerAnswer, CleanerKind, Entry, Event};
 use lfs_model::steps::{Act, Step, StepAnswer};
@@ -38,7 +39,7 @@ use thiserror::Error;
 /// the tree that its store and its level show, and that its counts are those over its journal.
 #[derive(Drop)]
 pub struct Volume<F: FileStore + Drop> {
-    store: F,
+    store: Tree<F>,
     level: Level,
     journal: Vec<Entry>,
     counts: Counts,
@@ -64,12 +65,14 @@ impl<F: FileStore + Drop> Model for Volume<F> {
 }
 
 impl<F: FileStore + Drop> Volume<F> {
-    /// A volume over a store that holds the tree of a fresh volume, with room for `journal_limit` entries.
+    /// A volume over a store that holds the tree of a fresh volume, with room for `journal_limit` entries and for the names
+    /// that it will know.
     pub fn new(alloc: Global, store: F, journal_limit: u32) -> Result<Volume<F>, AllocError>
         requires { (F.state store).content ≡ opening_content }
         ensures { IfOk result (λ v. v ≡ record
             { store = store; level = Insecure; journal = []; limit = journal_limit }) }
     {
+        let store = Tree::new(alloc, store)?;
         let journal = Vec::with_capacity(alloc, journal_limit as usize)?;
         Ok(Volume {
             store,
@@ -367,7 +370,7 @@ fn level_set(level: Level, request: &Request) -> Level
 /// The answer to a call, which is done, and a copy of it; none where the call or the copy wants memory.
 fn answer_twice<F: FileStore>(
     alloc: Global,
-    store: &mut F,
+    store: &mut Tree<F>,
     level: &mut Level,
     cred: &Cred,
     request: &Request,
@@ -396,7 +399,7 @@ fn answer_twice<F: FileStore>(
 /// The answer to a call by the rules, and its effect on the store and the securelevel.
 fn answer<F: FileStore>(
     alloc: Global,
-    store: &mut F,
+    store: &mut Tree<F>,
     level: &mut Level,
     cred: &Cred,
     request: &Request,

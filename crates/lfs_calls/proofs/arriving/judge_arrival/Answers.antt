@@ -10,7 +10,7 @@ use Rattle.lfs_calls.specs.Volumes.{IsVolume}
 use Rattle.lfs_calls.proofs.ArrivalLemmas.{arrive_decided, arrive_denied, arrival_is}
 use Rattle.lfs_calls.proofs.AskLemmas.{denies}
 use Rattle.lfs_calls.proofs.CallLemmas.{still}
-use Rattle.lfs_calls.proofs.Directories.{dir_stored}
+use Rattle.lfs_calls.proofs.Directories.{dir_stored, directory_at}
 use Rattle.lfs_calls.proofs.MakeLemmas.{Way}
 use Rattle.lfs_calls.proofs.StateLemmas.{same_content}
 use Rattle.lfs_calls.proofs.StepLemmas.{child_listed}
@@ -52,7 +52,11 @@ look_up-there-requires g c =
     let k = (goal.at.look_up-there-requires g c).In_ok-dir in
     let t = c.requires.world in
     let met = judged_all (searching_tests c.args.cred.now 1 c.in_ok-dir.dir.attrs c.component-at.result) (sym c.in_ok-may_search.ensures) in
-    dir_stored (still c.reach.ensures.state t.1).shows c.in_ok-dir.dir.number c.in_ok-dir.dir.attrs (shown_after g k t.0 t.1) (met_first _ _ _ met).0
+    let shows = (still c.reach.ensures.state t.1).shows in
+    record {
+      stored = dir_stored shows c.in_ok-dir.dir.number c.in_ok-dir.dir.attrs (shown_after g k t.0 t.1) (met_first _ _ _ met).0;
+      directory = directory_at shows c.in_ok-dir.dir.number c.in_ok-dir.dir.attrs (shown_after g k t.0 t.1) (met_first _ _ _ met).0;
+    }
 
 pub returns-clause-judge : goal.returns-clause-judge
 returns-clause-judge g c w v =

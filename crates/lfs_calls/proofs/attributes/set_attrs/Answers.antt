@@ -1,3 +1,5 @@
+use Rattle.std.proofs.Common.{refl}
+use Rattle.lfs_calls.proofs.ListedNames.{attrs_keep_names}
 use Rattle.lfs_calls.proofs.AttributeLemmas.{sets_attrs}
 use Rattle.std.proofs.lemmas.Result.{IfOk-weaker}
 use Rattle.lfs_calls.proofs.attributes.set_attrs.Goals as goal
@@ -9,3 +11,8 @@ returns g c = record {
   refused = c.apply.ensures.refused;
   follows = c.apply.ensures.follows;
 }
+
+pub apply-requires-clause-keeps : goal.apply-requires-clause-keeps
+apply-requires-clause-keeps g c =
+    let before = (g.F.FileStore.state c.args.store.now).content in
+    attrs_keep_names before _ c.args.number c.args.attrs c.requires.kind (sets_attrs before c.args.number c.args.attrs c.requires.kind _ refl)

@@ -12,6 +12,7 @@ use Rattle.lfs_calls.proofs.EntryLemmas.{bytes_keep}
 use Rattle.lfs_calls.proofs.PathLemmas.{length_path, barred, not_reached, serves}
 use Rattle.lfs_calls.proofs.StateLemmas.{same_content}
 use Rattle.lfs_types.specs.Stored.{shown_attrs}
+use Rattle.lfs_types.specs.declared.limits.TheConstants.{FILE_BYTES}
 use Rattle.lfs_calls.proofs.cutting.set_length.Goals as goal
 
 pub returns-in_err-file : goal.returns-in_err-file
@@ -31,11 +32,11 @@ cut-requires-clause-shown g c =
 
 pub cut-requires-clause-regular : goal.cut-requires-clause-regular
 cut-requires-clause-regular g c =
-    change_regular c.args.cred.now false c.in_ok-file.file.attrs c.depth.result (asks (nat_le c.args.len 71680) FitsFile 0 c.depth.result ∷ []) (judged_all (length_tests c.args.cred.now c.args.len c.in_ok-file.file.attrs c.depth.result) (sym c.in_ok-may_set_length.ensures))
+    change_regular c.args.cred.now false c.in_ok-file.file.attrs c.depth.result (asks (nat_le c.args.len FILE_BYTES) FitsFile 0 c.depth.result ∷ []) (judged_all (length_tests c.args.cred.now c.args.len c.in_ok-file.file.attrs c.depth.result) (sym c.in_ok-may_set_length.ensures))
 
 pub cut-requires-clause-fits : goal.cut-requires-clause-fits
 cut-requires-clause-fits g c =
-    leb-true _ _ (change_more c.args.cred.now false c.in_ok-file.file.attrs c.depth.result (nat_le c.args.len 71680) (record { rule = FitsFile; path = 0; at = c.depth.result }) (judged_all (length_tests c.args.cred.now c.args.len c.in_ok-file.file.attrs c.depth.result) (sym c.in_ok-may_set_length.ensures)))
+    leb-true _ _ (change_more c.args.cred.now false c.in_ok-file.file.attrs c.depth.result (nat_le c.args.len FILE_BYTES) (record { rule = FitsFile; path = 0; at = c.depth.result }) (judged_all (length_tests c.args.cred.now c.args.len c.in_ok-file.file.attrs c.depth.result) (sym c.in_ok-may_set_length.ensures)))
 
 pub returns-in_err-cut : goal.returns-in_err-cut
 returns-in_err-cut g c level =
@@ -52,7 +53,7 @@ returns g c level =
     (serves (length_path level c.args.cred.now c.args.path.now c.args.len) file c.in_ok-file.ensures.reach c.depth.result c.depth.ensures c.in_ok-may_set_length.ensures (λ w h. h) (λ w h. h))
     (λ w. refl)
     (cut_volume (g.F.FileStore.state c.cut.new.store) c.args.cred.now c.args.path.now c.find.ensures.state file c.in_ok-file.ensures.reach c.args.len
-    (change_regular c.args.cred.now false file.attrs c.depth.result (asks (nat_le c.args.len 71680) FitsFile 0 c.depth.result ∷ []) tests) (leb-true _ _ (change_more c.args.cred.now false file.attrs c.depth.result (nat_le c.args.len 71680) (record { rule = FitsFile; path = 0; at = c.depth.result }) tests)) c.in_ok-cut.ensures.ok)
+    (change_regular c.args.cred.now false file.attrs c.depth.result (asks (nat_le c.args.len FILE_BYTES) FitsFile 0 c.depth.result ∷ []) tests) (leb-true _ _ (change_more c.args.cred.now false file.attrs c.depth.result (nat_le c.args.len FILE_BYTES) (record { rule = FitsFile; path = 0; at = c.depth.result }) tests)) c.in_ok-cut.ensures.ok)
     (bytes_keep c.args.cred.now c.args.path.now c.find.ensures.state file c.in_ok-file.ensures.reach (g.F.FileStore.state c.cut.new.store)
-    (change_regular c.args.cred.now false file.attrs c.depth.result (asks (nat_le c.args.len 71680) FitsFile 0 c.depth.result ∷ []) tests) _ c.in_ok-cut.ensures.ok)
+    (change_regular c.args.cred.now false file.attrs c.depth.result (asks (nat_le c.args.len FILE_BYTES) FitsFile 0 c.depth.result ∷ []) tests) _ c.in_ok-cut.ensures.ok)
     c.in_ok-cut.ensures.follows

@@ -12,8 +12,9 @@ use Rattle.lfs_model.specs.Rules.{Judges, first_failing, last, making}
 use Rattle.lfs_calls.specs.Content.{Shows, FitsNowhere}
 use Rattle.lfs_calls.specs.declared.making.Room.{Room}
 use Rattle.lfs_calls.specs.Makes.{CanEnter, CanMake, IsParent, IsRoom}
+use Rattle.lfs_calls.specs.Names.{FindsNew}
 use Rattle.lfs_model.specs.Steps.{AllUsed}
-use Rattle.lfs_calls.proofs.CreateLemmas.{can_enter, enters_first, room_ready, crowded_in, not_all_used, roomy, shows_after, tree_after}
+use Rattle.lfs_calls.proofs.CreateLemmas.{can_enter, gives_name, enters_first, room_ready, crowded_in, not_all_used, roomy, shows_after, tree_after}
 use Rattle.lfs_calls.proofs.MakeLemmas.{all_used}
 use Rattle.lfs_calls.proofs.MakeOutcomes.{make_changing, make_entries, make_looks, make_denial, make_after, make_no_inodes, make_full, make_done, make_refused}
 use Rattle.lfs_calls.proofs.making.make.Goals as goal
@@ -25,8 +26,8 @@ before g c = (g.F.FileStore.state c.args.store.now).content
 
 -- the judge found the call allowed, and the directory in which the name is put
 judged_so : (g : _) (c : In-Some g) (w : World) → IsVolume (g.F.FileStore.state c.args.store.now) w
-    → (first_failing (making w.rows c.args.cred.now 0 c.args.path.now) ≡ None) × IsParent (before g c) w.rows c.args.path.now c.in_ok-dir.dir
-judged_so g c w v = subst (λ names. Judges (making w.rows c.args.cred.now 0 names) (IsParent (before g c) w.rows names) (Ok c.in_ok-dir.dir)) c.names-names.ensures.value (c.in_ok-dir.ensures.judge w v)
+    → (first_failing (making w.rows c.args.cred.now c.args.path.now) ≡ None) × IsParent (before g c) w.rows c.args.path.now c.in_ok-dir.dir
+judged_so g c w v = subst (λ names. Judges (making w.rows c.args.cred.now names) (IsParent (before g c) w.rows names) (Ok c.in_ok-dir.dir)) c.names-names.ensures.value (c.in_ok-dir.ensures.judge w v)
 
 parent : (g : _) (c : In-Some g) (w : World) → IsVolume (g.F.FileStore.state c.args.store.now) w → IsParent (before g c) w.rows c.args.path.now c.in_ok-dir.dir
 parent g c w v = (judged_so g c w v).1
@@ -63,9 +64,23 @@ room_is g c room n h =
     subst (λ x. IsRoom (bytes_of x c.in_ok-dir.dir.number) c.in-Some.number (last c.args.path.now) room n) (same_content c.judge_make.ensures.state)
     (subst (λ name. IsRoom (bytes_of (g.F.FileStore.state c.judge_make.new.store).content c.in_ok-dir.dir.number) c.in-Some.number name room n) (name_is g c) h)
 
-pub put_new-requires : goal.put_new-requires
-put_new-requires g c =
-    let k = (goal.at.put_new-requires g c).In-Some in
+pub put_new-requires-clause-finds : goal.put_new-requires-clause-finds
+put_new-requires-clause-finds g c after makes =
+    let k = (goal.at.put_new-requires-clause-finds g c).In-Some in
+    let t = c.requires in
+    let found = c.in-Some-find_room.ensures.room in
+    let room = c.in-Some-find_room.room in
+    let same = same_content c.find_room.ensures.state ∙ same_content c.judge_make.ensures.state in
+    subst (λ x. FindsNew x after c.in_ok-dir.dir.number c.last_name-name.result.now (Some c.in-Some.number)) (sym same)
+    (subst (λ name. FindsNew (before g k) after c.in_ok-dir.dir.number name (Some c.in-Some.number)) (sym (name_is g k))
+    (gives_name t.1.shows (parent g k t.0 t.1) c.args.cred.now t.1.tree (g.F.FileStore.state c.args.store.now).shape.numbers c.in-Some.number (least g k) c.args.kind c.args.mode
+    (room_is g k room found.0 found.1) (g.F.FileStore.state c.find_room.new.store).content after same _
+    (ap (λ n. record { kind = c.args.kind; uid = c.uid.result; gid = c.in_ok-dir.dir.attrs.gid; mode = c.args.mode; flags = n; bytes = [] }) c.none.ensures
+    ∙ ap (λ n. record { kind = c.args.kind; uid = n; gid = c.in_ok-dir.dir.attrs.gid; mode = c.args.mode; flags = 0; bytes = [] }) c.uid.ensures) makes))
+
+pub put_new-requires-clause-can : goal.put_new-requires-clause-can
+put_new-requires-clause-can g c =
+    let k = (goal.at.put_new-requires-clause-can g c).In-Some in
     let t = c.requires in
     let l = least g k in
     let found = c.in-Some-find_room.ensures.room in
@@ -77,13 +92,13 @@ returns-in_err-dir g c level =
     let p = err_from_is_err_and c.from_residual.result c.from_residual.ensures.1 in
     rw (p.1, p.2) (denied level c.judge_make.ensures.state c.in_err-dir.field-0.0 (λ w v at_level.
     make_denial (g.F.FileStore.state c.args.store.now) w c.args.cred.now c.args.path.now c.args.mode c.args.kind c.in_err-dir.field-0.0
-    (subst (λ names. first_failing (making w.rows c.args.cred.now 0 names) ≡ Some c.in_err-dir.field-0.0) c.names-names.ensures.value (c.in_err-dir.ensures.judge w v))))
+    (subst (λ names. first_failing (making w.rows c.args.cred.now names) ≡ Some c.in_err-dir.field-0.0) c.names-names.ensures.value (c.in_err-dir.ensures.judge w v))))
 
 pub returns-in_default : goal.returns-in_default
 returns-in_default g c level = lacking level c.judge_make.ensures.state NoInodes (λ w v at_level.
     let before = (g.F.FileStore.state c.args.store.now).content in
     let numbers = (g.F.FileStore.state c.args.store.now).shape.numbers in
-    let allowed = (subst (λ names. Judges (making w.rows c.args.cred.now 0 names) (IsParent before w.rows names) (Ok c.in_ok-dir.dir)) c.names-names.ensures.value (c.in_ok-dir.ensures.judge w v)).0 in
+    let allowed = (subst (λ names. Judges (making w.rows c.args.cred.now names) (IsParent before w.rows names) (Ok c.in_ok-dir.dir)) c.names-names.ensures.value (c.in_ok-dir.ensures.judge w v)).0 in
     let used = subst (λ x. IsUsedBelow x numbers) (same_content c.judge_make.ensures.state)
     (subst (λ n. IsUsedBelow (g.F.FileStore.state c.judge_make.new.store).content n) (same_numbers c.judge_make.ensures.state) c.in_default.ensures) in
     make_no_inodes (g.F.FileStore.state c.args.store.now) w c.args.cred.now c.args.path.now c.args.mode allowed c.args.kind (all_used before w v.shows numbers used))

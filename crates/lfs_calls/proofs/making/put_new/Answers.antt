@@ -4,20 +4,26 @@ use Rattle.lfs_calls.proofs.MakeLemmas.{makes_file, can_make, grown_length}
 use Rattle.lfs_types.proofs.Somewhere.{some_and}
 use Rattle.lfs_calls.proofs.making.put_new.Goals as goal
 
-pub apply-requires : goal.apply-requires
-apply-requires g c =
-    let d = some_and _ _ c.requires.block.directory in
-    can_make (g.F.FileStore.state c.args.store.now).content c.args.number c.args.attrs c.args.dir c.args.room.now.off c.args.room.now.block d.value c.requires.unused d.is
-    (g.F.FileStore.state c.args.store.now).shape.numbers _ refl c.requires.above c.requires.within c.requires.block.size
-    (grown_length d.value.kind d.value.bytes c.args.room.now.off c.args.room.now.block d.holds.0 d.holds.1 d.holds.3 c.requires.block.aligned c.requires.block.fits c.requires.block.size d.holds.2)
+pub apply_naming-requires : goal.apply_naming-requires
+apply_naming-requires g c =
+    let d = some_and _ _ c.requires.can.block.directory in
+    let room = c.args.room.now in
+    let before = (g.F.FileStore.state c.args.store.now).content in
+    let finds = c.requires.finds _ (makes_file before c.args.number c.args.attrs c.args.dir room.off room.block d.value c.requires.can.unused d.is _ refl) in
+    record {
+      can = can_make before c.args.number c.args.attrs c.args.dir room.off room.block d.value c.requires.can.unused d.is
+          (g.F.FileStore.state c.args.store.now).shape.numbers _ refl c.requires.can.above c.requires.can.within c.requires.can.block.size
+          (grown_length d.value.kind d.value.bytes room.off room.block d.holds.0 d.holds.1 d.holds.3 c.requires.can.block.aligned c.requires.can.block.fits c.requires.can.block.size d.holds.2);
+      finds = finds;
+    }
 
 pub returns : goal.returns
 returns g c =
-    let d = some_and _ _ c.requires.block.directory in
+    let d = some_and _ _ c.requires.can.block.directory in
     record {
-      ok = IfOk-weaker c.apply.result _ _ (λ _ h. makes_file (g.F.FileStore.state c.args.store.now).content c.args.number c.args.attrs c.args.dir c.args.room.now.off c.args.room.now.block d.value c.requires.unused d.is
-          (g.F.FileStore.state c.apply.new.self).content h) c.apply.ensures.ok;
-      err = c.apply.ensures.err;
-      refused = c.apply.ensures.refused;
-      follows = c.apply.ensures.follows;
+      ok = IfOk-weaker c.apply_naming.result _ _ (λ _ h. makes_file (g.F.FileStore.state c.args.store.now).content c.args.number c.args.attrs c.args.dir c.args.room.now.off c.args.room.now.block d.value c.requires.can.unused d.is
+          (g.F.FileStore.state c.apply_naming.new.self).content h) c.apply_naming.ensures.ok;
+      err = c.apply_naming.ensures.err;
+      refused = c.apply_naming.ensures.refused;
+      follows = c.apply_naming.ensures.follows;
     }

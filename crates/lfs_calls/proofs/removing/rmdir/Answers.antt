@@ -31,7 +31,7 @@ take_row-requires g c =
     let hangs = row_hangs (g.F.FileStore.state c.args.store.now).content t.0 t.1.shows t.1.tree names removal (c.in_ok-removal.ensures.judge t.0 t.1).1 in
     let content = sym (same_content c.judge_rmdir.ensures.state) in
     let named = subst (λ name. HangsAs (g.F.FileStore.state c.args.store.now).content t.0.rows removal name) (sym c.last_name.ensures.name) hangs in
-    record { world = (t.0, (still c.judge_rmdir.ensures.state t.1, subst (λ x. HangsAs x t.0.rows removal c.last_name.result.now) content named)) }
+    record { world = (t.0, (still c.judge_rmdir.ensures.state t.1, subst (λ x. HangsAs x t.0.rows removal c.last_name.result.now) content named, (c.in_ok-removal.ensures.judge t.0 t.1).1.childless)) }
 
 pub returns-in_err-take_row : goal.returns-in_err-take_row
 returns-in_err-take_row g c level =

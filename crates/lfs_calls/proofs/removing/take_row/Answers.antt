@@ -9,9 +9,9 @@ use Rattle.lfs_calls.specs.Removes.{HangsAs, IsTaking, TakesFile}
 use Rattle.lfs_calls.proofs.Directories.{lists_name}
 use Rattle.lfs_calls.specs.Volumes.{IsVolume}
 use Rattle.lfs_calls.proofs.CallLemmas.{still}
-use Rattle.lfs_calls.proofs.TakeLemmas.{taking_listed, can_take, takes_file}
+use Rattle.lfs_calls.proofs.TakeLemmas.{taking_listed, can_take, loses_name, takes_file}
 use Rattle.lfs_calls.proofs.removing.take_row.Goals as goal
-use Rattle.lfs_calls.proofs.removing.take_row.Goals.{After-apply, After-take_name-room}
+use Rattle.lfs_calls.proofs.removing.take_row.Goals.{After-apply_naming, After-take_name-room}
 
 -- the row, as the store shows it after its directory was read
 at_take : (g : _) (c : After-take_name-room g) → (w : World) × (IsVolume (g.F.FileStore.state c.take_name-room.new.store) w × HangsAs (g.F.FileStore.state c.take_name-room.new.store).content w.rows c.args.removal.now c.args.name.now)
@@ -29,15 +29,26 @@ take_name-room-requires g c =
     lists_name t.1.0.shows c.args.removal.now.dir.number c.args.removal.now.dir.attrs t.1.1.shown_dir t.1.1.directory c.args.name.now
     (taking_listed (g.F.FileStore.state c.args.store.now).content t.0 t.1.0.shows t.1.0.tree c.args.removal.now c.args.name.now t.1.1)
 
-pub apply-requires : goal.apply-requires
-apply-requires g c =
-    let k = (goal.at.apply-requires g c).After-take_name-room in
+pub apply_naming-requires-clause-can : goal.apply_naming-requires-clause-can
+apply_naming-requires-clause-can g c =
+    let k = (goal.at.apply_naming-requires-clause-can g c).After-take_name-room in
     let t = at_take g k in
     can_take (g.F.FileStore.state c.take_name-room.new.store).content t.0 t.1.0.shows t.1.0.tree c.args.removal.now c.args.name.now t.1.1 c.take_name-room.result c.take_name-room.ensures.room.0 (taken g k) _ _ refl
 
+pub apply_naming-requires-clause-finds : goal.apply_naming-requires-clause-finds
+unfolding at_take
+apply_naming-requires-clause-finds g c =
+    let k = (goal.at.apply_naming-requires-clause-finds g c).After-take_name-room in
+    let t = at_take g k in
+    let before = (g.F.FileStore.state c.take_name-room.new.store).content in
+    let room = c.take_name-room.result in
+    let block = c.take_name-room.ensures.room.0 in
+    loses_name before t.0 t.1.0.shows t.1.0.tree c.args.removal.now c.args.name.now t.1.1 room block (taken g k) c.requires.world.1.2 _
+    (takes_file before t.0 t.1.0.shows t.1.0.tree c.args.removal.now c.args.name.now t.1.1 room block (taken g k) _ refl)
+
 -- where the store refused, nothing changed
-onerr : (g : _) (c : After-apply g) → OnErr c.apply.result ((g.F.FileStore.state c.apply.new.self).content ≡ (g.F.FileStore.state c.args.store.now).content)
-onerr g c = subst (λ (x : Content). OnErr c.apply.result ((g.F.FileStore.state c.apply.new.self).content ≡ x)) (same_content c.take_name-room.ensures.state) c.apply.ensures.err
+onerr : (g : _) (c : After-apply_naming g) → OnErr c.apply_naming.result ((g.F.FileStore.state c.apply_naming.new.self).content ≡ (g.F.FileStore.state c.args.store.now).content)
+onerr g c = subst (λ (x : Content). OnErr c.apply_naming.result ((g.F.FileStore.state c.apply_naming.new.self).content ≡ x)) (same_content c.take_name-room.ensures.state) c.apply_naming.ensures.err
 
 pub returns : goal.returns
 returns g c =
@@ -45,17 +56,17 @@ returns g c =
     let t = at_take g k in
     let same = c.take_name-room.ensures.state in
     record {
-      ok = IfOk-weaker c.apply.result _ _ (λ _ h. (
+      ok = IfOk-weaker c.apply_naming.result _ _ (λ _ h. (
         c.take_name-room.result,
         c.take_name-room.ensures.room.0,
         (
           c.take_name-room.ensures.room.1,
-          subst (λ x. TakesFile x (g.F.FileStore.state c.apply.new.self).content c.args.removal.now.file.number c.args.removal.now.dir.number c.take_name-room.result.off c.take_name-room.result.block) (same_content same)
-              (takes_file (g.F.FileStore.state c.take_name-room.new.store).content t.0 t.1.0.shows t.1.0.tree c.args.removal.now c.args.name.now t.1.1 c.take_name-room.result c.take_name-room.ensures.room.0 (taken g k) (g.F.FileStore.state c.apply.new.self).content h),
+          subst (λ x. TakesFile x (g.F.FileStore.state c.apply_naming.new.self).content c.args.removal.now.file.number c.args.removal.now.dir.number c.take_name-room.result.off c.take_name-room.result.block) (same_content same)
+              (takes_file (g.F.FileStore.state c.take_name-room.new.store).content t.0 t.1.0.shows t.1.0.tree c.args.removal.now c.args.name.now t.1.1 c.take_name-room.result c.take_name-room.ensures.room.0 (taken g k) (g.F.FileStore.state c.apply_naming.new.self).content h),
         ),
       ))
-          c.apply.ensures.ok;
+          c.apply_naming.ensures.ok;
       err = onerr g c;
-      refused = subst (λ (s : StoreState). IfErr c.apply.result (MayRefuse s.clean s.shape.can_lack_memory)) same c.apply.ensures.refused;
-      follows = follows_same same c.apply.ensures.follows;
+      refused = subst (λ (s : StoreState). IfErr c.apply_naming.result (MayRefuse s.clean s.shape.can_lack_memory)) same c.apply_naming.ensures.refused;
+      follows = follows_same same c.apply_naming.ensures.follows;
     }

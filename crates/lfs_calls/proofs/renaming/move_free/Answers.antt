@@ -3,7 +3,9 @@ use Rattle.std.proofs.lemmas.Result.{err_from_is_err_and}
 use Rattle.lfs_types.specs.StoreStates.{StoreState}
 use Rattle.lfs_types.specs.Stored.{MayRefuse}
 use Rattle.lfs_calls.specs.Makes.{IsBlockOf}
-use Rattle.lfs_calls.specs.Renames.{HasNoRoom, MovesTo, PutsRow}
+use Rattle.lfs_calls.specs.Names.{MovesName}
+use Rattle.lfs_calls.specs.Renames.{HasNoRoom, MovesTo, PutsRow, WritesBlocks}
+use Rattle.lfs_calls.proofs.MovedNames.{moves_free}
 use Rattle.lfs_calls.proofs.PlacedBlocks.{new_block, old_block}
 use Rattle.lfs_calls.proofs.MovedPlaces.{somewhere}
 use Rattle.lfs_calls.proofs.RenameOutcomes.{refused_for}
@@ -21,6 +23,17 @@ put_blocks-requires-clause-new g c =
     let t = c.requires.goes in
     subst (λ x. IsBlockOf x c.args.planned.now.dir.number c.in-Some.places.room) (sym (same_content c.find_places.ensures.state))
     (new_block t.1.0.shows t.1.0.tree t.1.1.leaves c.in-Some.ensures.places.taking.1 c.in-Some.ensures.places.room.1)
+
+pub put_blocks-requires-clause-moves : goal.put_blocks-requires-clause-moves
+put_blocks-requires-clause-moves g c after writes =
+    let t = c.requires.goes in
+    let s = g.F.FileStore.state c.args.store.now in
+    let m = c.args.planned.now in
+    let same = same_content c.find_places.ensures.state in
+    let places = c.in-Some.places in
+    subst (λ x. MovesName x after m.removal.dir.number c.args.old.now m.dir.number c.args.new.now m.removal.file.number) (sym same)
+    (moves_free t.1.0.shows t.1.0.tree t.1.1.leaves t.1.1.free c.in-Some.ensures.places after
+    (subst (λ x. WritesBlocks x after m.removal.dir.number places.taken m.dir.number places.room) same writes))
 
 pub returns-in_err-put_blocks : goal.returns-in_err-put_blocks
 returns-in_err-put_blocks g c =

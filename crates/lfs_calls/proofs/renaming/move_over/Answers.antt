@@ -2,6 +2,9 @@ use Rattle.std.proofs.Common.{sym, subst}
 use Rattle.std.specs.Prelude.{IsSome}
 use Rattle.std.specs.FinMap.{get}
 use Rattle.lfs_calls.specs.Makes.{IsBlockOf}
+use Rattle.lfs_calls.specs.Names.{MovesName}
+use Rattle.lfs_calls.specs.Renames.{SwapsBlocks}
+use Rattle.lfs_calls.proofs.MovedNames.{moves_over}
 use Rattle.lfs_calls.proofs.PlacedBlocks.{old_block, swap_block}
 use Rattle.lfs_calls.proofs.StateLemmas.{same_content}
 use Rattle.lfs_calls.proofs.StepLemmas.{child-stored}
@@ -18,6 +21,16 @@ put_swapped-requires-clause-new g c =
     let t = c.requires.goes in
     subst (λ x. IsBlockOf x c.args.planned.now.dir.number c.find_swap.result.room) (sym (same_content c.find_swap.ensures.state))
     (swap_block t.1.0.shows t.1.0.tree t.1.1.leaves c.find_swap.ensures.places.taking.1 c.find_swap.ensures.places.swap.1)
+
+pub put_swapped-requires-clause-moves : goal.put_swapped-requires-clause-moves
+put_swapped-requires-clause-moves g c after writes =
+    let t = c.requires.goes in
+    let m = c.args.planned.now in
+    let same = same_content c.find_swap.ensures.state in
+    let places = c.find_swap.result in
+    subst (λ x. MovesName x after m.removal.dir.number c.args.old.now m.dir.number c.args.new.now m.removal.file.number) (sym same)
+    (moves_over t.1.0.shows t.1.0.tree t.1.1.leaves c.args.there t.1.1.taken t.1.1.other c.find_swap.ensures.places after
+    (subst (λ x. SwapsBlocks x after m.removal.dir.number places.taken m.dir.number places.room c.args.there) same writes) t.1.1.childless)
 
 pub put_swapped-requires-clause-used : goal.put_swapped-requires-clause-used
 put_swapped-requires-clause-used g c =

@@ -1,28 +1,47 @@
-use Rattle.std.proofs.Common.{arith, refl, sym, ap, subst, ◌∙◌}
+use Rattle.std.proofs.Common.{◌≡◌, arith, refl, sym, ap, subst, ◌∙◌}
 use Rattle.std.proofs.lemmas.Grind.{common_steps}
 use Rattle.std.proofs.lemmas.Result.{IfOk-weaker}
 use Rattle.lfs_calls.specs.Renames.{block_put, WritesBlocks}
 use Rattle.lfs_calls.proofs.MovedBlocks.{writes_one, can_put_blocks}
+use Rattle.lfs_types.specs.Tree.{Content}
+use Rattle.lfs_calls.specs.Names.{MovesName}
 use Rattle.lfs_calls.proofs.renaming.put_blocks.Goals as goal
+use Rattle.lfs_calls.proofs.renaming.put_blocks.Goals.{Then-taken-room}
+
+-- where the blocks stand at one place, the second alone is written
+one_written : (g : _) (c : Then-taken-room g) (after : Content) → after ≡ block_put c.args.dir c.args.room.now (g.F.FileStore.state c.args.store.now).content
+    → WritesBlocks (g.F.FileStore.state c.args.store.now).content after c.args.old_dir c.args.taken.now c.args.dir c.args.room.now
+one_written g c after is =
+    let before = (g.F.FileStore.state c.args.store.now).content in
+    let same = c.if-old_dir-dir.true in
+    subst (λ d. WritesBlocks before after c.args.old_dir c.args.taken.now d c.args.room.now) same
+    (writes_one before c.args.old_dir c.args.taken.now c.requires.old c.args.room.now c.if-taken-room.true c.requires.new.size after (is ∙ ap (λ d. block_put d c.args.room.now before) (sym same)))
+
+-- and the names are left so
+one_moves : (g : _) (c : Then-taken-room g) → MovesName (g.F.FileStore.state c.args.store.now).content (block_put c.args.dir c.args.room.now (g.F.FileStore.state c.args.store.now).content)
+    c.args.old_dir c.args.names.now.old.now c.args.dir c.args.names.now.new.now c.args.names.now.number
+one_moves g c = c.requires.moves _ (one_written g c _ refl)
+
+pub apply_moving-requires-clause-moves : goal.apply_moving-requires-clause-moves
+apply_moving-requires-clause-moves g c = one_moves g ((goal.at.apply_moving-requires-clause-moves g c).Then-taken-room)
+
+pub apply_moving-requires-2-clause-moves : goal.apply_moving-requires-2-clause-moves
+apply_moving-requires-2-clause-moves g c = c.requires.moves _ (λ q. refl)
 
 pub returns-then-taken-room : goal.returns-then-taken-room
 returns-then-taken-room g c =
-    let before = (g.F.FileStore.state c.args.store.now).content in
-    let same = c.if-old_dir-dir.true in
+    let k = (goal.at.returns-then-taken-room g c).Then-taken-room in
     record {
-      ok = IfOk-weaker c.apply.result _ _ (λ _ h.
-          subst (λ d. WritesBlocks before (g.F.FileStore.state c.apply.new.self).content c.args.old_dir c.args.taken.now d c.args.room.now) same
-          (writes_one before c.args.old_dir c.args.taken.now c.requires.old c.args.room.now c.if-taken-room.true c.requires.new.size (g.F.FileStore.state c.apply.new.self).content
-          (h ∙ ap (λ d. block_put d c.args.room.now before) (sym same)))) c.apply.ensures.ok;
-      err = c.apply.ensures.err;
-      refused = c.apply.ensures.refused;
-      follows = c.apply.ensures.follows;
+      ok = IfOk-weaker c.apply_moving.result _ _ (λ _ h. one_written g k (g.F.FileStore.state c.apply_moving.new.self).content h) c.apply_moving.ensures.ok;
+      err = c.apply_moving.ensures.err;
+      refused = c.apply_moving.ensures.refused;
+      follows = c.apply_moving.ensures.follows;
     }
 
-pub apply-requires-2 : goal.apply-requires-2
-apply-requires-2 g c =
+pub apply_moving-requires-2-clause-can : goal.apply_moving-requires-2-clause-can
+apply_moving-requires-2-clause-can g c =
     can_put_blocks (g.F.FileStore.state c.args.store.now).content c.args.old_dir c.args.taken.now c.requires.old c.requires.old_within c.args.dir c.args.room.now c.requires.new
     (g.F.FileStore.state c.args.store.now).shape.numbers _ _ refl refl
 
-pub apply-requires : goal.apply-requires
-apply-requires g c = grind (arith, common_steps)
+pub apply_moving-requires-clause-can : goal.apply_moving-requires-clause-can
+apply_moving-requires-clause-can g c = grind (arith, common_steps)

@@ -60,7 +60,7 @@ place_row-requires g c =
     let k = (goal.at.place_row-requires g c).After-last_name-new in
     let t = c.requires in
     let m = c.in_ok-planned.planned in
-    let is = goes_with (before g k) t.1 c.args.cred.now (move g k t.0 t.1) m.target refl in
+    let is = goes_with (before g k) t.1 c.args.cred.now (move g k t.0 t.1) (judged_so g k t.0 t.1).0 m.target refl in
     record {
       goes = (
         t.0,

@@ -3,7 +3,7 @@ use Rattle.std.specs.Prelude.{ok_or}
 use Rattle.std.proofs.lemmas.Result.{err_from_is_err_and}
 use Rattle.lfs_model.proofs.Deciding.{judged_all, met_first}
 use Rattle.lfs_model.specs.Rules.{searching_tests}
-use Rattle.lfs_calls.proofs.Directories.{dir_stored}
+use Rattle.lfs_calls.proofs.Directories.{dir_stored, directory_at}
 use Rattle.lfs_calls.proofs.StepLemmas.{steps_barred, steps_on}
 use Rattle.lfs_calls.proofs.walking.step.Goals as goal
 
@@ -14,10 +14,15 @@ returns-in_err-may_search-clause-step g c w v =
     ∙ sym (steps_barred (g.F.FileStore.state c.args.store.now).content w v.shows c.args.cred.now c.args.path c.args.at c.args.dir c.args.name.now c.in-Some.attrs c.in-Some.ensures
     c.in_err-may_search.field-0.0 (sym c.in_err-may_search.ensures))
 
-pub look_up-requires : goal.look_up-requires
-look_up-requires g c =
+pub look_up-requires-clause-stored : goal.look_up-requires-clause-stored
+look_up-requires-clause-stored g c =
     let met = judged_all (searching_tests c.args.cred.now c.args.path c.in-Some.attrs c.args.at) (sym c.in_ok-may_search.ensures) in
     dir_stored c.requires.world.1.shows c.args.dir c.in-Some.attrs c.in-Some.ensures (met_first _ _ _ met).0
+
+pub look_up-requires-clause-directory : goal.look_up-requires-clause-directory
+look_up-requires-clause-directory g c =
+    let met = judged_all (searching_tests c.args.cred.now c.args.path c.in-Some.attrs c.args.at) (sym c.in_ok-may_search.ensures) in
+    directory_at c.requires.world.1.shows c.args.dir c.in-Some.attrs c.in-Some.ensures (met_first _ _ _ met).0
 
 pub returns-clause-step : goal.returns-clause-step
 returns-clause-step g c w v =

@@ -1,12 +1,13 @@
-use Rattle.std.proofs.Common.{List, ℕ}
+use Rattle.std.proofs.Common.{List, ℕ, refl}
 use Rattle.std.proofs.lemmas.Result.{IfOk-weaker}
 use Rattle.lfs_types.specs.Splicing.{splice}
+use Rattle.lfs_calls.proofs.ListedNames.{bytes_keep_names}
 use Rattle.lfs_calls.proofs.ChangeLemmas.{changes_bytes}
 use Rattle.lfs_calls.proofs.WriteLemmas.{can_put}
 use Rattle.lfs_calls.proofs.writing.put.Goals as goal
 
-pub apply-requires : goal.apply-requires
-apply-requires g c =
+pub apply-requires-clause-can : goal.apply-requires-clause-can
+apply-requires-clause-can g c =
     can_put (g.F.FileStore.state c.args.store.now).content c.args.file.now.number c.args.file.now.attrs c.requires.shown c.args.cred.now c.args.start c.args.bytes
     c.requires.regular c.requires.few c.requires.size c.requires.fits (g.F.FileStore.state c.args.store.now).shape.numbers c.mode_after-mode.result
 
@@ -18,3 +19,10 @@ returns g c = record {
   refused = c.apply.ensures.refused;
   follows = c.apply.ensures.follows;
 }
+
+pub apply-requires-clause-keeps : goal.apply-requires-clause-keeps
+apply-requires-clause-keeps g c =
+    let before = (g.F.FileStore.state c.args.store.now).content in
+    let file = c.args.file.now in
+    bytes_keep_names before _ file.number file.attrs c.requires.shown c.requires.regular c.args.cred.now (λ (old : List ℕ). splice old c.args.start c.args.bytes.now)
+    (changes_bytes before file.number file.attrs c.requires.shown c.args.cred.now (λ (old : List ℕ). splice old c.args.start c.args.bytes.now) c.mode_after-mode.result c.mode_after-mode.ensures _ refl)

@@ -15,6 +15,7 @@ use Rattle.lfs_calls.proofs.EntryLemmas.{bytes_keep}
 use Rattle.lfs_calls.proofs.PathLemmas.{write_path, barred, not_reached, serves}
 use Rattle.lfs_calls.proofs.WriteLemmas.{write_volume, write_nothing}
 use Rattle.lfs_calls.proofs.writing.write.Goals as goal
+use Rattle.lfs_types.specs.declared.limits.TheConstants.{FILE_BYTES}
 use Rattle.lfs_calls.proofs.writing.write.Goals.{In_ok-may_write}
 
 tested : (g : _) (c : In_ok-may_write g) → Ok tt ≡ judged (write_tests c.args.cred.now c.args.place (length c.args.bytes.now) c.in_ok-file.file.attrs c.depth.result)
@@ -23,13 +24,13 @@ tested g c = c.in_ok-may_write.ensures ∙ ap (λ n. judged (write_tests c.args.
 regular : (g : _) (c : In_ok-may_write g) → is_directory_kind c.in_ok-file.file.attrs.kind ≡ false
 regular g c =
     let a = c.in_ok-file.file.attrs in
-    change_regular c.args.cred.now (is_end c.args.place) a c.depth.result (asks (nat_le (start_of c.args.place a.size + length c.as_slice-bytes.result.now) 71680) FitsFile 0 c.depth.result ∷ [])
+    change_regular c.args.cred.now (is_end c.args.place) a c.depth.result (asks (nat_le (start_of c.args.place a.size + length c.as_slice-bytes.result.now) FILE_BYTES) FitsFile 0 c.depth.result ∷ [])
     (judged_all (write_tests c.args.cred.now c.args.place (length c.as_slice-bytes.result.now) a c.depth.result) (sym c.in_ok-may_write.ensures))
 
-fitting : (g : _) (c : In_ok-may_write g) → nat_le (start_of c.args.place c.in_ok-file.file.attrs.size + length c.as_slice-bytes.result.now) 71680 ≡ true
+fitting : (g : _) (c : In_ok-may_write g) → nat_le (start_of c.args.place c.in_ok-file.file.attrs.size + length c.as_slice-bytes.result.now) FILE_BYTES ≡ true
 fitting g c =
     let a = c.in_ok-file.file.attrs in
-    change_more c.args.cred.now (is_end c.args.place) a c.depth.result (nat_le (start_of c.args.place a.size + length c.as_slice-bytes.result.now) 71680) (record { rule = FitsFile; path = 0; at = c.depth.result })
+    change_more c.args.cred.now (is_end c.args.place) a c.depth.result (nat_le (start_of c.args.place a.size + length c.as_slice-bytes.result.now) FILE_BYTES) (record { rule = FitsFile; path = 0; at = c.depth.result })
     (judged_all (write_tests c.args.cred.now c.args.place (length c.as_slice-bytes.result.now) a c.depth.result) (sym c.in_ok-may_write.ensures))
 
 pub returns-in_err-file : goal.returns-in_err-file

@@ -2,7 +2,7 @@ use Rattle.std.proofs.Common.{◌<◌, [], length, is_some, ap, ◌∙◌, arith
 use Rattle.std.specs.FinMap as map
 use Rattle.lfs_types.specs.Tree.{file_of}
 use Rattle.lfs_flatfiles.specs.FlatFiles.{shape_of}
-use Rattle.lfs_types.specs.declared.limits.TheConstants.{MOST_SEGMENTS}
+use Rattle.lfs_types.specs.Ranges.{most_segments}
 use Rattle.lfs_flatfiles.proofs.FlatFilesContent.{file_in-set_other, content_of-set, content_of-none}
 use Rattle.lfs_flatfiles.proofs.flat_files.FlatFiles.new.Goals as goal
 
@@ -19,4 +19,4 @@ returns-clause-opening c =
     content_of-set places.items 2 c.make.new.self (file_of c.root_attrs.result []) within c.make.ensures.file
     ∙ ap (λ m. map.insert m 2 (file_of c.root_attrs.result [])) (content_of-none places.items c.in_ok-places.ensures.none)
     ∙ ap (λ a. map.insert map.empty 2 (file_of a [])) c.root_attrs.ensures in
-    λ i. record { content = content i; clean = MOST_SEGMENTS; shape = shape_of (c.in_ok-places.ensures.count i) }
+    λ i. record { content = content i; clean = most_segments; shape = shape_of (c.in_ok-places.ensures.count i) }

@@ -2,7 +2,7 @@ use Rattle.std.proofs.Common.{◌≡◌, None}
 use Rattle.lfs_types.specs.Stored.{bytes_of}
 use Rattle.lfs_dirs.specs.Directory.{number_in}
 use Rattle.lfs_calls.specs.Content.{entries_below}
-use Rattle.lfs_calls.proofs.directory.look_up.Given as goal
+use Rattle.lfs_calls.proofs.directory.search.Given as goal
 
 abbrev pub invariant-loop-k : goal.invariant-loop-k
 invariant-loop-k g l = record {

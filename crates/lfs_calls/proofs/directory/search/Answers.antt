@@ -4,7 +4,7 @@ use Rattle.lfs_types.specs.Stored.{bytes_of}
 use Rattle.lfs_dirs.specs.Directory.{number_in}
 use Rattle.lfs_dirs.specs.Reading.{entries_of}
 use Rattle.lfs_calls.specs.Content.{block_at}
-use Rattle.lfs_calls.proofs.directory.look_up.Goals as goal
+use Rattle.lfs_calls.proofs.directory.search.Goals as goal
 use Rattle.lfs_calls.proofs.Listings.{found_in_block, absent_further, absent_at_first}
 
 pub loop-k-init : goal.loop-k-init

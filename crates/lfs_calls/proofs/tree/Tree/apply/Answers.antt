@@ -1,0 +1,13 @@
+use Rattle.std.proofs.Common.{sym, subst, ◌∙◌}
+use Rattle.lfs_types.specs.Changes.{applied}
+use Rattle.lfs_types.specs.Tree.{Content}
+use Rattle.lfs_calls.specs.Names.{AreTrue, KeepsNames}
+use Rattle.lfs_calls.proofs.NameLemmas.{after_changes, true_kept}
+use Rattle.lfs_calls.proofs.tree.Tree.apply.Goals as goal
+
+pub invariant_of-self : goal.invariant_of-self
+invariant_of-self g c =
+    let s = (g.F.FileStore.state c.self.inside.store).content in
+    let keeps = subst (λ x. KeepsNames (g.F.FileStore.state x).content (applied c.args.changes.now (g.F.FileStore.state x).content)) (sym c.self.view_is) c.requires.keeps in
+    after_changes (AreTrue c.self.inside.names) c.apply.result s _ (g.F.FileStore.state c.apply.new.self).content c.apply.ensures.ok c.apply.ensures.err
+    c.self.invariant (true_kept c.self.inside.names s _ c.self.invariant keeps)

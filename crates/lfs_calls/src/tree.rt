@@ -1,0 +1,160 @@
+//! A store with a cache of the names that its directories list.
+
+ghost use Rattle.std.specs.Prelude.{◌≡◌, [], length, IsSome, IfOk, IfSome, OnOk};
+ghost use Rattle.std.specs.FinMap.{get};
+ghost use Rattle.lfs_types.specs.Changes.{CanApply, applied};
+ghost use Rattle.lfs_types.specs.StoreStates.{Applies};
+ghost use Rattle.lfs_types.specs.Stored.{shown_attrs, bytes_of, slice_of, Reads, IsLeastFree};
+ghost use Rattle.lfs_model.specs.World.{child};
+ghost use Rattle.lfs_dirs.specs.Directory.{number_in};
+ghost use Rattle.lfs_calls.specs.Content.{IsDirectoryAt, listed};
+ghost use Rattle.lfs_calls.specs.Names.{FindsNew, IsFound, KeepsNames, MovesName};
+ghost use Rattle.lfs_calls.specs.Volumes.{InWorld};
+
+use lfs_namecache::NameCache;
+use lfs_types::attrs::Attrs;
+use lfs_types::name::Name;
+use lfs_types::store::{Change, FileStore, StoreRefusal};
+use std::alloc::{AllocError, Global};
+use std::marker::Model;
+
+/// A store, and a cache of names. Contracts see the store alone. The type keeps that what the cache says of a name of a
+/// directory is what the directory lists, and so, in each world that the store shows, the row that hangs there.
+#[derive(Drop)]
+pub struct Tree<F: FileStore> {
+    pub(crate) store: F,
+    names: NameCache,
+}
+
+impl<F: FileStore> Model for Tree<F> {
+    ghost use Rattle.lfs_calls.specs.Names.{AreTrue};
+
+    ghost Value = { F };
+
+    ghost view = { λ t. t.store };
+
+    ghost invariant = { λ t. AreTrue t.names (F.state t.store).content };
+}
+
+impl<F: FileStore + Drop> Tree<F> {
+    /// A store of whose names nothing is known yet. The room for names is taken here.
+    pub fn new(alloc: Global, store: F) -> Result<Tree<F>, AllocError>
+        ensures { IfOk result (λ tree. tree ≡ store) }
+    {
+        let names = NameCache::new(alloc)?;
+        Ok(Tree { store, names })
+    }
+}
+
+impl<F: FileStore> Tree<F> {
+    /// The attributes of a number, if it is in use.
+    pub(crate) fn attrs(&self, ino: u32) -> Option<Attrs>
+        ensures { result ≡ shown_attrs (F.state self.now).content ino }
+    {
+        self.store.attrs(ino)
+    }
+
+    /// Reads a file's bytes from `off` on, as many as there are and the buffer takes, and says how many.
+    pub(crate) fn read(&mut self, ino: u32, off: u64, into: &mut [u8]) -> usize
+        requires { IsSome (get (F.state self.old).content ino) }
+        ensures reads { Reads
+            (slice_of (bytes_of (F.state self.old).content ino) off (length into.old))
+            result into.old into.new }
+        ensures state { F.state self.new ≡ F.state self.old }
+    {
+        self.store.read(ino, off, into)
+    }
+
+    /// The least free number from 4 up, if there is one below the number of inode numbers.
+    pub(crate) fn least_free(&self) -> Option<u32>
+        ensures { IsLeastFree (F.state self.now).shape.numbers (F.state self.now).content result }
+    {
+        self.store.least_free()
+    }
+
+    /// How many segments are clean.
+    pub fn clean_segments(&self) -> u32
+        ensures { result ≡ (F.state self.now).clean }
+    {
+        self.store.clean_segments()
+    }
+
+    /// Writes what waits to be written. The content stays.
+    pub(crate) fn sync(&mut self) -> Result<(), StoreRefusal>
+        ensures applies { Applies (F.state self.old) [] result (F.state self.new) }
+        ensures settled { OnOk result (F.is_settled self.new) }
+    {
+        self.store.sync()
+    }
+
+    /// What a directory lists under a name, if it is known.
+    pub(crate) fn known(&self, dir: u32, name: &Name) -> Option<Option<u32>>
+        requires { IsDirectoryAt (F.state self.now).content dir }
+        ensures found { IfSome result (λ found. found
+            ≡ number_in name.now (listed (bytes_of (F.state self.now).content dir))) }
+        ensures hangs { IfSome result (λ found. InWorld (F.state self.now)
+            (λ w. child w.rows dir name.now ≡ found)) }
+    {
+        self.names.look(dir, name)
+    }
+
+    /// Keeps in mind what a directory lists under a name.
+    pub(crate) fn enter(&mut self, dir: u32, name: &Name, found: Option<u32>)
+        requires { IsFound (F.state self.old).content dir name.now found }
+        ensures { self.new ≡ self.old }
+    {
+        self.names.enter(dir, name, found);
+    }
+
+    /// Makes all the changes, in order, or none of them. They leave each name that a directory lists.
+    pub(crate) fn apply(&mut self, changes: &[Change<'_>]) -> Result<(), StoreRefusal>
+        requires can { CanApply (F.state self.old).shape.numbers changes.now
+            (F.state self.old).content }
+        requires keeps { KeepsNames (F.state self.old).content
+            (applied changes.now (F.state self.old).content) }
+        ensures { Applies (F.state self.old) changes.now result (F.state self.new) }
+    {
+        self.store.apply(changes)
+    }
+
+    /// Makes changes as `apply` does, after which something else is found under a name of a directory.
+    pub(crate) fn apply_naming(
+        &mut self,
+        changes: &[Change<'_>],
+        dir: u32,
+        name: &Name,
+        found: Option<u32>,
+    ) -> Result<(), StoreRefusal>
+        requires can { CanApply (F.state self.old).shape.numbers changes.now
+            (F.state self.old).content }
+        requires finds { FindsNew (F.state self.old).content
+            (applied changes.now (F.state self.old).content) dir name.now found }
+        ensures { Applies (F.state self.old) changes.now result (F.state self.new) }
+    {
+        self.store.apply(changes)?;
+        self.names.enter(dir, name, found);
+        Ok(())
+    }
+
+    /// Makes changes as `apply` does, after which a directory lists a name no more, and the same or another lists a number
+    /// under a name.
+    pub(crate) fn apply_moving(
+        &mut self,
+        changes: &[Change<'_>],
+        from: (u32, &Name),
+        to: (u32, &Name),
+        number: u32,
+    ) -> Result<(), StoreRefusal>
+        requires can { CanApply (F.state self.old).shape.numbers changes.now
+            (F.state self.old).content }
+        requires moves { MovesName (F.state self.old).content
+            (applied changes.now (F.state self.old).content)
+            from.0 from.1.now to.0 to.1.now number }
+        ensures { Applies (F.state self.old) changes.now result (F.state self.new) }
+    {
+        self.store.apply(changes)?;
+        self.names.enter(from.0, from.1, None);
+        self.names.enter(to.0, to.1, Some(number));
+        Ok(())
+    }
+}
