@@ -4,7 +4,6 @@
 pub mod fault;
 pub mod passing;
 pub mod run;
-pub mod scripts;
 pub mod threads;
 
 pub use lfs_io::tell;

@@ -1,27 +1,68 @@
-//! Running a script.
+//! Running a script, on a fresh volume over the log store or on one over any store.
 
 ghost use Rattle.std.specs.Prelude.{◌≡◌, ◌<◌, ◌^◌, ℕ, List, [], length, IfErr, IfOk, IfSome, OnOk};
 ghost use Rattle.std.specs.Io.KnownBytes.{Appends, Keeps, append_known};
 ghost use Rattle.lfs_types.specs.Tree.{opening_world};
 ghost use Rattle.lfs_model.specs.Steps.{IsLegal};
+ghost use Rattle.lfs_logstore.specs.States.{opening_state, state_of};
+ghost use Rattle.lfs_server.specs.Serving.{IsInRange};
 ghost use Rattle.lfs_print.specs.ReportText.{report_text};
 ghost use Rattle.lfs_volume.specs.Cleanings.{cleaner_of};
 ghost use Rattle.lfs_audit.specs.Faults.{IsFaultOf, IsRead, IsReadingFault, MayHaveWritten};
 ghost use Rattle.lfs_audit.specs.Output.{IsOutput, IsRun};
 ghost use Rattle.lfs_audit.specs.Runs.{Writes};
+ghost use Rattle.lfs_audit.specs.Scripts.{IsLayoutFault, IsLogOutput, IsScriptFault};
 
 use crate::fault::RunFault;
 use crate::passing::run_step;
 use lfs_io::output::{flush, write_full, write_text};
 use lfs_io::read::read_script;
+use lfs_logstore::LogStore;
 use lfs_print::report::append_counts;
 use lfs_script::plan::{Plan, Step};
 use lfs_script::script::parse_script;
 use lfs_types::cleaned::CleanedStore;
-use lfs_types::store::FileStore;
+use lfs_types::store::{FileStore, Params};
 use lfs_volume::volume::Volume;
 use std::alloc::Global;
 use std::io::{Read, Write};
+
+/// Reads a script whole, parses it whole, runs its lines in order on a fresh volume over the log store, and writes the
+/// answer to each call and the report. Of the calls that are made, only a Read, a List or one for the ifile's bytes may
+/// be refused with `NoMemory`: the store takes no memory for a change.
+pub fn run_script<R: Read, W: Write>(
+    alloc: Global,
+    reader: &mut R,
+    writer: &mut W,
+    params: Params,
+) -> Result<(), RunFault>
+    ensures written { OnOk result (IfSome (R.remaining reader.old) (λ script. (text : List ℕ)
+        × IsLogOutput script params.segments params.inodes params.journal text
+        × Appends (W.contents writer.old) (W.contents writer.new) text)) }
+    ensures ranges { OnOk result (IsInRange params.segments params.inodes params.frames) }
+    ensures fault { IfErr result
+        (IsScriptFault (R.remaining reader.old) params.segments params.inodes params.frames) }
+    ensures unwritten { IfErr result (λ fault. (MayHaveWritten fault → ⊥)
+        → Keeps (W.contents writer.old) (W.contents writer.new)) }
+{
+    let plan = read_plan(alloc, reader)?;
+    let mut volume = fresh_volume(alloc, params)?;
+    run_plan(alloc, &mut volume, plan.into_steps(), writer)
+}
+
+/// A fresh volume over the log store.
+pub fn fresh_volume(alloc: Global, params: Params) -> Result<Volume<LogStore>, RunFault>
+    ensures fresh { IfOk result (λ volume. (volume.journal ≡ []) × (volume.limit ≡ params.journal)
+        × (state_of volume.store ≡ opening_state params.segments params.inodes)) }
+    ensures ranges { OnOk result (IsInRange params.segments params.inodes params.frames) }
+    ensures fault { IfErr result (IsLayoutFault params.segments params.inodes params.frames) }
+{
+    let store = match LogStore::format(alloc, params) {
+        Ok(store) => store,
+        Err(fault) => return Err(RunFault::Format(fault)),
+    };
+    Ok(Volume::new(alloc, store, params.journal)?)
+}
 
 /// Reads a script whole, parses it whole, runs its lines in order on a volume without entries, and writes the answer to
 /// each call and the report.
@@ -41,8 +82,8 @@ pub fn run_over<F: CleanedStore + Drop, R: Read, W: Write>(
     ensures unwritten { IfErr result (λ fault. (MayHaveWritten fault → ⊥)
         → Keeps (W.contents writer.old) (W.contents writer.new)) }
 {
-    let plan = read_plan(alloc, reader)?;
-    run_plan(alloc, volume, plan.into_steps(), writer)
+    let lines = read_plan(alloc, reader)?;
+    run_plan(alloc, volume, lines.into_steps(), writer)
 }
 
 /// Reads a script whole, and gives its plan.

@@ -1,12 +1,12 @@
 -- What a line says.
-use Rattle.std.proofs.Common.{◌≡◌, ℕ, ◌<◌, ◌≤◌, true, false, List, length, Result, Ok, Err, refl, ap, subst, ◌∙◌}
+use Rattle.std.proofs.Common.{◌≡◌, ℕ, ◌<◌, ◌≤◌, true, false, List, [], ◌∷◌, length, map, get_or, Result, Ok, Err, refl, ap, subst, ◌∙◌, arith}
 use Rattle.std.proofs.lemmas.Bool.{le-ltb, lt-ltb}
 use Rattle.lfs_script.specs.Plans.{line_said}
 use Rattle.lfs_words.specs.Faults.{Reads}
 use Rattle.lfs_words.specs.Lines.{is_printable}
 use Rattle.lfs_words.specs.Wording.{words_of}
 use Rattle.lfs_words.specs.declared.fault.FaultKind.{FaultKind}
-use Rattle.lfs_live.specs.Hearing.{call_heard, dot_heard, dot_of, dot_said, heard_of, is_dotted}
+use Rattle.lfs_live.specs.Hearing.{call_heard, dot_heard, dot_of, dot_said, dot_with, heard_of, is_dotted, lone_dot}
 use Rattle.lfs_live.specs.declared.fault.LineFault.TheVariants.{TooLong}
 use Rattle.lfs_live.specs.declared.hearing.Dot.{Dot}
 use Rattle.lfs_live.specs.declared.hearing.Heard.TheVariants.{Fault}
@@ -35,3 +35,18 @@ heard_dot line few dotted = rw (le-ltb 65536 (length line) few, dotted) refl
 pub heard_call : (line : List ℕ) → length line ≤ 65536 → is_dotted line ≡ false → call_heard (line_said line) ≡ heard_of line
 unfolding heard_of
 heard_call line few dotted = rw (le-ltb 65536 (length line) few, dotted) refl
+
+-- a lone word
+pub lone_there : {A : Type 0} (f : A → List ℕ) (words : List A) (d : A) → 1 ≤ length words → length words < 2
+    → lone_dot (f (get_or words 0 d)) ≡ dot_of (map f words)
+lone_there f [] d least most = absurd (omega arith)
+lone_there f (a ∷ []) d least most = refl
+lone_there f (a ∷ b ∷ more) d least most = absurd (omega arith)
+
+-- a word and what it is given
+pub pair_there : {A : Type 0} (f : A → List ℕ) (words : List A) (d : A) → 2 ≤ length words → length words < 3
+    → dot_with (f (get_or words 0 d)) (f (get_or words 1 d)) ≡ dot_of (map f words)
+pair_there f [] d least most = absurd (omega arith)
+pair_there f (a ∷ []) d least most = absurd (omega arith)
+pair_there f (a ∷ b ∷ []) d least most = refl
+pair_there f (a ∷ b ∷ c ∷ more) d least most = absurd (omega arith)

@@ -4,7 +4,8 @@ use Rattle.std.proofs.Common.{◌≡◌, ℕ, List, ◌++◌, ap, ◌∙◌, app
 joined : (old a b middle new : List ℕ) → middle ≡ old ++ a → new ≡ middle ++ b → new ≡ old ++ (a ++ b)
 joined old a b middle new first then = then ∙ ap (λ (l : List ℕ). l ++ b) first ∙ append_assoc old a b
 
-pub four_added : (old a b c d first second third all : List ℕ) → first ≡ old ++ a → second ≡ first ++ b → third ≡ second ++ c → all ≡ third ++ d
-    → all ≡ old ++ (((a ++ b) ++ c) ++ d)
-four_added old a b c d first second third all e f g h =
-    joined old ((a ++ b) ++ c) d third all (joined old (a ++ b) c second third (joined old a b first second e f) g) h
+pub five_added : (old a b c d e first second third fourth all : List ℕ) → first ≡ old ++ a → second ≡ first ++ b → third ≡ second ++ c
+    → fourth ≡ third ++ d → all ≡ fourth ++ e → all ≡ old ++ ((((a ++ b) ++ c) ++ d) ++ e)
+five_added old a b c d e first second third fourth all p q r s t =
+    joined old (((a ++ b) ++ c) ++ d) e fourth all
+    (joined old ((a ++ b) ++ c) d third fourth (joined old (a ++ b) c second third (joined old a b first second p q) r) s) t

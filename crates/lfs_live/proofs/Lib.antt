@@ -1,5 +1,6 @@
 pub mod HearingLemmas
 pub mod HelpLemmas
+pub mod JournalLemmas
 pub mod LineLemmas
 pub mod SameLemmas
 pub mod TalkLemmas

@@ -5,34 +5,50 @@ use Rattle.lfs_script.specs.Plans.{line_said}
 use Rattle.lfs_script.specs.declared.plan.Line.{Line as Said}
 use Rattle.lfs_words.specs.Faults.{◌>>=◌}
 use Rattle.lfs_words.specs.Lines.{is_printable}
-use Rattle.lfs_words.specs.Wording.{one_word, words_of}
+use Rattle.lfs_words.specs.Numbers.{long_of}
+use Rattle.lfs_words.specs.Wording.{words_of}
 use Rattle.lfs_words.specs.declared.fault.FaultKind.{FaultKind}
 use Rattle.lfs_words.specs.declared.fault.FaultKind.TheVariants.{Bytes, Words}
 use Rattle.lfs_live.specs.declared.fault.LineFault.TheVariants.{TooLong, Kind}
 use Rattle.lfs_live.specs.declared.hearing.Dot.{Dot as Word}
-use Rattle.lfs_live.specs.declared.hearing.Dot.TheVariants.{Report, Help, Quit}
+use Rattle.lfs_live.specs.declared.hearing.Dot.TheVariants.{Journal, Report, Help, Quit}
 use Rattle.lfs_live.specs.declared.hearing.Heard.{Heard}
 use Rattle.lfs_live.specs.declared.hearing.Heard.TheVariants.{Line, Dot, Fault}
 
 -- a word of the server's own
 abbrev pub dot_word : Word → List ℕ
+dot_word (Journal count) = codes ".journal"
 dot_word Report = codes ".report"
 dot_word Help = codes ".help"
 dot_word Quit = codes ".quit"
 
--- every word of the server's own
+-- every word of the server's own that may stand alone
 abbrev pub dots : List Word
-dots = Report ∷ Help ∷ Quit ∷ []
+dots = Journal None ∷ Report ∷ Help ∷ Quit ∷ []
 
 abbrev pub or_words : Option Word → Result Word FaultKind
 or_words None = Err Words
 or_words (Some dot) = Ok dot
 
+-- the word of the server's own that a lone word is
+abbrev pub dot_alone : List ℕ → Option Word
+dot_alone word = find (λ dot. bytes_eq (dot_word dot) word) dots
+
+-- the same, or its fault
+abbrev pub lone_dot : List ℕ → Result Word FaultKind
+lone_dot word = or_words (dot_alone word)
+
+-- the same of a word and what it is given: how many entries
+abbrev pub dot_with : List ℕ → List ℕ → Result Word FaultKind
+dot_with word operand =
+    if bytes_eq word (codes ".journal") then long_of operand >>= (λ count. Ok (Journal (Some count))) else Err Words
+
 -- the word of the server's own that words are, or their first fault
 abbrev pub dot_of : List (List ℕ) → Result Word FaultKind
-dot_of words = do
-  word ← one_word words
-  or_words (find (λ dot. bytes_eq (dot_word dot) word) dots)
+dot_of [] = Err Words
+dot_of (word ∷ []) = lone_dot word
+dot_of (word ∷ operand ∷ []) = dot_with word operand
+dot_of (word ∷ operand ∷ third ∷ more) = Err Words
 
 -- the same of a line
 abbrev pub dot_said : List ℕ → Result Word FaultKind

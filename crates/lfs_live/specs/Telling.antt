@@ -5,10 +5,11 @@ use Rattle.lfs_print.specs.ReportText.{report_text}
 use Rattle.lfs_words.specs.declared.fault.FaultKind.{FaultKind}
 use Rattle.lfs_words.specs.declared.fault.FaultKind.TheVariants.{Cut, Bytes, Words, Many, Number, Range, Path, Hex, Cred, Memory}
 use Rattle.lfs_live.specs.Hearing.{is_long}
+use Rattle.lfs_live.specs.JournalText.{journal_text}
 use Rattle.lfs_live.specs.declared.fault.LineFault.{LineFault}
 use Rattle.lfs_live.specs.declared.fault.LineFault.TheVariants.{TooLong, Kind}
 use Rattle.lfs_live.specs.declared.hearing.Dot.{Dot}
-use Rattle.lfs_live.specs.declared.hearing.Dot.TheVariants.{Report, Help, Quit}
+use Rattle.lfs_live.specs.declared.hearing.Dot.TheVariants.{Journal, Report, Help, Quit}
 
 -- the word of what is wrong with a line of a script
 abbrev pub kind_word : FaultKind → List ℕ
@@ -44,12 +45,14 @@ cut_text (c ∷ cs) = fault_line (if is_long (c ∷ cs) then TooLong else Kind C
 unfoldable pub help_text : List ℕ
 help_text =
     ended_line (codes "A line is that of a script: a call, `as`, `session`, or `#` and a comment.")
+    ++ ended_line (codes ".journal [K]  what was asked and answered so far, or the last K of it")
     ++ ended_line (codes ".report  how many calls were served, denied and refused so far")
     ++ ended_line (codes ".help    these lines")
     ++ ended_line (codes ".quit    ends with the report, as the end of the input does")
 
 -- what a word of the server's own tells of a journal; `.quit` tells nothing, but ends
 abbrev pub dot_text : Dot → List Entry → Option (List ℕ)
+dot_text (Journal count) journal = Some (journal_text count journal)
 dot_text Report journal = Some (report_text journal)
 dot_text Help journal = Some help_text
 dot_text Quit journal = None

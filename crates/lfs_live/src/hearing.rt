@@ -3,14 +3,15 @@
 ghost use Rattle.std.specs.Prelude.{◌≡◌, map, IfOk};
 ghost use Rattle.lfs_script.specs.Plans.{line_said};
 ghost use Rattle.lfs_words.specs.Faults.{Reads};
-ghost use Rattle.lfs_live.specs.Hearing.{call_heard, dot_heard, dot_of, dot_said, dot_word, heard_of, is_dotted, is_long};
+ghost use Rattle.lfs_live.specs.Hearing.{call_heard, dot_alone, dot_heard, dot_of, dot_said, dot_with, dot_word, heard_of, is_dotted, is_long, lone_dot};
 
 use crate::fault::LineFault;
 use lfs_script::plan::Line;
 use lfs_script::script::parse_line;
 use lfs_words::fault::FaultKind;
 use lfs_words::line::text_of;
-use lfs_words::words::{one_word, pieces};
+use lfs_words::number::decimal;
+use lfs_words::words::pieces;
 use std::alloc::{AllocError, Global};
 
 /// The most bytes of a line.
@@ -19,6 +20,8 @@ pub const LINE_MAX: usize = 65_536;
 /// A word of the server's own. It changes nothing.
 #[derive(Clone, Copy, PartialEq, Eq, Debug)]
 pub enum Dot {
+    /// Tells the journal so far, or so many of its last entries.
+    Journal(Option<u64>),
     /// Tells the report so far.
     Report,
     /// Tells what may be said.
@@ -38,15 +41,23 @@ pub enum Heard {
     Fault(LineFault),
 }
 
-/// Every word of the server's own.
-const DOTS: [Dot; 3] = [Dot::Report, Dot::Help, Dot::Quit];
+/// Every word of the server's own that may stand alone.
+const DOTS: [Dot; 4] = [Dot::Journal(None), Dot::Report, Dot::Help, Dot::Quit];
 
 impl Dot {
+    /// The word of the server's own that a lone word is, where it is one.
+    fn alone(word: &str) -> Option<Dot>
+        ensures { result ≡ dot_alone word.now }
+    {
+        DOTS.iter().copied().find(|dot| dot.word() == word)
+    }
+
     /// The word.
     fn word(self) -> &'static str
         ensures { result.now ≡ dot_word self }
     {
         match self {
+            Dot::Journal(_) => ".journal",
             Dot::Report => ".report",
             Dot::Help => ".help",
             Dot::Quit => ".quit",
@@ -117,9 +128,29 @@ fn dot_in(alloc: Global, line: &[u8]) -> Result<Dot, FaultKind>
 fn dot_of(words: &[&str]) -> Result<Dot, FaultKind>
     ensures { result ≡ dot_of (map (λ x. x.now) words.now) }
 {
-    let word = one_word(words)?;
-    match DOTS.iter().copied().find(|dot| dot.word() == word) {
+    match words {
+        [word] => lone_dot(word),
+        [word, operand] => dot_with(word, operand),
+        _ => Err(FaultKind::Words),
+    }
+}
+
+/// The word of the server's own that a lone word is.
+fn lone_dot(word: &str) -> Result<Dot, FaultKind>
+    ensures { result ≡ lone_dot word.now }
+{
+    match Dot::alone(word) {
         Some(dot) => Ok(dot),
         None => Err(FaultKind::Words),
     }
+}
+
+/// The word of the server's own that a word and what it is given are.
+fn dot_with(word: &str, operand: &str) -> Result<Dot, FaultKind>
+    ensures { result ≡ dot_with word.now operand.now }
+{
+    if word == ".journal" {
+        return Ok(Dot::Journal(Some(decimal(operand)?)));
+    }
+    Err(FaultKind::Words)
 }

@@ -16,6 +16,10 @@ pub fn push_help(out: &mut Vec<u8>) -> Result<(), AllocError>
     )?;
     push_line(
         out,
+        ".journal [K]  what was asked and answered so far, or the last K of it",
+    )?;
+    push_line(
+        out,
         ".report  how many calls were served, denied and refused so far",
     )?;
     push_line(out, ".help    these lines")?;

@@ -4,6 +4,7 @@
 pub mod fault;
 pub mod hearing;
 pub mod help;
+pub mod journal;
 pub mod line;
 pub mod same;
 pub mod start;

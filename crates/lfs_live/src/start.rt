@@ -7,7 +7,7 @@ ghost use Rattle.lfs_live.specs.Scripts.{HasHeardOfLog, IsLogFault, IsLogTalk};
 
 use crate::talk::talk;
 use lfs_audit::fault::RunFault;
-use lfs_audit::scripts::fresh_volume;
+use lfs_audit::run::fresh_volume;
 use lfs_types::store::Params;
 use std::alloc::Global;
 use std::io::{Read, Write};

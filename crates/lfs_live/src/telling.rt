@@ -12,6 +12,7 @@ ghost use Rattle.lfs_live.specs.declared.hearing.Heard.TheVariants as heard;
 use crate::fault::{LineFault, push_fault};
 use crate::hearing::{Dot, Heard, LINE_MAX, hear};
 use crate::help::push_help;
+use crate::journal::tell_journal;
 use lfs_audit::passing::run_step;
 use lfs_print::report::report_counts;
 use lfs_script::plan::{Act, Line, Step};
@@ -117,6 +118,7 @@ fn tell_dot<F: FileStore + Drop>(
         (λ text. dot_text dot volume.now.journal ≡ Some text.items)) }
 {
     match dot {
+        Dot::Journal(count) => Ok(Some(tell_journal(alloc, volume.journal(), count)?)),
         Dot::Report => Ok(Some(report_counts(alloc, volume.counts())?)),
         Dot::Help => Ok(Some(tell_help(alloc)?)),
         Dot::Quit => Ok(None),

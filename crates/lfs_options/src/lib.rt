@@ -1,6 +1,9 @@
 //! What the arguments of `lfsd` and of `lfs_shell` ask for.
 #![tactic(auto)]
 
+ghost use Rattle.std.specs.Prelude.{◌≤◌, IfOk};
+ghost use Rattle.lfs_options.specs.Ranges.{IsBetween, IsInRange};
+
 use clap::builder::ValueParser;
 use clap::error::ErrorKind;
 use clap::{Arg, ArgAction, ArgMatches, Command, Error};
@@ -8,65 +11,57 @@ use lfs_types::store::Params;
 use std::alloc::{AllocError, Global};
 use std::convert::AsStr;
 
-/// The parameters of `lfsd` where no argument says otherwise.
-pub const DEFAULTS: Params = Params {
-    segments: 64,
-    inodes: 256,
-    frames: 64,
-    journal: 4096,
-};
-
-/// Those of `lfs_shell`.
-pub const SHELL_DEFAULTS: Params = Params {
-    journal: 100_000,
-    ..DEFAULTS
-};
-
 /// An option that takes a number.
 #[derive(Clone, Copy)]
 struct NumberOption {
     /// Its name.
     name: &'static str,
     /// The least number that it takes.
-    least: u64,
+    least: u32,
     /// The greatest number that it takes.
-    most: u64,
+    most: u32,
+    /// The number where it is not given.
+    default: u32,
     /// What `--help` tells of it.
     help: &'static str,
     /// What is told of a number that begins with a sign.
-    sign: &'static str,
+    refusal: &'static str,
 }
 
 const SEGMENTS: NumberOption = NumberOption {
     name: "segments",
     least: 6,
     most: 1024,
+    default: 64,
     help: "How many segments of 32,768 bytes the log has, 6 to 1024; by default 64",
-    sign: "--segments takes a number of decimal digits alone, from 6 to 1024",
+    refusal: "--segments takes a number of decimal digits alone, from 6 to 1024",
 };
 
 const INODES: NumberOption = NumberOption {
     name: "inodes",
     least: 16,
     most: 4096,
+    default: 256,
     help: "How many inode numbers the volume has, 16 to 4096; by default 256",
-    sign: "--inodes takes a number of decimal digits alone, from 16 to 4096",
+    refusal: "--inodes takes a number of decimal digits alone, from 16 to 4096",
 };
 
 const FRAMES: NumberOption = NumberOption {
     name: "frames",
     least: 32,
     most: 1024,
+    default: 64,
     help: "How many blocks of 512 bytes the cache holds, 32 to 1024; by default 64",
-    sign: "--frames takes a number of decimal digits alone, from 32 to 1024",
+    refusal: "--frames takes a number of decimal digits alone, from 32 to 1024",
 };
 
 const JOURNAL: NumberOption = NumberOption {
     name: "journal",
     least: 1,
     most: 100_000,
+    default: 4096,
     help: "How many entries the journal may have, 1 to 100000; by default 4096",
-    sign: "--journal takes a number of decimal digits alone, from 1 to 100000",
+    refusal: "--journal takes a number of decimal digits alone, from 1 to 100000",
 };
 
 /// The journal of `lfs_shell`, which may be longer.
@@ -74,15 +69,24 @@ const SHELL_JOURNAL: NumberOption = NumberOption {
     name: "journal",
     least: 1,
     most: 1_000_000,
+    default: 100_000,
     help: "How many entries the journal may have, 1 to 1000000; by default 100000",
-    sign: "--journal takes a number of decimal digits alone, from 1 to 1000000",
+    refusal: "--journal takes a number of decimal digits alone, from 1 to 1000000",
 };
 
-/// The options of `lfsd` that take a number, in the order of `--help`.
-const NUMBERS: [NumberOption; 4] = [SEGMENTS, INODES, FRAMES, JOURNAL];
+/// The parameters of `lfsd` where no argument says otherwise.
+pub const DEFAULTS: Params = Params {
+    segments: SEGMENTS.default,
+    inodes: INODES.default,
+    frames: FRAMES.default,
+    journal: JOURNAL.default,
+};
 
 /// Those of `lfs_shell`.
-const SHELL_NUMBERS: [NumberOption; 4] = [SEGMENTS, INODES, FRAMES, SHELL_JOURNAL];
+pub const SHELL_DEFAULTS: Params = Params {
+    journal: SHELL_JOURNAL.default,
+    ..DEFAULTS
+};
 
 /// What `--help` of `lfsd` tells behind the options.
 const MORE: &str = "Example: printf 'create /a 0644\\nstat /a\\n' | lfsd
@@ -111,12 +115,18 @@ pub struct Options {
 ///
 /// What the parser tells, with its exit code: 2 for a word that is no option or a number out of its range, 0 for `--help`; or
 /// want of memory.
-pub fn options_of<'a, S: AsStr>(alloc: Global, words: &'a [S]) -> Result<Options, Error> {
+pub fn options_of<'a, S: AsStr>(alloc: Global, words: &'a [S]) -> Result<Options, Error>
+    ensures { IfOk result (λ options. IsInRange 100000 options.params) }
+{
     let mut command = command(alloc)?;
-    let matches = matches_in(&mut command, words, &NUMBERS)?;
-    let params = params_in(&matches, DEFAULTS);
-    let threads = matches.get_flag("threads");
-    Ok(Options { params, threads })
+    let matches = command.try_get_matches_from_mut(words)?;
+    match params_in(&matches, &JOURNAL) {
+        Ok(params) => {
+            let threads = matches.get_flag("threads");
+            Ok(Options { params, threads })
+        }
+        Err(refusal) => Err(wrong_value(&mut command, refusal)),
+    }
 }
 
 /// The parameters that the words of `lfs_shell` ask for; the first word is the program's name.
@@ -124,10 +134,15 @@ pub fn options_of<'a, S: AsStr>(alloc: Global, words: &'a [S]) -> Result<Options
 /// # Errors
 ///
 /// As those of `options_of`.
-pub fn shell_params_of<'a, S: AsStr>(alloc: Global, words: &'a [S]) -> Result<Params, Error> {
+pub fn shell_params_of<'a, S: AsStr>(alloc: Global, words: &'a [S]) -> Result<Params, Error>
+    ensures { IfOk result (IsInRange 1000000) }
+{
     let mut command = shell_command(alloc)?;
-    let matches = matches_in(&mut command, words, &SHELL_NUMBERS)?;
-    Ok(params_in(&matches, SHELL_DEFAULTS))
+    let matches = command.try_get_matches_from_mut(words)?;
+    match params_in(&matches, &SHELL_JOURNAL) {
+        Ok(params) => Ok(params),
+        Err(refusal) => Err(wrong_value(&mut command, refusal)),
+    }
 }
 
 /// The fault of arguments of `lfsd` that are no text.
@@ -156,19 +171,6 @@ fn fault_of_text(command: Result<Command<'_>, AllocError>) -> Error {
     }
 }
 
-/// What a command finds in the words, where no number begins with a sign.
-fn matches_in<'a, S: AsStr>(
-    command: &mut Command<'a>,
-    words: &'a [S],
-    numbers: &[NumberOption],
-) -> Result<ArgMatches<'a>, Error> {
-    let matches = command.try_get_matches_from_mut(words)?;
-    match sign_in(&matches, numbers) {
-        None => Ok(matches),
-        Some(message) => Err(wrong_value(command, message)),
-    }
-}
-
 /// The error of a value that is refused, or want of memory.
 fn wrong_value(command: &mut Command<'_>, message: &str) -> Error {
     match command.error(ErrorKind::ValueValidation, message) {
@@ -177,34 +179,43 @@ fn wrong_value(command: &mut Command<'_>, message: &str) -> Error {
     }
 }
 
-/// The parameters that the matches hold, and these defaults for the others.
-fn params_in(matches: &ArgMatches<'_>, defaults: Params) -> Params {
-    Params {
-        segments: number(matches, "segments", defaults.segments),
-        inodes: number(matches, "inodes", defaults.inodes),
-        frames: number(matches, "frames", defaults.frames),
-        journal: number(matches, "journal", defaults.journal),
-    }
+/// The parameters that the matches ask for, with this option for the journal, or what is told of the first that is refused.
+fn params_in(matches: &ArgMatches<'_>, journal: &NumberOption) -> Result<Params, &'static str>
+    requires default { IsBetween journal.now.least journal.now.most journal.now.default }
+    requires from_one { 1 ≤ journal.now.least }
+    ensures { IfOk result (IsInRange journal.now.most) }
+{
+    let segments = number(matches, &SEGMENTS)?;
+    let inodes = number(matches, &INODES)?;
+    let frames = number(matches, &FRAMES)?;
+    let journal = number(matches, journal)?;
+    Ok(Params {
+        segments,
+        inodes,
+        frames,
+        journal,
+    })
 }
 
-/// The number that an argument asks for, or this one where it is not given.
-fn number(matches: &ArgMatches<'_>, id: &str, default: u32) -> u32 {
-    matches.get_one::<u32>(id).unwrap_or(default)
-}
-
-/// What is told of the first number that begins with a sign, if there is one.
-fn sign_in(matches: &ArgMatches<'_>, numbers: &[NumberOption]) -> Option<&'static str> {
-    for number in numbers {
-        if has_sign(matches, number.name) {
-            return Some(number.sign);
-        }
+/// The number that the matches ask for by an option, its default where it is not given, or what is told where it is refused:
+/// it begins with a sign. The parser has read it as a number in its range, which no clause of its says.
+fn number(matches: &ArgMatches<'_>, option: &NumberOption) -> Result<u32, &'static str>
+    requires { IsBetween option.now.least option.now.most option.now.default }
+    ensures { IfOk result (IsBetween option.now.least option.now.most) }
+{
+    if has_sign(matches, option.name) {
+        return Err(option.refusal);
     }
-    None
+    match matches.get_one::<u32>(option.name) {
+        None => Ok(option.default),
+        Some(number) if option.least <= number && number <= option.most => Ok(number),
+        Some(_) => Err(option.refusal),
+    }
 }
 
 /// Whether the value of an argument begins with a sign.
-fn has_sign(matches: &ArgMatches<'_>, id: &str) -> bool {
-    match matches.get_str(id) {
+fn has_sign(matches: &ArgMatches<'_>, name: &str) -> bool {
+    match matches.get_str(name) {
         Some(text) => text.starts_with('+'),
         None => false,
     }
@@ -212,31 +223,29 @@ fn has_sign(matches: &ArgMatches<'_>, id: &str) -> bool {
 
 /// The options of `lfsd`.
 fn command<'a>(alloc: Global) -> Result<Command<'a>, AllocError> {
-    let [segments, inodes, frames, journal] = NUMBERS;
     Command::new(alloc, "lfsd")
         .about(
             "Runs a script of calls, read from standard input, on a volume in memory and prints the answers and a report",
         )
         .after_help(MORE)
         .arg(threads(alloc))?
-        .arg(segments.arg(alloc))?
-        .arg(inodes.arg(alloc))?
-        .arg(frames.arg(alloc))?
-        .arg(journal.arg(alloc))
+        .arg(SEGMENTS.arg(alloc))?
+        .arg(INODES.arg(alloc))?
+        .arg(FRAMES.arg(alloc))?
+        .arg(JOURNAL.arg(alloc))
 }
 
 /// The options of `lfs_shell`.
 fn shell_command<'a>(alloc: Global) -> Result<Command<'a>, AllocError> {
-    let [segments, inodes, frames, journal] = SHELL_NUMBERS;
     Command::new(alloc, "lfs_shell")
         .about(
             "Answers calls on a volume in memory, each line of standard input before the next is read",
         )
         .after_help(SHELL_MORE)
-        .arg(segments.arg(alloc))?
-        .arg(inodes.arg(alloc))?
-        .arg(frames.arg(alloc))?
-        .arg(journal.arg(alloc))
+        .arg(SEGMENTS.arg(alloc))?
+        .arg(INODES.arg(alloc))?
+        .arg(FRAMES.arg(alloc))?
+        .arg(SHELL_JOURNAL.arg(alloc))
 }
 
 /// The option for threads.
@@ -252,13 +261,10 @@ fn threads<'a>(alloc: Global) -> Arg<'a> {
 impl NumberOption {
     /// The option for the command line.
     fn arg<'a>(self, alloc: Global) -> Arg<'a> {
-        taking_number(alloc, self.name)
-            .value_parser(ValueParser::Unsigned(self.least, self.most))
+        Arg::new(alloc, self.name)
+            .long(self.name)
+            .value_name("N")
+            .value_parser(ValueParser::Unsigned(u64::from(self.least), u64::from(self.most)))
             .help(self.help)
     }
-}
-
-/// An option of this name that takes a number.
-fn taking_number<'a>(alloc: Global, name: &'a str) -> Arg<'a> {
-    Arg::new(alloc, name).long(name).value_name("N")
 }

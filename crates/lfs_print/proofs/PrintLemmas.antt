@@ -7,7 +7,8 @@ use Rattle.lfs_model.specs.declared.journal.CleanerKind.{CleanerKind}
 use Rattle.lfs_types.specs.RuleCodes.{rule_code, rule_error, error_name}
 use Rattle.lfs_types.specs.declared.rule.Denial.{Denial}
 use Rattle.lfs_types.specs.declared.rule.Errno.{Errno}
-use Rattle.lfs_print.specs.AnswerText.{denial_words, spaced}
+use Rattle.lfs_print.specs.AnswerText.{denial_words}
+use Rattle.lfs_words.specs.Wording.{spaced}
 use Rattle.lfs_words.specs.NameText.{name_text}
 use Rattle.lfs_print.specs.CleanerText.{cleaner_line, cleaner_words}
 use Rattle.lfs_print.specs.CleanerWords.{cleaner_word}

@@ -1,6 +1,5 @@
 -- The lines of answers.
 use Rattle.std.specs.Prelude.{ℕ, List, [], ◌∷◌, ◌++◌, map, codes, decimal}
-use Rattle.std.specs.List.{flat_map}
 use Rattle.lfs_types.specs.RuleCodes.{rule_code, rule_error, error_name}
 use Rattle.lfs_types.specs.declared.answer.Answer.{Answer}
 use Rattle.lfs_types.specs.declared.answer.Answer.TheVariants.{Served as Shows, Denied, Refused}
@@ -14,10 +13,7 @@ use Rattle.lfs_types.specs.declared.attrs.Kind.TheVariants.{File, Directory}
 use Rattle.lfs_types.specs.declared.rule.Denial.{Denial}
 use Rattle.lfs_words.specs.BytesText.{bytes_text}
 use Rattle.lfs_words.specs.NameText.{flags_text, mode_text, name_text}
-
--- words, each behind a space
-abbrev pub spaced : List (List ℕ) → List ℕ
-spaced words = flat_map (λ word. 32 ∷ word) words
+use Rattle.lfs_words.specs.Wording.{spaced}
 
 abbrev pub kind_word : Kind → List ℕ
 kind_word File = codes "file"

@@ -3,6 +3,8 @@ use Rattle.std.specs.Prelude.{ℕ, List, [], ◌∷◌, codes, decimal, length}
 use Rattle.lfs_model.specs.declared.journal.CleanerAnswer.{CleanerAnswer}
 use Rattle.lfs_model.specs.declared.journal.CleanerAnswer.TheVariants.{Refused, Denied, Fault, Ifile, Infos, Bmapv, Marked, Cleaned}
 use Rattle.lfs_model.specs.declared.journal.CleanerKind.{CleanerKind}
+use Rattle.lfs_model.specs.declared.journal.CleanerOutcome.{CleanerOutcome}
+use Rattle.lfs_model.specs.declared.journal.CleanerOutcome.TheVariants as outcome
 use Rattle.lfs_types.specs.RuleCodes.{rule_code}
 use Rattle.lfs_types.specs.declared.cleaner.CleanFault.{CleanFault}
 use Rattle.lfs_types.specs.declared.cleaner.CleanFault.TheVariants.{NoSuchSegment, Active, NotDirty, Live, NoSpace}
@@ -32,6 +34,12 @@ cleaner_words (Infos infos) = done_words (length infos)
 cleaner_words (Bmapv infos) = done_words (length infos)
 cleaner_words (Marked count) = done_words count
 cleaner_words Cleaned = done_words 0
+
+-- the words of what came of a call, as the journal tells it
+abbrev pub outcome_words : CleanerOutcome → List (List ℕ)
+outcome_words outcome.Denied = codes "denied" ∷ []
+outcome_words (outcome.Fault fault) = fault_words fault
+outcome_words (outcome.Done number) = done_words number
 
 -- the line of an answer to a cleaner's call
 abbrev pub cleaner_line : ℕ → CleanerKind → CleanerAnswer → List ℕ

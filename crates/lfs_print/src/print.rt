@@ -1,12 +1,13 @@
 //! The lines of answers.
 
 ghost use Rattle.std.specs.Prelude.{◌≡◌, ◌∷◌, ◌++◌, [], map, IfOk, OnOk};
-ghost use Rattle.lfs_print.specs.AnswerText.{answer_line, answer_words, attrs_words, denial_words, kind_word, resource_word, served_words, spaced, stat_words};
-ghost use Rattle.lfs_print.specs.CleanerText.{cleaner_line, cleaner_words, done_words, fault_words};
+ghost use Rattle.lfs_print.specs.AnswerText.{answer_line, answer_words, attrs_words, denial_words, kind_word, resource_word, served_words, stat_words};
+ghost use Rattle.lfs_words.specs.Wording.{spaced};
+ghost use Rattle.lfs_print.specs.CleanerText.{cleaner_line, cleaner_words, done_words, fault_words, outcome_words};
 ghost use Rattle.lfs_words.specs.NameText.{name_text};
 
 use crate::cleaner::cleaner_word;
-use lfs_model::journal::{CleanerAnswer, CleanerKind};
+use lfs_model::journal::{CleanerAnswer, CleanerKind, CleanerOutcome};
 use lfs_types::answer::{Answer, Resource, Served};
 use lfs_types::attrs::{Attrs, Kind};
 use lfs_types::cleaner::CleanFault;
@@ -43,7 +44,7 @@ pub(crate) fn end_line(out: &mut Vec<u8>) -> Result<(), AllocError>
 }
 
 /// Appends the words of an answer.
-fn push_answer(out: &mut Vec<u8>, answer: &Answer) -> Result<(), AllocError>
+pub fn push_answer(out: &mut Vec<u8>, answer: &Answer) -> Result<(), AllocError>
     ensures { OnOk result (out.new.items ≡ out.old.items ++ spaced (answer_words answer.now)) }
 {
     match answer {
@@ -187,6 +188,17 @@ fn push_cleaner(out: &mut Vec<u8>, answer: &CleanerAnswer) -> Result<(), AllocEr
         CleanerAnswer::Bmapv(infos) => push_done(out, infos.items().len() as u64),
         CleanerAnswer::Marked(count) => push_done(out, u64::from(*count)),
         CleanerAnswer::Cleaned => push_done(out, 0),
+    }
+}
+
+/// Appends the words of what came of a cleaner's call, as the journal tells it.
+pub fn push_outcome(out: &mut Vec<u8>, outcome: CleanerOutcome) -> Result<(), AllocError>
+    ensures { OnOk result (out.new.items ≡ out.old.items ++ spaced (outcome_words outcome)) }
+{
+    match outcome {
+        CleanerOutcome::Denied => push_word(out, "denied"),
+        CleanerOutcome::Fault(fault) => push_fault(out, fault),
+        CleanerOutcome::Done(number) => push_done(out, u64::from(number)),
     }
 }
 

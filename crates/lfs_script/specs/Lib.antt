@@ -3,5 +3,6 @@ pub mod Parsing
 pub mod PlanTypes
 pub mod Plans
 pub mod Requests
+pub mod Spelling
 pub mod Splitting
 pub mod Verbs

@@ -6,6 +6,7 @@ pub mod fault;
 pub mod plan;
 mod requests;
 pub mod script;
+pub mod spelling;
 pub mod split;
 mod verb;
 

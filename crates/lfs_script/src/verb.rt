@@ -106,7 +106,7 @@ impl Verb {
 }
 
 /// The word of a user's call.
-fn request_word(kind: RequestKind) -> &'static str
+pub(crate) fn request_word(kind: RequestKind) -> &'static str
     ensures { result.now ≡ request_word kind }
 {
     match kind {

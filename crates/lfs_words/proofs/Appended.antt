@@ -37,15 +37,14 @@ unfolding flags_text
 flags_added new out spaced bytes bits flags e same told grown = rw (grown, told, same, e, append_assoc) refl
 
 -- one more byte of a name
-pub name_more : (out done name shown new : List ℕ) (i : ℕ) → shown ≡ name → i < length shown → done ≡ out ++ 32 ∷ flat_map byte_text (take i name)
-    → new ≡ done ++ byte_text (get_or shown i 0) → new ≡ out ++ 32 ∷ flat_map byte_text (take (i + 1) name)
+pub name_more : (out done name shown new : List ℕ) (i : ℕ) → shown ≡ name → i < length shown → done ≡ out ++ flat_map byte_text (take i name)
+    → new ≡ done ++ byte_text (get_or shown i 0) → new ≡ out ++ flat_map byte_text (take (i + 1) name)
 name_more out done name shown new i same lt so_far grown =
     let within : i < length name = subst (λ xs. i < length xs) same lt in
-    let more = flat_map_more byte_text (out ++ 32 ∷ []) (take i name) (get_or name i 0) in
-    rw (grown, so_far, same, take_more name i 0 within, append_assoc) (simp append_assoc at more)
+    rw (grown, so_far, same, take_more name i 0 within) (flat_map_more byte_text out (take i name) (get_or name i 0))
 
 -- all bytes of a name
-pub name_all : (out done name shown : List ℕ) (i : ℕ) → shown ≡ name → length shown ≤ i → done ≡ out ++ 32 ∷ flat_map byte_text (take i name)
-    → done ≡ out ++ 32 ∷ name_text name
+pub name_all : (out done name shown : List ℕ) (i : ℕ) → shown ≡ name → length shown ≤ i → done ≡ out ++ flat_map byte_text (take i name)
+    → done ≡ out ++ name_text name
 name_all out done name shown i same le so_far =
-    let past : length name ≤ i = subst (λ xs. length xs ≤ i) same le in so_far ∙ ap (λ xs. out ++ 32 ∷ flat_map byte_text xs) (take_all i name past)
+    let past : length name ≤ i = subst (λ xs. length xs ≤ i) same le in so_far ∙ ap (λ xs. out ++ flat_map byte_text xs) (take_all i name past)

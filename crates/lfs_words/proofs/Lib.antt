@@ -1,4 +1,5 @@
 pub mod Appended
+pub mod CallerBack
 pub mod FaultLemmas
 pub mod FlagDigits
 pub mod GroupLists
@@ -8,4 +9,7 @@ pub mod LevelWords
 pub mod LineCuts
 pub mod Numerals
 pub mod Parts
+pub mod PathBack
+pub mod ReadBack
+pub mod WordBytes
 pub mod WordLists

@@ -1,4 +1,5 @@
 pub mod BytesText
+pub mod CallerText
 pub mod Callers
 pub mod Faults
 pub mod FlagText
@@ -8,4 +9,5 @@ pub mod Lines
 pub mod NameText
 pub mod Numbers
 pub mod PathText
+pub mod Spelling
 pub mod Wording

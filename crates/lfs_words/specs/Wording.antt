@@ -1,6 +1,6 @@
 -- The words of a line.
-use Rattle.std.specs.Prelude.{ℕ, ◌==◌, Bool, List, [], ◌∷◌, length, Result, Ok, Err}
-use Rattle.std.specs.List.{slice_split}
+use Rattle.std.specs.Prelude.{ℕ, ◌==◌, ◌&&◌, nat_le, not, Bool, List, [], ◌∷◌, length, Result, Ok, Err}
+use Rattle.std.specs.List.{flat_map, list_all, slice_split}
 use Rattle.lfs_words.specs.declared.fault.FaultKind.{FaultKind}
 use Rattle.lfs_words.specs.declared.fault.FaultKind.TheVariants.{Words}
 
@@ -8,9 +8,21 @@ use Rattle.lfs_words.specs.declared.fault.FaultKind.TheVariants.{Words}
 abbrev pub words_of : List ℕ → List (List ℕ)
 words_of line = slice_split (λ b. b == 32) line
 
+-- words, each behind a space
+abbrev pub spaced : List (List ℕ) → List ℕ
+spaced words = flat_map (λ word. 32 ∷ word) words
+
 -- whether a word has no bytes
 abbrev pub is_bare : List ℕ → Bool
 is_bare word = length word == 0
+
+-- whether a byte may stand in a word: from an exclamation mark to a tilde
+abbrev pub is_word_byte : ℕ → Bool
+is_word_byte b = nat_le 33 b && nat_le b 126
+
+-- whether bytes may be a word of a line
+abbrev pub is_word : List ℕ → Bool
+is_word word = not (is_bare word) && list_all is_word_byte word
 
 -- no word
 abbrev pub no_word : List (List ℕ) → Result (List (List ℕ)) FaultKind

@@ -1,8 +1,9 @@
 //! Words that are appended to a text, each behind a space.
 
-ghost use Rattle.std.specs.Prelude.{◌≡◌, ◌<◌, ◌∷◌, ◌++◌, [], decimal, OnOk};
+ghost use Rattle.std.specs.Prelude.{◌≡◌, ◌^◌, ◌<◌, ◌∷◌, ◌++◌, [], decimal, OnOk};
 ghost use Rattle.std.specs.Char.{digit_char};
 ghost use Rattle.std.specs.List.{flat_map};
+ghost use Rattle.lfs_types.specs.FlagNumbers.{IsKnown};
 ghost use Rattle.lfs_words.specs.BytesText.{bytes_text, hex_text};
 ghost use Rattle.lfs_words.specs.NameText.{byte_text, flags_text, mode_text, name_text};
 
@@ -71,7 +72,8 @@ pub fn push_bytes(out: &mut Vec<u8>, bytes: &[u8]) -> Result<(), AllocError>
 /// Appends a mode as four octal digits.
 #[tactic(auto, unfolding(crate::specs::NameText::mode_text))]
 pub fn push_mode(out: &mut Vec<u8>, mode: Mode) -> Result<(), AllocError>
-    ensures { OnOk result (out.new.items ≡ out.old.items ++ 32 ∷ mode_text mode) }
+    ensures spelled { OnOk result (out.new.items ≡ out.old.items ++ 32 ∷ mode_text mode) }
+    ensures bounded { mode < 4096 }
 {
     let bits = mode.bits();
     out.push(b' ')?;
@@ -86,10 +88,13 @@ pub fn push_mode(out: &mut Vec<u8>, mode: Mode) -> Result<(), AllocError>
 /// Appends flags as eight hexadecimal digits.
 #[tactic(auto, unfolding(crate::specs::NameText::flags_text))]
 pub fn push_flags(out: &mut Vec<u8>, flags: FileFlags) -> Result<(), AllocError>
-    ensures { OnOk result (out.new.items ≡ out.old.items ++ 32 ∷ flags_text flags) }
+    ensures spelled { OnOk result (out.new.items ≡ out.old.items ++ 32 ∷ flags_text flags) }
+    ensures bounded { flags < 2 ^ 32 }
+    ensures known { IsKnown flags }
 {
+    let bits = flags.bits();
     out.push(b' ')?;
-    push_hex(out, &flags.bits().to_be_bytes())
+    push_hex(out, &bits.to_be_bytes())
 }
 
 /// Appends a name, in which a byte outside 0x21 to 0x7E, and `%`, is `%` and two digits.
@@ -97,6 +102,13 @@ pub fn push_name(out: &mut Vec<u8>, name: &Name) -> Result<(), AllocError>
     ensures { OnOk result (out.new.items ≡ out.old.items ++ 32 ∷ name_text name.now) }
 {
     out.push(b' ')?;
+    push_name_text(out, name)
+}
+
+/// Appends a name so, without a space.
+pub(crate) fn push_name_text(out: &mut Vec<u8>, name: &Name) -> Result<(), AllocError>
+    ensures { OnOk result (out.new.items ≡ out.old.items ++ name_text name.now) }
+{
     for byte in name.as_bytes() {
         push_name_byte(out, *byte)?;
     }

@@ -1,12 +1,16 @@
 //! Credentials in scripts.
 
-ghost use Rattle.std.specs.Prelude.{◌≡◌, ◌++◌, ◌∷◌, [], None, Some, map, take, false, MatchResult};
-ghost use Rattle.std.specs.List.{list_all};
+ghost use Rattle.std.specs.Prelude.{◌≡◌, ◌++◌, ◌∷◌, [], None, Some, Ok, decimal, map, take, false, MatchResult, OnOk};
+ghost use Rattle.std.specs.List.{flat_map, list_all};
+ghost use Rattle.lfs_words.specs.CallerText.{AreShort, caller_words, groups_text};
 ghost use Rattle.lfs_words.specs.Callers.{caller_fault, caller_said, decimal_value, decimals_fault, groups_of, is_decimal};
+ghost use Rattle.lfs_words.specs.Wording.{spaced};
 
+use crate::append::{push_decimal, push_number, push_word};
 use crate::fault::FaultKind;
 use crate::number::{is_decimal, short_decimal};
 use lfs_types::cred::{Cred, NGROUPS_MAX};
+use std::alloc::AllocError;
 use std::marker::Model;
 
 /// How many groups of a word are kept: one more than a credential may have, so that too many are told apart.
@@ -42,6 +46,47 @@ fn caller_of(user: &str, groups: &str, init: bool) -> Result<Cred, FaultKind>
         Ok(cred) => Ok(cred),
         Err(fault) => Err(FaultKind::Cred(fault)),
     }
+}
+
+/// Appends the words of a credential, each behind a space, as they stand behind `as`: a user, groups with a comma between,
+/// and the mark of init. They are read back.
+pub fn spell_caller(out: &mut Vec<u8>, cred: &Cred) -> Result<(), AllocError>
+    ensures spelled { OnOk result (out.new.items ≡ out.old.items ++ spaced (caller_words cred.now)) }
+    ensures back { OnOk result (caller_said (caller_words cred.now) ≡ Ok cred.now) }
+{
+    push_number(out, u64::from(cred.uid()))?;
+    out.push(b' ')?;
+    push_groups(out, cred.groups())?;
+    if cred.is_init() {
+        push_word(out, "init")?;
+    }
+    Ok(())
+}
+
+/// Appends groups with a comma between.
+fn push_groups(out: &mut Vec<u8>, groups: &[u32]) -> Result<(), AllocError>
+    ensures spelled { OnOk result (out.new.items ≡ out.old.items ++ groups_text groups.now) }
+    ensures short { AreShort groups.now }
+{
+    match groups {
+        [] => Ok(()),
+        [first, rest @ ..] => {
+            push_decimal(out, u64::from(*first))?;
+            push_more_groups(out, rest)
+        }
+    }
+}
+
+/// Appends groups, each behind a comma.
+fn push_more_groups(out: &mut Vec<u8>, groups: &[u32]) -> Result<(), AllocError>
+    ensures { OnOk result (out.new.items ≡ out.old.items
+        ++ flat_map (λ group. 44 ∷ decimal group) groups.now) }
+{
+    for group in groups {
+        out.push(b',')?;
+        push_decimal(out, u64::from(*group))?;
+    }
+    Ok(())
 }
 
 /// The credential at the start: the superuser with group 0, who is not init.

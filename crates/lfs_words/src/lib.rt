@@ -10,4 +10,5 @@ pub mod info;
 pub mod line;
 pub mod number;
 pub mod path;
+pub mod spelling;
 pub mod words;

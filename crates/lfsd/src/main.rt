@@ -3,7 +3,7 @@
 
 use clap::error::ErrorKind;
 use lfs_audit::fault::{RunFault, ThreadsFault};
-use lfs_audit::scripts::run_script;
+use lfs_audit::run::run_script;
 use lfs_audit::tell;
 use lfs_audit::threads::run_threads;
 use lfs_options::{Options, not_utf8, options_of};

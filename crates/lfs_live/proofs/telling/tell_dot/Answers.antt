@@ -1,5 +1,10 @@
-use Rattle.std.proofs.Common.{Some, ap, sym}
+use Rattle.std.proofs.Common.{Some, ap, sym, ◌∙◌}
+use Rattle.lfs_live.specs.JournalText.{journal_text}
 use Rattle.lfs_live.proofs.telling.tell_dot.Goals as goal
+
+pub returns-in_ok-tell_journal-in-Journal : goal.returns-in_ok-tell_journal-in-Journal
+returns-in_ok-tell_journal-in-Journal g c =
+    rw c.in-Journal.is (ap Some (sym (c.in_ok-tell_journal-in-Journal.ensures ∙ ap (journal_text c.in-Journal.count) c.journal.ensures.entries)))
 
 pub returns-in_ok-report_counts-in-Report : goal.returns-in_ok-report_counts-in-Report
 returns-in_ok-report_counts-in-Report g c =

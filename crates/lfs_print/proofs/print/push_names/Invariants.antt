@@ -1,5 +1,5 @@
 use Rattle.std.proofs.Common.{◌≡◌, ◌++◌, map, take}
-use Rattle.lfs_print.specs.AnswerText.{spaced}
+use Rattle.lfs_words.specs.Wording.{spaced}
 use Rattle.lfs_words.specs.NameText.{name_text}
 use Rattle.lfs_print.proofs.print.push_names.Given as goal
 

@@ -2,7 +2,7 @@ use Rattle.std.proofs.Common.{rules}
 use Rattle.lfs_audit.proofs.RunLemmas.{on_ok}
 use Rattle.lfs_audit.proofs.FaultLemmas.{has_plan, late_script_faults, layout_fault, reading_script_fault}
 use Rattle.lfs_audit.proofs.ScriptLemmas.{late_silence, log_run}
-use Rattle.lfs_audit.proofs.scripts.run_script.Goals as goal
+use Rattle.lfs_audit.proofs.run.run_script.Goals as goal
 
 pub returns-clause-written : goal.returns-clause-written
 returns-clause-written g c =

@@ -1,6 +1,6 @@
 use Rattle.std.proofs.Common.{rules}
 use Rattle.lfs_audit.proofs.ScriptLemmas.{no_fault}
-use Rattle.lfs_audit.proofs.scripts.fresh_volume.Goals as goal
+use Rattle.lfs_audit.proofs.run.fresh_volume.Goals as goal
 
 pub returns-clause-ranges : goal.returns-clause-ranges
 returns-clause-ranges c = record {

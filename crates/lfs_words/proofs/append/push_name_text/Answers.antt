@@ -1,5 +1,5 @@
 use Rattle.lfs_words.proofs.Appended.{name_all, name_more}
-use Rattle.lfs_words.proofs.append.push_name.Goals as goal
+use Rattle.lfs_words.proofs.append.push_name_text.Goals as goal
 
 pub loop-byte-preserved : goal.loop-byte-preserved
 loop-byte-preserved c =

@@ -1,7 +1,0 @@
-use Rattle.std.proofs.Common.{◌≡◌, ◌++◌, ◌∷◌, take}
-use Rattle.std.specs.List.{flat_map}
-use Rattle.lfs_words.specs.NameText.{byte_text}
-use Rattle.lfs_words.proofs.append.push_name.Given as goal
-
-abbrev pub invariant-loop-byte : goal.invariant-loop-byte
-invariant-loop-byte l = l.out.items ≡ l.fn.out.items ++ 32 ∷ flat_map byte_text (take l.byte-index l.fn.name)
