@@ -211,7 +211,98 @@ def directories(run):
     worn(run, 300, ["cut", "chmod", "direct"], rng.choice([0, 0.1, 1]), rng.choice([0, 0.02]))
 
 
-SHAPES = [small_files, past_the_twelfth, records, long_names, mixed, removed_one_by_one, cut_one_by_one, directories]
+def rewritten(run):
+    """Files of a block past the twelfth, each written anew at another place, in another order."""
+    rng = run.rng
+    for name in run.names(rng.choice([0, 0, 8])):
+        run.file(name)
+        run.write(name, first_block(rng, True))
+        run.sometimes("sync", rng.choice([0, 0.05, 0.3]))
+        run.sometimes("pass", 0.02)
+    for _ in range(rng.choice([1, 3])):
+        order = rng.sample(run.files, len(run.files))
+        for path in order[:400]:
+            run.write(path, DIRECT + rng.randrange(rng.choice([1, 2, 4, 100])))
+            run.sometimes("sync", rng.choice([0, 0.1, 0.5]))
+            run.sometimes("pass", 0.01)
+    worn(run, 300, ["cut", "chmod", "past"], rng.choice([0.3, 1]), 0.03)
+
+
+def unlinked_and_synced(run):
+    """A full volume, then Unlink and Sync by turns, of files in any order, and some made anew."""
+    rng = run.rng
+    past = rng.random() < 0.5
+    filled(run, lambda: past, rng.choice([0, 8, 60, 200, 251]), rng.choice([[0, 1], [1], [1, 2], [2, 4]]),
+           rng.choice([0, 0.1, 1]), rng.choice([0, 0.02]))
+    for _ in range(rng.randrange(1, 5)):
+        order = rng.sample(run.files, len(run.files))
+        often = rng.choice([0, 0.05, 0.2])
+        for path in order[:rng.choice([10, 40, 100, 300])]:
+            run.unlink(path)
+            run.say("sync")
+            run.sometimes("pass", often)
+        for path in order[:rng.choice([10, 40, 100])]:
+            run.say(f"create {path} 0644")
+            run.sizes[path] = 0
+            run.write(path, first_block(rng, past))
+            run.sometimes("sync", 0.3)
+        run.sometimes("pass", 0.7)
+
+
+def all_modes(run):
+    """The mode of every file is changed, in any order, most with a Sync behind."""
+    rng = run.rng
+    filled(run, lambda: rng.random() < 0.4, rng.choice([0, 8, 120]), rng.choice([[0], [0, 1], [1]]),
+           rng.choice([0, 0.1, 1]), 0)
+    for _ in range(rng.randrange(1, 5)):
+        for path in rng.sample(run.files, len(run.files)):
+            run.chmod(path)
+            run.sometimes("sync", rng.choice([1, 1, 0.2]))
+            run.sometimes("pass", 0.01)
+
+
+def empty_files(run):
+    """Many empty files of long names, whose records and blocks of names are written over and over."""
+    rng = run.rng
+    filled(run, lambda: False, rng.choice([120, 200, 251, 254]), [0], rng.choice([0, 0.1, 1]), 0.01)
+    order = rng.sample(run.files, len(run.files))
+    for path in order[:rng.choice([0, 50, 200])]:
+        run.unlink(path) if rng.random() < 0.3 else run.chmod(path)
+        run.say("sync")
+        run.sometimes("pass", 0.05)
+    for path in order:
+        run.write(path, first_block(rng, False))
+        run.sometimes("sync", 0.2)
+    worn(run, 300, ["chmod", "cut", "unlink", "make", "direct", "past"], 0.5, 0.02)
+
+
+def spread_files(run):
+    """Files of many blocks, written in turns, so that a segment has blocks of many."""
+    rng = run.rng
+    for i in range(rng.randrange(2, max(3, min(30, run.inodes - 5)))):
+        run.file(f"/b{i}")
+    often = rng.choice([0, 0.05, 0.5])
+    for _ in range(1500):
+        run.write(run.any(), rng.randrange(FILE_BLOCKS))
+        run.sometimes("sync", often)
+        run.sometimes("pass", 0.005)
+    worn(run, 300, ["cut", "chmod", "direct", "past"], rng.choice([0.2, 1]), rng.choice([0.01, 0.1]))
+
+
+def long_runs(run):
+    """All kinds of calls for long, with up to three passes between."""
+    rng = run.rng
+    filled(run, lambda: rng.random() < 0.5, rng.choice([0, 8, 60, 200]), [0, 1, 2, 3], rng.choice([0, 0.1, 0.5]),
+           rng.choice([0, 0.02]))
+    for _ in range(10):
+        kinds = rng.sample(["cut", "chmod", "unlink", "make", "direct", "past", "past", "make"], rng.randrange(1, 6))
+        worn(run, rng.choice([50, 150]), kinds, rng.choice([0, 0.05, 0.3, 1]), 0)
+        for _ in range(rng.randrange(0, 4)):
+            run.sometimes("pass", 0.7)
+
+
+SHAPES = [small_files, past_the_twelfth, records, long_names, mixed, removed_one_by_one, cut_one_by_one, directories,
+          rewritten, unlinked_and_synced, all_modes, empty_files, spread_files, long_runs]
 
 
 def emptying(run):

@@ -14,14 +14,14 @@ Each string that breaks one of these is kept in a folder that is named at the en
 says how many runs ended with which status, and how long they took.
 """
 import collections
+import multiprocessing
 import os
 import random
 import resource
-import subprocess
+import signal
 import sys
 import tempfile
 import time
-from concurrent.futures import ThreadPoolExecutor
 
 MEMORY = 200 * 1000 * 1000
 SECONDS = 20
@@ -146,17 +146,14 @@ def script(rng):
     return text
 
 
-def limits():
-    resource.setrlimit(resource.RLIMIT_AS, (MEMORY, MEMORY))
-    resource.setrlimit(resource.RLIMIT_CORE, (0, 0))
-
-
 def arguments(rng):
     return rng.choice([[], [], ["--threads"], ["--segments", "6", "--inodes", "16"], ["--journal", "1"]])
 
 
 def what_is_wrong(status, out, err):
     """What a run did that it must not do; none where it did not."""
+    if status is None:
+        return "no end"
     if status not in (0, 1):
         return f"status {status}"
     if status == 0:
@@ -171,15 +168,58 @@ def what_is_wrong(status, out, err):
     return None
 
 
-def run(program, seed, index):
-    rng = random.Random(f"{seed} {index}")
-    text = script(rng)
-    words = arguments(rng)
-    try:
-        done = subprocess.run([program, *words], input=text, capture_output=True, preexec_fn=limits, timeout=SECONDS)
-    except subprocess.TimeoutExpired:
-        return index, text, words, None, "no end"
-    return index, text, words, done.returncode, what_is_wrong(done.returncode, done.stdout, done.stderr)
+class Runner:
+    """A process that runs the program again and again. Its limits are those of each run, and its three files stand for the
+    streams of each, so that a run costs little more than the program's own start."""
+
+    def __init__(self, program, seed):
+        resource.setrlimit(resource.RLIMIT_AS, (MEMORY, MEMORY))
+        resource.setrlimit(resource.RLIMIT_CORE, (0, 0))
+        signal.signal(signal.SIGALRM, self.stop)
+        self.program, self.seed = program, seed
+        self.files = [tempfile.TemporaryFile() for _ in range(3)]
+        self.actions = [(os.POSIX_SPAWN_DUP2, file.fileno(), to) for to, file in enumerate(self.files)]
+
+    def stop(self, _signal, _frame):
+        raise TimeoutError
+
+    def end_of(self, text, words):
+        """The status of a run on a text, and what it printed on each stream; no status where it does not end."""
+        for file in self.files:
+            file.seek(0)
+            file.truncate()
+        self.files[0].write(text)
+        self.files[0].seek(0)
+        pid = os.posix_spawn(self.program, [self.program, *words], {}, file_actions=self.actions)
+        signal.alarm(SECONDS)
+        try:
+            status = os.waitstatus_to_exitcode(os.waitpid(pid, 0)[1])
+        except TimeoutError:
+            os.kill(pid, signal.SIGKILL)
+            os.waitpid(pid, 0)
+            status = None
+        signal.alarm(0)
+        for file in self.files[1:]:
+            file.seek(0)
+        return status, self.files[1].read(), self.files[2].read()
+
+    def run(self, index):
+        """Run INDEX: its number, its status, and its text and what is wrong with it, if something is."""
+        rng = random.Random(f"{self.seed} {index}")
+        text = script(rng)
+        words = arguments(rng)
+        status, out, err = self.end_of(text, words)
+        wrong = what_is_wrong(status, out, err)
+        return index, status, wrong and (text, words, wrong)
+
+
+def start(program, seed):
+    global runner
+    runner = Runner(program, seed)
+
+
+def run(index):
+    return runner.run(index)
 
 
 def main():
@@ -188,18 +228,19 @@ def main():
     program = os.path.abspath(sys.argv[1])
     count = int(sys.argv[2]) if len(sys.argv) > 2 else 200_000
     seed = sys.argv[3] if len(sys.argv) > 3 else "1"
-    start = time.monotonic()
+    began = time.monotonic()
     ends = collections.Counter()
     folder = None
-    with ThreadPoolExecutor(os.cpu_count()) as pool:
-        for index, text, words, status, wrong in pool.map(lambda i: run(program, seed, i), range(count), chunksize=64):
+    with multiprocessing.Pool(initializer=start, initargs=(program, seed)) as pool:
+        for index, status, wrong in pool.imap(run, range(count), chunksize=64):
             ends[status] += 1
             if wrong:
+                text, words, why = wrong
                 folder = folder or tempfile.mkdtemp(prefix="hostile-")
                 with open(os.path.join(folder, f"{index}.lfs"), "wb") as kept:
                     kept.write(text)
-                print(f"{index}: {wrong}, arguments {words}")
-    seconds = time.monotonic() - start
+                print(f"{index}: {why}, arguments {words}")
+    seconds = time.monotonic() - began
     print(f"runs={count} seed={seed} " + " ".join(f"status{s}={n}" for s, n in sorted(ends.items(), key=str))
           + f" seconds={seconds:.0f}")
     if folder:

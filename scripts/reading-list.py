@@ -17,7 +17,7 @@ TABLES = [
      [("lfs_volume/src/volume.rt", ["call", "clean", "run_steps"], ["Model for Volume"])]),
     ("Sessions on threads: `serve`", [("lfs_server/src/serve.rt", ["serve"], [])]),
     ("Scripts and their texts: `run_script` and `run_threads`",
-     [("lfs_audit/src/scripts.rt", ["run_script"], []), ("lfs_audit/src/threads.rt", ["run_threads"], [])]),
+     [("lfs_audit/src/run.rt", ["run_script"], []), ("lfs_audit/src/threads.rt", ["run_threads"], [])]),
     ("The log's own relations: the type of `LogStore`, and what its cleaner's calls mean",
      [("lfs_logstore/src/store.rt", [], ["Model for LogStore"]), ("lfs_logstore/src/cleaning.rt", [], ["CleanedStore for LogStore"])]),
 ]

@@ -9,7 +9,7 @@ mod told;
 mod word;
 
 use lfs_audit::fault::ThreadsFault;
-use lfs_audit::scripts::run_script;
+use lfs_audit::run::run_script;
 use lfs_audit::tell::tell;
 use lfs_types::store::Params;
 use std::alloc::{AllocError, Global};

@@ -1,7 +1,7 @@
 //! Scripts in files of the folder where the program runs, each with what it prints in a file beside it.
 
 use anyhow::anyhow;
-use lfs_audit::scripts::run_script;
+use lfs_audit::run::run_script;
 use lfs_audit::threads::run_threads;
 use lfs_options::{Options, options_of};
 use std::fs;

@@ -112,6 +112,27 @@ fn fill(rt: &impl Abort, file: &mut Ifile, segment: u32, state: SegState, live: 
     file.set_state(segment, state);
 }
 
+/// Sets the state of a segment that is there.
+fn set_state(rt: &impl Abort, file: &mut Ifile, segment: u32, state: SegState) {
+    assert!(rt; segment < file.segments());
+    file.set_state(segment, state);
+}
+
+#[test]
+fn the_first_clean_segment(rt: HostRuntime) {
+    let mut file = small(&rt, rt.alloc());
+    expect_eq(&rt, file.first_clean(), Some(0));
+    for segment in 0..6 {
+        set_state(&rt, &mut file, segment, SegState::Dirty);
+    }
+    expect_eq(&rt, file.first_clean(), None);
+    set_state(&rt, &mut file, 4, SegState::Clean);
+    set_state(&rt, &mut file, 2, SegState::Clean);
+    expect_eq(&rt, file.first_clean(), Some(2));
+    set_state(&rt, &mut file, 2, SegState::Active);
+    expect_eq(&rt, file.first_clean(), Some(4));
+}
+
 /// Drops live bytes of a segment that has as many.
 fn drop_live(rt: &impl Abort, file: &mut Ifile, segment: u32, live: u32) {
     assert!(rt; segment < file.segments());

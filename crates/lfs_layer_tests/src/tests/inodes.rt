@@ -2,7 +2,9 @@ ghost use Rattle.std.specs.Prelude.{◌≡◌, ◌<◌};
 ghost use Rattle.lfs_types.specs.FlagNumbers.{IsKnown};
 
 use super::{block_of, expect_bytes, expect_eq, mode};
-use lfs_inodes::addresses::{address, entry, with_address, with_entry};
+use lfs_inodes::addresses::{
+    address, double_address, entry, root_address, with_address, with_entry,
+};
 use lfs_inodes::inode::Inode;
 use lfs_inodes::slots::{slot, with_slot};
 use lfs_types::attrs::{Attrs, Kind};
@@ -10,8 +12,8 @@ use lfs_types::block::{Block, ZERO_BLOCK};
 use lfs_types::file_flags::FileFlags;
 use std::process::Abort;
 
-/// The fields of the record of file 4, version 1, owner and group 7, mode 0644, no flags, size 3,
-/// first address 9. Zeros follow them.
+/// The fields of the first version's record of file 4, version 1, owner and group 7, mode 0644, no
+/// flags, size 3, first address 9. Zeros follow them.
 const EXAMPLE_FIELDS: [u8; 40] = [
     0x00, 0x01, // record version
     0x00, 0x01, // file
@@ -25,7 +27,8 @@ const EXAMPLE_FIELDS: [u8; 40] = [
     0x00, 0x00, 0x00, 0x09, // first address
 ];
 
-/// The fields of the record of directory 4095, version 2, mode 7777, each known flag, size 71680, and its addresses.
+/// The fields of the first version's record of directory 4095, version 2, mode 7777, each known flag,
+/// size 71680, and its addresses.
 const FULL_FIELDS: [u8; 88] = [
     0x00, 0x01, // record version
     0x00, 0x02, // directory
@@ -40,7 +43,7 @@ const FULL_FIELDS: [u8; 88] = [
     0x00, 0x00, 0x00, 0x04, 0x00, 0x00, 0x00, 0x05, 0x00, 0x00, 0x00, 0x06, // 3 to 5
     0x00, 0x00, 0x00, 0x07, 0x00, 0x00, 0x00, 0x08, 0x00, 0x00, 0x00, 0x09, // 6 to 8
     0x00, 0x00, 0x00, 0x0a, 0x00, 0x00, 0x00, 0x0b, 0x00, 0x00, 0xff, 0xff, // 9 to 11
-    0x00, 0x00, 0x00, 0x14, // indirect block
+    0x00, 0x00, 0x00, 0x14, // single indirect block
 ];
 
 /// The record that begins with these bytes and goes on with zeros.
@@ -53,6 +56,14 @@ fn record_of(fields: &[u8]) -> [u8; 128] {
 
 fn example_record() -> [u8; 128] {
     record_of(&EXAMPLE_FIELDS)
+}
+
+/// The record as it is written: of the second version.
+fn second_version(record: &[u8; 128]) -> [u8; 128] {
+    let mut bytes = *record;
+    bytes[0] = 0;
+    bytes[1] = 2;
+    bytes
 }
 
 fn flags(bits: u32) -> FileFlags
@@ -79,6 +90,7 @@ fn example() -> Inode
         size: 3,
         direct: [9, 0, 0, 0, 0, 0, 0, 0, 0, 0, 0, 0],
         single: 0,
+        double: 0,
     }
 }
 
@@ -97,6 +109,7 @@ fn full() -> Inode
         size: 71680,
         direct: [1, 2, 3, 4, 5, 6, 7, 8, 9, 10, 11, 65535],
         single: 20,
+        double: 0,
     }
 }
 
@@ -107,6 +120,11 @@ fn full_indirect() -> Block {
     block[510] = 2;
     block[511] = 3;
     block
+}
+
+/// A child of the double indirect block.
+fn child() -> Block {
+    [7; 512]
 }
 
 /// The addresses of the blocks of `full`.
@@ -123,50 +141,74 @@ fn expect_addresses(rt: &impl Abort, inode: &Inode, direct: &[u32; 12], single: 
     expect_eq(rt, inode.single, single);
 }
 
+/// Asserts that a record of the first version and the same of the second are of this inode, which is
+/// written as the second.
+fn expect_both_ways(rt: &impl Abort, first: &[u8; 128], inode: &Inode) {
+    let second = second_version(first);
+    expect_bytes(rt, &inode.encode(), &second);
+    expect_inode(rt, &second, Some(*inode));
+    expect_inode(rt, first, Some(*inode));
+}
+
 #[test]
 fn the_example_both_ways(rt: HostRuntime) {
-    expect_bytes(&rt, &example().encode(), &example_record());
-    expect_inode(&rt, &example_record(), Some(example()));
+    expect_both_ways(&rt, &example_record(), &example());
 }
 
 #[test]
 fn the_greatest_values(rt: HostRuntime) {
-    let record = record_of(&FULL_FIELDS);
-    expect_bytes(&rt, &full().encode(), &record);
-    expect_inode(&rt, &record, Some(full()));
+    expect_both_ways(&rt, &record_of(&FULL_FIELDS), &full());
 }
 
-/// Of the changes of one byte of the example these stay records: 267 of the number, 1,019 of the
-/// version, 1,020 each of owner and group, 270 of the mode, 14 of the flags, 510 of the size and 510
-/// of the first address.
+/// A file of one block has no double indirect block.
 #[test]
-fn each_change_of_one_byte(rt: HostRuntime) {
+fn a_record_with_an_address_too_many_is_none(rt: HostRuntime) {
+    let mut record = example_record();
+    record[91] = 9;
+    expect_inode(&rt, &record, None);
+    expect_inode(&rt, &second_version(&record), None);
+}
+
+/// The number of records that changes of one byte make of a record. Asserts that each of them is
+/// written as the same of the second version.
+fn changed_records(rt: &impl Abort, record: &[u8; 128]) -> u32 {
     let mut records = 0u32;
     for place in 0..128 {
         for value in 0..=255u8 {
-            let mut changed = example_record();
+            let mut changed = *record;
             if changed[place] != value {
                 changed[place] = value;
                 if let Some(inode) = Inode::decode(&changed) {
-                    expect_bytes(&rt, &inode.encode(), &changed);
+                    expect_bytes(rt, &inode.encode(), &second_version(&changed));
                     records = records.wrapping_add(1);
                 }
             }
         }
     }
-    expect_eq(&rt, records, 4630);
+    records
+}
+
+/// Of the changes of one byte of the example these stay records: one of the record's version, 267 of
+/// the number, 1,019 of the version, 1,020 each of owner and group, 270 of the mode, 14 of the flags,
+/// 510 of the size and 510 of the first address.
+#[test]
+fn each_change_of_one_byte(rt: HostRuntime) {
+    expect_eq(&rt, changed_records(&rt, &example_record()), 4631);
+    let second = second_version(&example_record());
+    expect_eq(&rt, changed_records(&rt, &second), 4631);
 }
 
 #[test]
 fn addresses_at_the_ends(rt: HostRuntime) {
     let (inode, indirect) = (full(), full_indirect());
     for (index, wanted) in [(0, 1), (11, 65535), (12, 30), (13, 0), (139, 515)] {
-        expect_eq(&rt, address(&inode, &indirect, index), wanted);
+        expect_eq(&rt, address(&inode, &indirect, &child(), index), wanted);
     }
     addresses_are_replaced(&rt, &inode, &indirect);
 }
 
-/// Asserts what the inode and its indirect block become once the address of a block is replaced.
+/// Asserts what the inode and its single indirect block become once the address of a block is
+/// replaced; the child stays.
 fn expect_replaced(
     rt: &impl Abort,
     (index, address): (u32, u32),
@@ -174,9 +216,10 @@ fn expect_replaced(
     indirect: &Block,
 ) {
     assert!(rt; index < 140 && address < 65_536);
-    let (inode, block) = with_address(&full(), &full_indirect(), index, address);
+    let (inode, block, kept) = with_address(&full(), &full_indirect(), &child(), index, address);
     expect_addresses(rt, &inode, direct, 20);
     expect_bytes(rt, &block, indirect);
+    expect_bytes(rt, &kept, &child());
 }
 
 /// Asserts what is replaced in `full` and its indirect block.
@@ -207,7 +250,7 @@ fn four_records_in_a_block(rt: HostRuntime) {
     block = with_slot(&block, 0, &full().encode());
     block = with_slot(&block, 1, &example().encode());
     block = with_slot(&block, 3, &example().encode());
-    expect_bytes(&rt, &block[..8], &[0, 1, 0, 2, 0, 0, 0x0f, 0xff]);
+    expect_bytes(&rt, &block[..8], &[0, 2, 0, 2, 0, 0, 0x0f, 0xff]);
     let (first, last) = (Some(example()), Some(example()));
     expect_slots(&rt, &block, [Some(full()), first, None, last]);
     block = with_slot(&block, 2, &full().encode());
@@ -239,7 +282,7 @@ fn expect_attrs(rt: &impl Abort, inode: &Inode, attrs: &Attrs) {
 fn a_new_inode_shows_its_attributes(rt: HostRuntime) {
     let inode = Inode::new(4095, 3, &shown(Kind::Directory));
     let record = record_of(&[
-        0, 1, 0, 2, 0, 0, 0x0f, 0xff, 0, 0, 0, 3, 0, 0, 0, 7, 0, 0, 0, 9, 0x09, 0xed, 0, 0, 0, 0,
+        0, 2, 0, 2, 0, 0, 0x0f, 0xff, 0, 0, 0, 3, 0, 0, 0, 7, 0, 0, 0, 9, 0x09, 0xed, 0, 0, 0, 0,
         0, 4,
     ]);
     expect_bytes(&rt, &inode.encode(), &record);
@@ -257,8 +300,20 @@ fn the_addresses_of_a_record_are_replaced(rt: HostRuntime) {
     let inode = full().with_direct(11, 600).with_single(0);
     let direct = [1, 2, 3, 4, 5, 6, 7, 8, 9, 10, 11, 600];
     expect_addresses(&rt, &inode, &direct, 0);
-    let most = full().with_single(65535);
+    let most = full().with_single(65535).with_double(0);
     expect_addresses(&rt, &most, &full().direct, 65535);
+    expect_eq(&rt, double_address(&most), 0);
+}
+
+#[test]
+fn the_addresses_of_a_record_by_place(rt: HostRuntime) {
+    let inode = full();
+    for (place, wanted) in [(0, 1), (11, 65535), (12, 20), (13, 0)] {
+        expect_eq(&rt, root_address(&inode, place), wanted);
+    }
+    let changed = inode.with_root(0, 600).with_root(12, 65535);
+    let direct = [600, 2, 3, 4, 5, 6, 7, 8, 9, 10, 11, 65535];
+    expect_addresses(&rt, &changed, &direct, 65535);
 }
 
 #[test]

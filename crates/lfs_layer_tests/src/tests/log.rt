@@ -35,6 +35,7 @@ fn empty(kind: Kind, number: u32, version: u32) -> Inode
         size: 0,
         direct: [0; 12],
         single: 0,
+        double: 0,
     }
 }
 
@@ -74,11 +75,11 @@ fn expect_record(
 #[test]
 fn records_share_a_block(rt: HostRuntime) {
     let block = packed(&three());
-    let start = [0, 1, 0, 2, 0, 0, 0, 2, 0, 0, 0, 1];
+    let start = [0, 2, 0, 2, 0, 0, 0, 2, 0, 0, 0, 1];
     expect_record(&rt, &block, 0, &start, Some(root()));
-    let start = [0, 1, 0, 1, 0, 0, 0x0f, 0xff, 0xff, 0xff, 0xff, 0xff];
+    let start = [0, 2, 0, 1, 0, 0, 0x0f, 0xff, 0xff, 0xff, 0xff, 0xff];
     expect_record(&rt, &block, 1, &start, Some(last()));
-    let start = [0, 1, 0, 1, 0, 0, 0, 4, 0, 0, 0, 2];
+    let start = [0, 2, 0, 1, 0, 0, 0, 4, 0, 0, 0, 2];
     expect_record(&rt, &block, 2, &start, Some(again()));
     expect_record(&rt, &block, 3, &[0; 12], None);
 }
@@ -93,9 +94,9 @@ fn info(ino: u32, version: u32, lbn: u32, addr: u32) -> BlockInfo {
     }
 }
 
-/// The entries of the last data block and the indirect block of file 4, version 2, and of a block of
-/// inodes.
-fn entries() -> [SummaryEntry; 3]
+/// The entries of the last data block, the indirect block, the double indirect block and its first
+/// child of file 4, version 2, and of a block of inodes.
+fn entries() -> [SummaryEntry; 5]
     ensures { All IsEntry result }
 {
     [
@@ -108,6 +109,16 @@ fn entries() -> [SummaryEntry; 3]
             number: 4,
             version: 2,
             block: LogicalBlock::Single,
+        },
+        SummaryEntry {
+            number: 4,
+            version: 2,
+            block: LogicalBlock::Double,
+        },
+        SummaryEntry {
+            number: 4,
+            version: 2,
+            block: LogicalBlock::Child(0),
         },
         SummaryEntry {
             number: 0,
@@ -133,12 +144,12 @@ fn put_at(rt: &impl Abort, log: &mut Log, address: u32, block: &Block)
     expect_eq(rt, log.block(address), block);
 }
 
-/// Puts the records of three inodes, and asserts that they are found at block 4.
+/// Puts the records of three inodes, and asserts that they are found at block 6.
 fn put_three(rt: &impl Abort, log: &mut Log) {
     assert!(rt; log.room() > 0);
-    expect_eq(rt, log.put(&packed(&three())), 4);
-    expect_eq(rt, *log.block(4), packed(&three()));
-    expect_eq(rt, log.next_address(), 5);
+    expect_eq(rt, log.put(&packed(&three())), 6);
+    expect_eq(rt, *log.block(6), packed(&three()));
+    expect_eq(rt, log.next_address(), 7);
 }
 
 /// Asserts what is to be found of the blocks and the records that were put: no other segment has any.
@@ -146,9 +157,11 @@ fn put_are_found(rt: &impl Abort, log: &Log) {
     let wanted = [
         info(4, 2, 139, 2),
         info(4, 2, 0x8000_0000, 3),
-        info(2, 1, 0xffff_ffff, 4),
-        info(4095, 4_294_967_295, 0xffff_ffff, 4),
-        info(4, 2, 0xffff_ffff, 4),
+        info(4, 2, 0x8000_0001, 4),
+        info(4, 2, 0x8000_0100, 5),
+        info(2, 1, 0xffff_ffff, 6),
+        info(4095, 4_294_967_295, 0xffff_ffff, 6),
+        info(4, 2, 0xffff_ffff, 6),
     ];
     is_small(rt, log);
     expect_eq(rt, log.infos(0).items(), wanted.as_slice());
@@ -168,6 +181,8 @@ fn what_is_put_is_found(rt: HostRuntime) {
     let mut log = begun(&rt, rt.alloc());
     put_at(&rt, &mut log, 2, &[7; 512]);
     put_at(&rt, &mut log, 3, &[8; 512]);
+    put_at(&rt, &mut log, 4, &[9; 512]);
+    put_at(&rt, &mut log, 5, &[10; 512]);
     put_three(&rt, &mut log);
     put_are_found(&rt, &log);
 }
@@ -239,10 +254,23 @@ fn moved(rt: &impl Abort, log: &mut Log) {
     live_is(rt, log, 2, 128);
 }
 
+/// Gives each kind of indirect block of file 4 an address in segment 1.
+fn indirect_blocks_are_live(rt: &impl Abort, log: &mut Log) {
+    is_small(rt, log);
+    live_is(rt, log, 1, 512);
+    log.move_live(FileBlock::Single, 0, 65);
+    live_is(rt, log, 1, 1024);
+    log.move_live(FileBlock::Double, 0, 66);
+    live_is(rt, log, 1, 1536);
+    log.move_live(FileBlock::Child(127), 0, 67);
+    live_is(rt, log, 1, 2048);
+}
+
 #[test]
 fn live_bytes_follow_the_keys(rt: HostRuntime) {
     let mut log = Log::format(rt.alloc(), 6, 16).expect(&rt, "a log");
     placed(&rt, &mut log);
     moved(&rt, &mut log);
+    indirect_blocks_are_live(&rt, &mut log);
     expect_eq(&rt, log.ifile_bytes().expect(&rt, "bytes").len(), 252);
 }

@@ -19,6 +19,13 @@ const EXAMPLE: [u8; 28] = [
     0x4c, 0x46, 0x53, 0x53, 0, 0, 0, 0, 0, 3, 0, 1, 0, 0, 0, 0, 0, 0, 0, 4, 0, 0, 0, 1, 0, 0, 0, 0,
 ];
 
+/// Segment 0, offset 3, the entries of `double_and_child`.
+const DOUBLE: [u8; 40] = [
+    0x4c, 0x46, 0x53, 0x53, 0, 0, 0, 0, 0, 3, 0, 2, 0, 0, 0, 0, // two entries
+    0, 0, 0, 4, 0, 0, 0, 1, 0x80, 0, 0, 1, // the double indirect block
+    0, 0, 0, 4, 0, 0, 0, 1, 0x80, 0, 1, 0x7f, // its last child
+];
+
 /// Segment 1,023, offset 3, one entry for block 5 of file 4 in version 1.
 const LAST: [u8; 28] = [
     0x4c, 0x46, 0x53, 0x53, 0, 0, 0x03, 0xff, 0, 3, 0, 1, 0, 0, 0, 0, 0, 0, 0, 4, 0, 0, 0, 1, 0, 0,
@@ -35,6 +42,24 @@ fn data(index: u32) -> SummaryEntry
         version: 1,
         block: LogicalBlock::Data(index),
     }
+}
+
+/// The entries of the double indirect block and of its last child of file 4 in its first version.
+fn double_and_child() -> [SummaryEntry; 2]
+    ensures { All IsEntry result }
+{
+    [
+        SummaryEntry {
+            number: 4,
+            version: 1,
+            block: LogicalBlock::Double,
+        },
+        SummaryEntry {
+            number: 4,
+            version: 1,
+            block: LogicalBlock::Child(127),
+        },
+    ]
 }
 
 /// The summary that the example spells.
@@ -59,17 +84,31 @@ fn the_example_is_spelled_and_read(rt: HostRuntime) {
 }
 
 #[test]
+fn double_indirect_blocks_are_spelled_and_read(rt: HostRuntime) {
+    let summary = Summary::new(0, 3, &double_and_child());
+    expect_summary(&rt, &block_of(&DOUBLE), &summary);
+    let mut past = block_of(&DOUBLE);
+    past[39] = 0x80;
+    expect_is_one(&rt, &past, false);
+}
+
+#[test]
 fn each_kind_of_entry_is_spelled(rt: HostRuntime) {
     for (bytes, block) in [
         ([0, 0, 0, 139], LogicalBlock::Data(139)),
         ([0x80, 0, 0, 0], LogicalBlock::Single),
+        ([0x80, 0, 0, 1], LogicalBlock::Double),
+        ([0x80, 0, 1, 0], LogicalBlock::Child(0)),
+        ([0x80, 0, 1, 0x7f], LogicalBlock::Child(127)),
         ([0xff, 0xff, 0xff, 0xff], LogicalBlock::Inodes),
     ] {
         let number = u32::from_be_bytes(bytes);
         expect_eq(&rt, block.number(), number);
         expect_eq(&rt, LogicalBlock::from_number(number), Some(block));
     }
-    expect_eq(&rt, LogicalBlock::from_number(140), None);
+    for number in [140, 0x8000_0002, 0x8000_00ff, 0x8000_0180] {
+        expect_eq(&rt, LogicalBlock::from_number(number), None);
+    }
 }
 
 #[test]

@@ -1,4 +1,4 @@
-//! What values are taken, what rules print, that copies are equal; worked scripts and their first faults, the texts of answers,
+//! What values are taken, what rules print, that copies are equal; worked scripts and their first faults, the texts of answers and calls,
 //! and the report.
 
 mod answers;
@@ -8,6 +8,7 @@ mod faults;
 mod names;
 mod plans;
 mod rules;
+mod spelling;
 mod values;
 
 use std::alloc::Global;

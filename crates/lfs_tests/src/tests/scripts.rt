@@ -14,7 +14,7 @@ mod volume;
 
 use crate::tests::expect_eq;
 use lfs_audit::fault::ThreadsFault;
-use lfs_audit::scripts::run_script;
+use lfs_audit::run::run_script;
 use lfs_audit::tell::tell;
 use lfs_types::store::Params;
 use std::alloc::Global;

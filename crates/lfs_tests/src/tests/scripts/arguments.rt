@@ -157,12 +157,15 @@ fn help(rt: HostRuntime) {
 }
 
 /// Words that are refused, and how the range is told. A sign is told of with its option.
-const RANGES: [(&str, &str); 9] = [
+const RANGES: [(&str, &str); 12] = [
+    ("--segments=5", "6..=1024"),
+    ("--segments=1025", "6..=1024"),
     ("--inodes=15", "16..=4096"),
     ("--inodes=4097", "16..=4096"),
-    ("--segments=5", "6..=1024"),
     ("--frames=31", "32..=1024"),
+    ("--frames=1025", "32..=1024"),
     ("--journal=0", "1..=100000"),
+    ("--journal=100001", "1..=100000"),
     (
         "--segments=+6",
         "--segments takes a number of decimal digits alone, from 6 to 1024",

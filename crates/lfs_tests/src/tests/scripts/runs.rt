@@ -11,7 +11,7 @@ use super::{expect_told, expect_with, fakes};
 use crate::tests::expect_eq;
 use fakes::Shut;
 use lfs_audit::fault::{RunFault, ThreadsFault};
-use lfs_audit::scripts::run_script;
+use lfs_audit::run::run_script;
 use lfs_audit::threads::run_threads;
 use lfs_types::store::Params;
 use std::alloc::Global;
