@@ -33,17 +33,6 @@ coded_below code h = subst (λ c. c < BLOCK_CODES) h.coded (code_of-below h.bloc
 pub coded_block : (block : FileBlock) → IsFileBlock block → code_of block ≢ 0 → IsBlockCode (code_of block)
 coded_block block can other = record { block = block; is = can; coded = refl; other = other }
 
--- below data block 140, that is the single indirect block's code, or a data block's
-code_cases : (block : FileBlock) → IsFileBlock block → code_of block ≢ 0 → first_under block < 140 → (code_of block ≡ 1) ⊎ ((131 ≤ code_of block) × (code_of block < BLOCK_CODES))
-code_cases Record can other near = absurd (other refl)
-code_cases Single can other near = inl refl
-code_cases Double can other near = absurd (omega arith)
-code_cases (Child index) can other near = absurd (omega arith)
-code_cases (Data index) can other near = inr (omega arith, omega arith)
-
-pub coded_cases : (code : ℕ) (h : IsBlockCode code) → first_under h.block < 140 → (code ≡ 1) ⊎ ((131 ≤ code) × (code < BLOCK_CODES))
-coded_cases code h near = subst (λ c. (c ≡ 1) ⊎ ((131 ≤ c) × (c < BLOCK_CODES))) h.coded (code_cases h.block h.is (λ e. h.other (sym h.coded ∙ e)) near)
-
 -- where a cache holds nothing clean, there is nothing to show
 pub mirrors_none : (p : Parts) → p.cache.lru ≡ [] → Mirrors p
 mirrors_none p none = record {
