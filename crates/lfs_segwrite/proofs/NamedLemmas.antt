@@ -1,14 +1,14 @@
 -- The block that an info names, and that it is there.
-use Rattle.std.proofs.Common.{◌≡◌, ◌≢◌, ◌⊎◌, ℕ, ◌+◌, ◌-◌, ◌/◌, ◌<◌, ◌≤◌, List, length, min, refl, sym, ap, ◌∙◌, subst, inl, inr, arith}
+use Rattle.std.proofs.Common.{◌≡◌, ◌≢◌, ◌⊎◌, ℕ, ◌-◌, ◌/◌, ◌<◌, ◌≤◌, List, length, min, refl, sym, ap, ◌∙◌, subst, inl, inr, arith}
 use Rattle.std.specs.Prelude.{◌&&◌, if◌then◌else◌, nat_le, nat_lt}
-use Rattle.std.proofs.lemmas.Bool.{cases_eq, cases_lt, cond-true, cond-false, eq-eqb, ne_eqb, lt-leb, lt-ltb, le-leb, le-ltb}
+use Rattle.std.proofs.lemmas.Bool.{cases_eq, cases_lt, cond-true, cond-false, ne_eqb, lt-leb, lt-ltb, le-leb, le-ltb}
 use Rattle.lfs_types.specs.declared.cleaner.BlockInfo.{BlockInfo}
 use Rattle.lfs_types.specs.declared.limits.TheConstants.{FILE_BLOCKS}
 use Rattle.lfs_segments.specs.declared.entry.LogicalBlock.{LogicalBlock}
 use Rattle.lfs_segments.specs.declared.entry.LogicalBlock.TheVariants.{Data, Single, Double, Child, Inodes}
 use Rattle.lfs_segments.specs.Entry.{IsLogicalBlock, block_number}
 use Rattle.lfs_segments.specs.Reading.{block_from}
-use Rattle.lfs_segments.proofs.TestLemmas.{block_from-block_number, block_number-block_from}
+use Rattle.lfs_segments.proofs.TestLemmas.{block_from-block_number}
 use Rattle.lfs_bmap.specs.declared.blocks.FileBlock.{FileBlock}
 use Rattle.lfs_bmap.specs.declared.blocks.TheConstants.{BLOCK_CODES}
 use Rattle.lfs_bmap.specs.Blocks.{IsFileBlock, code_of, file_block_of, logical_of, way_to}

@@ -1,5 +1,5 @@
 -- The clean blocks that a cache holds are what the log has: how that is kept.
-use Rattle.std.proofs.Common.{◌≡◌, ◌≢◌, ◌⊎◌, ℕ, ◌<◌, ◌≤◌, List, [], None, Some, length, false, true, refl, sym, ap, ◌∙◌, subst, inl, inr, arith}
+use Rattle.std.proofs.Common.{◌≡◌, ◌≢◌, ◌⊎◌, ℕ, ◌<◌, List, [], None, Some, length, false, true, refl, sym, ap, ◌∙◌, subst, inl, inr}
 use Rattle.std.proofs.lemmas.Bool.{cases_eq, false≢true}
 use Rattle.std.proofs.lemmas.Option.{none-some}
 use Rattle.lfs_cache.specs.declared.key.Key.{Key}
@@ -11,8 +11,7 @@ use Rattle.lfs_segments.specs.Memory.{block_at}
 use Rattle.lfs_log.specs.Parts.{LogParts}
 use Rattle.lfs_bmap.specs.declared.blocks.TheConstants.{BLOCK_CODES}
 use Rattle.lfs_bmap.specs.declared.blocks.FileBlock.{FileBlock}
-use Rattle.lfs_bmap.specs.declared.blocks.FileBlock.TheVariants.{Record, Single, Double, Child, Data}
-use Rattle.lfs_bmap.specs.Blocks.{IsFileBlock, code_of, first_under}
+use Rattle.lfs_bmap.specs.Blocks.{IsFileBlock, code_of}
 use Rattle.lfs_bmap.specs.Reading.{SameReadings, address, read}
 use Rattle.lfs_bmap.specs.Ways.{IsKnown, way_of}
 use Rattle.lfs_bmap.proofs.BlockLemmas.{code_of-below}

@@ -1,5 +1,5 @@
 -- A file is cut, step by step.
-use Rattle.std.proofs.Common.{◌≡◌, ◌≢◌, ℕ, ◌+◌, ◌*◌, ◌-◌, ◌/◌, ◌<◌, ◌≤◌, List, length, Some, refl, sym, ap, ◌∙◌, subst, inl, inr, arith}
+use Rattle.std.proofs.Common.{◌≡◌, ℕ, ◌+◌, ◌-◌, ◌/◌, ◌<◌, ◌≤◌, List, length, Some, refl, sym, ap, ◌∙◌, subst, inl, inr, arith}
 use Rattle.std.specs.List.{Contains}
 use Rattle.std.proofs.lemmas.Bool.{cases_lt}
 use Rattle.std.proofs.lemmas.Option.{same_Some}
@@ -14,9 +14,8 @@ use Rattle.lfs_inodes.specs.Reading.{Fields, fields_of}
 use Rattle.lfs_cache.specs.Contents.{Contents}
 use Rattle.lfs_cache.specs.declared.cache.TheConstants.{LOCKED_LIMIT}
 use Rattle.lfs_log.specs.Parts.{LogParts}
-use Rattle.lfs_bmap.specs.declared.blocks.FileBlock.{FileBlock}
 use Rattle.lfs_bmap.specs.declared.blocks.FileBlock.TheVariants.{Data, Record}
-use Rattle.lfs_bmap.specs.Blocks.{IsFileBlock, code_of, way_to}
+use Rattle.lfs_bmap.specs.Blocks.{code_of, way_to}
 use Rattle.lfs_bmap.specs.Pieces.{IsCut, IsPadded}
 use Rattle.lfs_bmap.specs.Reading.{data_block}
 use Rattle.lfs_bmap.specs.Ways.{codes_on, data_way}
@@ -28,7 +27,7 @@ use Rattle.lfs_staging.specs.declared.parts.Parts.{Parts}
 use Rattle.lfs_staging.specs.Changing.{StaysInLog, frames_of_length, length_codes}
 use Rattle.lfs_staging.specs.Cutting.{CutsFile, CutsLast, DropsBlocks, MayDropAll, MayShorten, Shortens, cut_codes, last_table}
 use Rattle.lfs_staging.specs.Staging.{HasFrames, IsStaged, MayStage, StagesOwnRecord, TakesOnly}
-use Rattle.lfs_staging.specs.View.{key_of, record_of, tree_of, version_of, waiting_in}
+use Rattle.lfs_staging.specs.View.{record_of, tree_of, version_of}
 use Rattle.lfs_staging.proofs.ClearingLemmas.{gone_zeros, rest_attributes}
 use Rattle.lfs_staging.proofs.CutLemmas.{length_codes-cut, length_codes-length, length_codes-table}
 use Rattle.lfs_staging.proofs.GrowthLemmas.{one_record}

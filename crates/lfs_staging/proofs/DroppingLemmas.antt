@@ -16,19 +16,19 @@ use Rattle.lfs_bmap.specs.declared.blocks.FileBlock.{FileBlock}
 use Rattle.lfs_bmap.specs.declared.blocks.FileBlock.TheVariants.{Record, Single, Double, Child, Data}
 use Rattle.lfs_bmap.specs.Blocks.{IsFileBlock, code_of, first_under, table_of, way_to}
 use Rattle.lfs_bmap.specs.Reading.{address, data_block}
-use Rattle.lfs_bmap.specs.Ways.{IsKnown, codes_on, data_way}
+use Rattle.lfs_bmap.specs.Ways.{codes_on, data_way}
 use Rattle.lfs_bmap.proofs.BlockLemmas.{same_block}
 use Rattle.lfs_bmap.proofs.HolderLemmas.{code_cases, codes_on-block, data_table, table_of-code, table_of-direct, table_of-is, table_of-under, table_of-way}
 use Rattle.lfs_bmap.proofs.PlaceLemmas.{data_block-same}
 use Rattle.lfs_bmap.proofs.TableLemmas.{codes_on-above, codes_on-two, codes_on-within, first_under-least, first_under-past, table_of-later, table_of-less, under_table}
 use Rattle.lfs_staging.specs.declared.parts.Parts.{Parts}
 use Rattle.lfs_staging.specs.Cutting.{ClearsBlock, ClearsBlocks, DropsBlocks, DropsDown, DropsTable, GoneDown, IsGone, KeepsRest, MayClear, MayClearBetween, MayDrop, MayDropAll, cut_codes, down_codes, last_table}
-use Rattle.lfs_staging.specs.Staging.{HasFrames, IsStaged, MayStage, StagesTable, TakesOnly}
-use Rattle.lfs_staging.specs.Store.{HolderWaits, IsWithin}
+use Rattle.lfs_staging.specs.Staging.{IsStaged, MayStage, StagesTable, TakesOnly}
+use Rattle.lfs_staging.specs.Store.{HolderWaits}
 use Rattle.lfs_staging.specs.View.{key_of, record_of, tree_from, tree_of, version_of, waiting_in}
 use Rattle.lfs_staging.proofs.FileLemmas.{tree_from-of}
-use Rattle.lfs_staging.proofs.ClearingLemmas.{cleared_gone, gone_still, past_gone, rest_count, rest_refl, rest_trans, rest_used, rest_version, some_fields, there_within}
-use Rattle.lfs_staging.proofs.ForgettingLemmas.{used_low, way_some}
+use Rattle.lfs_staging.proofs.ClearingLemmas.{cleared_gone, gone_still, past_gone, rest_count, rest_refl, rest_trans, rest_used, rest_version, there_within}
+use Rattle.lfs_staging.proofs.ForgettingLemmas.{used_low}
 use Rattle.lfs_staging.proofs.FrameLemmas.{waiting_number}
 use Rattle.lfs_staging.proofs.HoleLemmas.{hole_under}
 use Rattle.lfs_staging.proofs.HolderLemmas.{block_gone, gone_free, holder_at, holder_code}
@@ -37,7 +37,7 @@ use Rattle.lfs_staging.proofs.KeyLemmas.{lies_in}
 use Rattle.lfs_staging.proofs.StagedLemmas.{stays_same, table_staged_still}
 use Rattle.lfs_staging.proofs.StagingLemmas.{version-same}
 use Rattle.lfs_staging.proofs.CutLemmas.{last_codes-cut}
-use Rattle.lfs_staging.proofs.TakenLemmas.{first_code, frames_after, frames_part, more_codes, takes_none, takes_part, takes_version}
+use Rattle.lfs_staging.proofs.TakenLemmas.{first_code, frames_after, frames_part, more_codes, takes_none, takes_part}
 use Rattle.lfs_staging.proofs.ViewLemmas.{record_of-waiting}
 use Rattle.lfs_staging.proofs.WaitingLemmas.{length-less, length-rest}
 
@@ -397,9 +397,13 @@ module _ (a : Parts) (number left blocks : ℕ) (may : MayDropAll a number left 
         takes = λ key locked. elim (q.takes key locked) [
           | inr was ↦ elim (p.takes key was) [
             | inr before ↦ inr before
-            | inl one ↦ inl (one.0, down_still c t is holds behind q.gone one.0 one.1 (λ own.
-                subst (λ k. IsLocked k c.cache)
-                (one.2 ∙ ap (λ n. key_of number n one.0) (sym version ∙ sym after) ∙ ap (key_of number (version_of c number)) (sym own)) locked), one.2)
+            | inl one ↦ inl (
+              one.0,
+              down_still c t is holds behind q.gone one.0 one.1 (λ own.
+                  subst (λ k. IsLocked k c.cache)
+                  (one.2 ∙ ap (λ n. key_of number n one.0) (sym version ∙ sym after) ∙ ap (key_of number (version_of c number)) (sym own)) locked),
+              one.2,
+            )
           ]
           | inl one ↦ elim (cases_eq (code_of t) (code_of (last_table left))) [
             | inl last ↦

@@ -1,13 +1,11 @@
 -- What holds the address of a block that waits.
-use Rattle.std.proofs.Common.{List, [], ap, inl, inr, refl, subst, sym, ℕ, ◌+◌, ◌-◌, ◌<◌, ◌∙◌, ◌∷◌, ◌≡◌, ◌≢◌, ◌≤◌}
-use Rattle.std.proofs.lemmas.Bool.{cases_lt}
+use Rattle.std.proofs.Common.{List, [], ap, subst, sym, ℕ, ◌∙◌, ◌∷◌, ◌≡◌, ◌≢◌}
 use Rattle.lfs_cache.specs.Contents.{Contents, IsLocked}
-use Rattle.lfs_bmap.specs.declared.blocks.FileBlock.TheVariants.{Single}
-use Rattle.lfs_bmap.specs.Ways.{code_at, data_way, way_of}
-use Rattle.lfs_bmap.proofs.WayLemmas.{data_way-direct, data_way-single, way_of-code_of, way_of-data, way_of-zero}
+use Rattle.lfs_bmap.specs.Ways.{code_at, way_of}
+use Rattle.lfs_bmap.proofs.WayLemmas.{way_of-code_of, way_of-zero}
 use Rattle.lfs_staging.specs.Store.{HolderWaits, IsBlockCode}
 use Rattle.lfs_staging.specs.View.{key_of, tree_of, version_of}
-use Rattle.lfs_staging.proofs.SettingLemmas.{at_way, holder_locked, holder_waits}
+use Rattle.lfs_staging.proofs.SettingLemmas.{holder_locked, holder_waits}
 use Rattle.lfs_staging.proofs.ViewLemmas.{code_at-way_to, way_to-some}
 use Rattle.lfs_bmap.specs.declared.blocks.FileBlock.{FileBlock}
 use Rattle.lfs_bmap.specs.Blocks.{IsFileBlock, code_of, table_of, way_to}

@@ -352,7 +352,10 @@ fn the_addresses_of_a_record_by_place(rt: HostRuntime) {
     for (place, wanted) in [(0, 1), (11, 65535), (12, 20), (13, 65534)] {
         expect_eq(&rt, root_address(&inode, place), wanted);
     }
-    let changed = inode.with_root(0, 600).with_root(12, 65535).with_root(13, 7);
+    let changed = inode
+        .with_root(0, 600)
+        .with_root(12, 65535)
+        .with_root(13, 7);
     let direct = [600, 2, 3, 4, 5, 6, 7, 8, 9, 10, 11, 65535];
     expect_addresses(&rt, &changed, &direct, 65535);
     expect_eq(&rt, double_address(&changed), 7);
@@ -401,7 +404,7 @@ fn expect_sized(rt: &impl Abort, inode: &Inode, size: u64, direct: &[u32; 12], s
 
 #[test]
 fn an_inode_is_cut_and_grows(rt: HostRuntime) {
-    expect_eq(&rt, double_address(&full().cut(71681)), 65534);
+    expect_eq(&rt, double_address(&full().cut(72_192)), 65534);
     expect_eq(&rt, double_address(&full().cut(71680)), 0);
     expect_sized(&rt, &full().cut(71680), 71680, &FULL, 20);
     expect_sized(&rt, &full().cut(6656), 6656, &FULL, 20);

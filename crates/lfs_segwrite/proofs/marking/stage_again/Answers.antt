@@ -1,4 +1,4 @@
-use Rattle.std.proofs.Common.{◌≢◌, sym, ap, ◌∙◌, subst, arith}
+use Rattle.std.proofs.Common.{◌≢◌, sym, subst, arith}
 use Rattle.lfs_bmap.specs.declared.blocks.FileBlock.TheVariants.{Record}
 use Rattle.lfs_bmap.specs.Blocks.{code_of, table_of, way_to}
 use Rattle.lfs_bmap.specs.Ways.{codes_on}

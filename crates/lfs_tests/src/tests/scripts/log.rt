@@ -197,12 +197,7 @@ fn push_whole(rt: &impl Abort, script: &mut String, expected: &mut String) {
     for part in 0..35 {
         let place = part * 4_096;
         push_number(rt, script, "write /f at ", place, " ");
-        push_byte(
-            rt,
-            script,
-            byte_at(place),
-            (WHOLE - place).min(4_096),
-        );
+        push_byte(rt, script, byte_at(place), (WHOLE - place).min(4_096));
         push(rt, script, "\n");
         push(rt, expected, OK);
     }

@@ -22,7 +22,6 @@ pub returns-in-Record : goal.returns-in-Record
 returns-in-Record t c =
     parents_own c.args.self.now c.stage_own_record.new.self c.args.inode.now.number c.args.block c.stage_own_record.ensures (sym c.table-table.ensures ∙ c.in-Record.is)
 
-
 -- what holds a block's address has a lesser code, where it isn't the record
 lesser : (block table : FileBlock) → IsFileBlock block → table ≡ table_of block → code_of table ≢ 0 → code_of table < code_of block
 lesser block table can is some =
@@ -34,10 +33,17 @@ stage_parents-requires t c =
     let p = c.args.self.now in let v = c.args.inode.now in
     let some = code-other c.table-table.result c.in-Single.is in
     let other : code_of (table_of c.args.block) ≢ 0 = subst (λ x. code_of x ≢ 0) c.table-table.ensures some in
-    let less = lesser c.args.block c.table-table.result c.requires.block c.table-table.ensures some in
-    (omega (arith, c.decreases), (c.requires.may, (subst IsFileBlock (sym c.table-table.ensures) (table_of-is c.args.block c.requires.block),
-    subst (λ x. HasFrames p v.number (codes_on (way_to (table_of x)))) (sym c.table-table.ensures)
-    (frames_above p v.number (table_of c.args.block) (table_of-is c.args.block c.requires.block) other c.requires.room))))
+    let less = lesser c.args.block c.table-table.result c.requires.block c.table-table.ensures some in (
+      omega (arith, c.decreases),
+      (
+        c.requires.may,
+        (
+          subst IsFileBlock (sym c.table-table.ensures) (table_of-is c.args.block c.requires.block),
+          subst (λ x. HasFrames p v.number (codes_on (way_to (table_of x)))) (sym c.table-table.ensures)
+              (frames_above p v.number (table_of c.args.block) (table_of-is c.args.block c.requires.block) other c.requires.room),
+        ),
+      ),
+    )
 
 pub stage_table-requires : goal.stage_table-requires
 stage_table-requires t c =
