@@ -28,6 +28,7 @@ ROUNDS = 12
 # Most runs need no more, so these are tried first.
 FEW_ROUNDS = 3
 BLOCK = 512
+# As many blocks as a file here has: those of its record and of the single indirect block.
 FILE_BLOCKS = 140
 DIRECT = 12
 # The most bytes of the lines of a round.

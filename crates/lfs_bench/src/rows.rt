@@ -31,6 +31,7 @@ impl Runs {
     /// What grows in its rows.
     fn growths(self) -> &'static [Growth] {
         match self {
+            Runs::Users(load, _) if load.is_large() => &Growth::OF_LARGE,
             Runs::Users(_, Store::Plain) => &Growth::OF_VOLUMES,
             Runs::Users(_, Store::Log | Store::LogCleaned) => &Growth::OF_LOGS,
             Runs::Frames | Runs::LookUps => &Growth::OF_CACHES,
@@ -42,6 +43,9 @@ impl Runs {
         requires { calls ≤ 65536 }
     {
         let components = match self {
+            Runs::Users(load, _) if load.is_large() => {
+                return Scale::large(calls, load.components(), factor);
+            }
             Runs::Users(load, _) => load.components(),
             Runs::Frames | Runs::LookUps => 0,
         };
@@ -115,11 +119,24 @@ fn print_workload<R: Clock + AllocGlobal + Print + Eprint>(
             }
             return Ok(());
         }
+        Some(Workload::LargeFile) => return print_large(rt, options),
         Some(Workload::Frames) => Runs::Frames,
         Some(Workload::LookUps) => Runs::LookUps,
         Some(Workload::Sessions) | None => return Ok(()),
     };
     print_subject(rt, options, Subject { name, runs })
+}
+
+/// Prints the rows of calls on a large file, over a log.
+fn print_large<R: Clock + AllocGlobal + Print + Eprint>(
+    rt: &R,
+    options: &Options<'_>,
+) -> Result<()> {
+    for (name, load) in UserLoad::LARGE {
+        let runs = Runs::Users(load, Store::Log);
+        print_subject(rt, options, Subject { name, runs })?;
+    }
+    Ok(())
 }
 
 /// Prints the rows of a subject.

@@ -150,32 +150,6 @@ codes_on-below (Data index) is = below_more (Data index) is (λ e. omega arith)
 pub codes_on-record : (c : ℕ) → Contains (codes_on (way_to Record)) c → ⊥
 codes_on-record c has = let few = (subst (λ cs. Contains cs c) codes_on-none has).1 in absurd (omega arith)
 
--- the single indirect block alone holds the address of a data block below 140, past the direct ones
-pub codes_on-table : (index : ℕ) → index < 140 → (c : ℕ) → Contains (codes_on (way_to (table_of (Data index)))) c → (12 ≤ index) × (c ≡ 1)
-codes_on-table index near c = data_table (λ t. Contains (codes_on (way_to t)) c → (12 ≤ index) × (c ≡ 1)) index
-    (λ low has. absurd (codes_on-record c has))
-    (λ past low has. elim (code_cases c 1 (codes_on (way_to Record)) (subst (λ cs. Contains cs c) (codes_on-block Single tt (λ e. omega arith)) has)) [
-      | inl one ↦ (past, sym one)
-      | inr more ↦ absurd (codes_on-record c more)
-    ])
-    (λ far has. absurd (omega arith))
-
--- But for the data blocks from 140 on, whose codes are those from 271 on, the record holds the address of what holds a
--- block's address.
-pub table_of-top : (block : FileBlock) → code_of block < 271 → table_of (table_of block) ≡ Record
-table_of-top Record near = refl
-table_of-top Single near = refl
-table_of-top Double near = refl
-table_of-top (Child index) near = refl
-table_of-top (Data index) near = data_table (λ t. table_of t ≡ Record) index (λ low. refl) (λ past low. refl) (λ far. absurd (omega arith))
-
--- below 140, the address of a data block stands in the record, or where that of each block behind it stands
-pub table_of-below : (index other : ℕ) → index ≤ other → other < 140 → (table_of (Data index) ≡ Record) ⊎ (table_of (Data index) ≡ table_of (Data other))
-table_of-below index other less near = elim (cases_lt index 12) [
-  | inl low ↦ inl (table_of-direct index low)
-  | inr past ↦ inr (table_of-single index past (omega arith) ∙ sym (table_of-single other (omega arith) near))
-]
-
 -- a data block's code is no holder's
 pub table_of-code : (block : FileBlock) → IsFileBlock block → code_of (table_of block) < 131
 table_of-code Record is = omega arith
@@ -188,21 +162,28 @@ table_of-code (Data index) is = data_table (λ t. code_of t < 131) index (λ low
 codes_on-length : (block : FileBlock) → IsFileBlock block → code_of block ≢ 0 → length (codes_on (way_to block)) ≡ length (codes_on (way_to (table_of block))) + 1
 codes_on-length block is other = ap (λ (cs : List ℕ). length cs) (codes_on-block block is other) ∙ omega arith
 
--- and this has one at most
-top_codes : (t : FileBlock) → IsFileBlock t → table_of t ≡ Record → length (codes_on (way_to t)) ≤ 1
-top_codes t is top = elim (cases_eq (code_of t) 0) [
-  | inl e ↦
-      let none = same_block t Record is tt e in
-      let few : length (codes_on (way_to t)) ≡ 0 = ap (λ b. length (codes_on (way_to b))) none ∙ ap (λ (cs : List ℕ). length cs) codes_on-none in
-      omega arith
-  | inr some ↦
-      let one = codes_on-length t is some in
-      let none : length (codes_on (way_to (table_of t))) ≡ 0 = ap (λ b. length (codes_on (way_to b))) top ∙ ap (λ (cs : List ℕ). length cs) codes_on-none in
-      omega arith
-]
+-- the way of the record has none, and each way one more than that of what holds the block's address
+pub codes_on-none_long : length (codes_on (way_to Record)) ≡ 0
+codes_on-none_long = ap (λ (cs : List ℕ). length cs) codes_on-none
 
-pub codes_on-few : (block : FileBlock) → IsFileBlock block → code_of block < 271 → length (codes_on (way_to (table_of block))) ≤ 1
-codes_on-few block is near = top_codes (table_of block) (table_of-is block is) (table_of-top block near)
+single_long : length (codes_on (way_to Single)) ≤ 1
+single_long = let one = codes_on-length Single tt (λ e. omega arith) in let none = codes_on-none_long in omega arith
+
+double_long : length (codes_on (way_to Double)) ≤ 1
+double_long = let one = codes_on-length Double tt (λ e. omega arith) in let none = codes_on-none_long in omega arith
+
+child_long : (index : ℕ) → index < 128 → length (codes_on (way_to (Child index))) ≤ 2
+child_long index low = let one = codes_on-length (Child index) low (λ e. omega arith) in let rest = double_long in omega arith
+
+pub codes_on-few : (block : FileBlock) → IsFileBlock block → length (codes_on (way_to (table_of block))) ≤ 2
+codes_on-few Record is = let none = codes_on-none_long in omega arith
+codes_on-few Single is = let none = codes_on-none_long in omega arith
+codes_on-few Double is = let none = codes_on-none_long in omega arith
+codes_on-few (Child index) is = let rest = double_long in omega arith
+codes_on-few (Data index) is = data_table (λ t. length (codes_on (way_to t)) ≤ 2) index
+    (λ low. let none = codes_on-none_long in omega arith)
+    (λ past low. let one = single_long in omega arith)
+    (λ far. child_long ((index - 140) / 128) (omega arith))
 
 -- the place of the record where a block's address stands leads to no later data block
 same_first : (i j : ℕ) (up above : List ℕ) → i ∷ up ≡ j ∷ above → i ≡ j
@@ -246,10 +227,10 @@ root_block place low = elim (cases_lt place 12) [
 ]
 
 -- ---- how many codes are on a way
-pub codes_on-most : (block : FileBlock) → IsFileBlock block → code_of block ≢ 0 → code_of block < 271 → length (codes_on (way_to block)) ≤ 2
-codes_on-most block is other near =
+pub codes_on-most : (block : FileBlock) → IsFileBlock block → code_of block ≢ 0 → length (codes_on (way_to block)) ≤ 3
+codes_on-most block is other =
     let more = codes_on-length block is other in
-    let few = codes_on-few block is near in
+    let few = codes_on-few block is in
     omega arith
 
 pub codes_on-one : (block : FileBlock) → IsFileBlock block → code_of block ≢ 0 → table_of block ≡ Record → length (codes_on (way_to block)) ≤ 1

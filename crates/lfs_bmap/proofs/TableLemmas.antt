@@ -117,42 +117,76 @@ codes_on-within (Child k) few is c has =
     (λ d more. let low = within_more Double tt (λ e. omega arith) (λ f none. absurd (codes_on-record f none)) d more in omega arith) c has
 codes_on-within (Data k) few is c has = absurd (omega arith)
 
--- Of the blocks that lead to the first 140 data blocks: what holds the address of a data block is on the way of each block
--- behind it that holds addresses.
-pub codes_on-behind : (index : ℕ) (t : FileBlock) → code_of t ≤ 1 → code_of (table_of (Data index)) ≤ code_of t
-    → (c : ℕ) → Contains (codes_on (way_to (table_of (Data index)))) c → Contains (codes_on (way_to t)) c
-codes_on-behind index t near behind c has =
-    data_table (λ b. code_of b ≤ code_of t → Contains (codes_on (way_to b)) c → Contains (codes_on (way_to t)) c) index
-    (λ low least there. absurd (codes_on-record c there)) (λ past low least there. behind_single t near least there) (λ far least there. absurd (omega arith))
+-- ---- by the code of what holds a data block's address
+one_code : (c d : ℕ) → Contains (d ∷ []) c → d ≡ c
+one_code c d (zero, low, e) = e
+one_code c d (suc k, low, e) = absurd (omega arith)
+
+codes_on-single : codes_on (way_to Single) ≡ 1 ∷ []
+unfolding codes_on code_at
+codes_on-single = refl
+
+codes_on-double : codes_on (way_to Double) ≡ 2 ∷ []
+unfolding codes_on code_at
+codes_on-double = refl
+
+codes_on-child : (k : ℕ) → codes_on (way_to (Child k)) ≡ (3 + k) ∷ 2 ∷ []
+unfolding codes_on code_at
+codes_on-child k = refl
+
+single_code : (c : ℕ) → Contains (codes_on (way_to Single)) c → c ≡ 1
+single_code c has = sym (one_code c 1 (subst (λ cs. Contains cs c) codes_on-single has))
+
+child_code : (k c : ℕ) → Contains (codes_on (way_to (Child k))) c → (c ≡ 3 + k) ⊎ (c ≡ 2)
+child_code k c has = elim (code_cases c (3 + k) (2 ∷ []) (subst (λ cs. Contains cs c) (codes_on-child k) has)) [
+  | inl same ↦ inl (sym same)
+  | inr more ↦ inr (sym (one_code c 2 more))
+]
+
+-- What leads to the holder of a data block's address is this one itself, or on the way of each block behind it that holds
+-- addresses.
+behind_child : (t : FileBlock) → 3 ≤ code_of t → code_of t < FIRST_DATA_CODE → (c : ℕ) → c ≡ 2 → Contains (codes_on (way_to t)) c
+behind_child Record from few c two = absurd (omega arith)
+behind_child Single from few c two = absurd (omega arith)
+behind_child Double from few c two = absurd (omega arith)
+behind_child (Child k) from few c two = subst (λ cs. Contains cs c) (sym (codes_on-child k)) (1, omega arith, sym two)
+behind_child (Data k) from few c two = absurd (omega arith)
+
+pub codes_on-behind : (index : ℕ) (t : FileBlock) → code_of t < FIRST_DATA_CODE → code_of (table_of (Data index)) ≤ code_of t
+    → (c : ℕ) → Contains (codes_on (way_to (table_of (Data index)))) c → (code_of (table_of (Data index)) ≡ c) ⊎ Contains (codes_on (way_to t)) c
+codes_on-behind index t few behind c has =
+    data_table (λ b. code_of b ≤ code_of t → Contains (codes_on (way_to b)) c → (code_of b ≡ c) ⊎ Contains (codes_on (way_to t)) c) index
+    (λ low least there. absurd (codes_on-record c there))
+    (λ past low least there. inl (sym (single_code c there)))
+    (λ far least there. elim (child_code ((index - 140) / 128) c there) [
+      | inl own ↦ inl (sym own)
+      | inr two ↦ inr (behind_child t (omega arith) few c two)
+    ])
     behind has
-  where
-    behind_single : (b : FileBlock) → code_of b ≤ 1 → 1 ≤ code_of b → Contains (codes_on (way_to Single)) c → Contains (codes_on (way_to b)) c
-    behind_single Record low from there = absurd (omega arith)
-    behind_single Single low from there = there
-    behind_single Double low from there = absurd (omega arith)
-    behind_single (Child k) low from there = absurd (omega arith)
-    behind_single (Data k) low from there = absurd (omega arith)
 
--- what holds addresses of indirect blocks is on the way of what holds those of the data blocks before
-pub codes_on-above : (t : FileBlock) → code_of t ≤ 1 → (c : ℕ) → Contains (codes_on (way_to (table_of t))) c → (codes : List ℕ) → Contains codes c
-codes_on-above Record near c has codes = absurd (codes_on-record c has)
-codes_on-above Single near c has codes = absurd (codes_on-record c has)
-codes_on-above Double near c has codes = absurd (omega arith)
-codes_on-above (Child k) near c has codes = absurd (omega arith)
-codes_on-above (Data k) near c has codes = absurd (omega arith)
+-- what leads to a block that holds addresses is the double indirect block, where the block is behind this one
+pub codes_on-above : (t : FileBlock) → code_of t < FIRST_DATA_CODE → (c : ℕ) → Contains (codes_on (way_to (table_of t))) c → (c ≡ 2) × (2 < code_of t)
+codes_on-above Record few c has = absurd (codes_on-record c has)
+codes_on-above Single few c has = absurd (codes_on-record c has)
+codes_on-above Double few c has = absurd (codes_on-record c has)
+codes_on-above (Child k) few c has = (sym (one_code c 2 (subst (λ cs. Contains cs c) codes_on-double has)), omega arith)
+codes_on-above (Data k) few c has = absurd (omega arith)
 
--- of a block that holds addresses one code is on its way, and none is on the record's
-pub codes_on-table_few : (t : FileBlock) → code_of t ≤ 1 → length (codes_on (way_to t)) ≤ 1
-codes_on-table_few Record near = let long = codes_on-long [] in omega arith
-codes_on-table_few Single near = let long = codes_on-long (12 ∷ []) in omega arith
-codes_on-table_few Double near = absurd (omega arith)
-codes_on-table_few (Child k) near = absurd (omega arith)
-codes_on-table_few (Data k) near = absurd (omega arith)
+-- the double indirect block is on the way of itself and of what is behind it and holds addresses
+pub codes_on-two : (t : FileBlock) → 2 ≤ code_of t → code_of t < FIRST_DATA_CODE → Contains (codes_on (way_to t)) 2
+codes_on-two Record from few = absurd (omega arith)
+codes_on-two Single from few = absurd (omega arith)
+codes_on-two Double from few = subst (λ cs. Contains cs 2) (sym codes_on-double) (0, omega arith, refl)
+codes_on-two (Child k) from few = behind_child (Child k) (omega arith) few 2 refl
+codes_on-two (Data k) from few = absurd (omega arith)
 
--- what holds the address of one of these data blocks is the record or the single indirect block
-pub table_of-near : (index : ℕ) → index < 140 → code_of (table_of (Data index)) ≤ 1
-table_of-near index near =
-    data_table (λ t. code_of t ≤ 1) index (λ low. omega arith) (λ past low. omega arith) (λ far. absurd (omega arith))
+-- two codes at most are on the way of a block that holds addresses
+pub codes_on-table_few : (t : FileBlock) → code_of t < FIRST_DATA_CODE → length (codes_on (way_to t)) ≤ 2
+codes_on-table_few Record few = let long = codes_on-long [] in omega arith
+codes_on-table_few Single few = let long = codes_on-long (12 ∷ []) in omega arith
+codes_on-table_few Double few = let long = codes_on-long (13 ∷ []) in omega arith
+codes_on-table_few (Child k) few = let long = codes_on-long (k ∷ 13 ∷ []) in omega arith
+codes_on-table_few (Data k) few = absurd (omega arith)
 
 -- ---- by the code
 rank_of-data : (k : ℕ) → rank_of (131 + k) ≡ 0
@@ -195,39 +229,18 @@ rank_of-table (Data k) is other =
     (λ far some. let second = rank_of-child ((k - 140) / 128) (omega arith) in omega arith) other
 
 -- ---- how far a block is from the record
-pub way_length : (way : List ℕ) → IsKnown way → length way ≤ 2
-unfolding code_at
+pub way_length : (way : List ℕ) → IsKnown way → length way ≤ 3
 way_length [] known = omega arith
 way_length (i ∷ []) known = omega arith
 way_length (i ∷ j ∷ []) known = omega arith
-way_length (i ∷ j ∷ k ∷ up) known = let low = known.coded in absurd (omega arith)
+way_length (i ∷ j ∷ k ∷ []) known = omega arith
+way_length (i ∷ j ∷ k ∷ l ∷ up) known = absurd known.leads
 
-pub block_way_length : (block : FileBlock) → IsFileBlock block → length (way_to block) ≤ 2
+pub block_way_length : (block : FileBlock) → IsFileBlock block → length (way_to block) ≤ 3
 block_way_length block is =
     way_length (way_to block) (subst IsKnown (way_of-code_of block is) (way_of-known (code_of block) (code_of-below block is)))
 
 -- ---- from one data block to another
-codes_on-single : codes_on (way_to Single) ≡ 1 ∷ []
-unfolding codes_on code_at
-codes_on-single = refl
-
-codes_on-child : (k : ℕ) → codes_on (way_to (Child k)) ≡ (3 + k) ∷ 2 ∷ []
-unfolding codes_on code_at
-codes_on-child k = refl
-
-one_code : (c d : ℕ) → Contains (d ∷ []) c → d ≡ c
-one_code c d (zero, low, e) = e
-one_code c d (suc k, low, e) = absurd (omega arith)
-
-single_code : (c : ℕ) → Contains (codes_on (way_to Single)) c → c ≡ 1
-single_code c has = sym (one_code c 1 (subst (λ cs. Contains cs c) codes_on-single has))
-
-child_code : (k c : ℕ) → Contains (codes_on (way_to (Child k))) c → (c ≡ 3 + k) ⊎ (c ≡ 2)
-child_code k c has = elim (code_cases c (3 + k) (2 ∷ []) (subst (λ cs. Contains cs c) (codes_on-child k) has)) [
-  | inl same ↦ inl (sym same)
-  | inr more ↦ inr (sym (one_code c 2 more))
-]
-
 -- what leads to a later data block leads to the first one too, where its code is no greater than that of the first one's holder
 pub codes_on-first : (index other : ℕ) → index ≤ other → (c : ℕ) → Contains (codes_on (way_to (table_of (Data other)))) c → c ≤ code_of (table_of (Data index))
     → Contains (codes_on (way_to (table_of (Data index)))) c
@@ -252,11 +265,13 @@ codes_on-first index other less c has few =
     not_low : (d k : ℕ) → Contains (codes_on (way_to (Child k))) d → d ≤ 1 → ⊥
     not_low d k there low = elim (child_code k d there) [ inl own ↦ omega arith | inr two ↦ omega arith ]
 
-pub tables_between-few : (first last : ℕ) → first < 140 → last < 140 → tables_between first last ≤ 1
-tables_between-few first last from to =
-    let end = table_of-near last to in
-    data_table (λ t. code_of (table_of (Data last)) - code_of t + length (way_to t) ≤ 1) first
-    (λ low. omega arith) (λ past low. omega arith) (λ far. absurd (omega arith))
+-- as many data blocks as stand under one indirect block have three at most
+pub tables_between-few : (first last : ℕ) → first ≤ last → last ≤ first + 128 → tables_between first last ≤ 3
+tables_between-few first last less near =
+    data_table (λ t. code_of (table_of (Data last)) - code_of t + length (way_to t) ≤ 3) first
+    (λ low. data_table (λ x. code_of x - 0 + 0 ≤ 3) last (λ direct. omega arith) (λ from to. omega arith) (λ far. omega arith))
+    (λ past low. data_table (λ x. code_of x - 1 + 1 ≤ 3) last (λ direct. omega arith) (λ from to. omega arith) (λ far. omega arith))
+    (λ far. data_table (λ x. code_of x - (3 + (first - 140) / 128) + 2 ≤ 3) last (λ direct. omega arith) (λ from to. omega arith) (λ more. omega arith))
 
 -- ---- the data blocks whose addresses stand in a block
 pub run_record : (k : ℕ) → (table_of (Data k) ≡ Record) ↔ ((0 ≤ k) × (k < 12))

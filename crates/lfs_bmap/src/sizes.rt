@@ -7,5 +7,5 @@ ghost use Rattle.lfs_bmap.specs.declared.blocks.TheConstants.{BLOCK_CODES, DIREC
 pub fn sizes()
     ensures direct { DIRECT_BLOCKS ≡ 12 }
     ensures first_data { FIRST_DATA_CODE ≡ 131 }
-    ensures codes { BLOCK_CODES ≡ 271 }
+    ensures codes { BLOCK_CODES ≡ 16655 }
 {}

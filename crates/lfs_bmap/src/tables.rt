@@ -15,7 +15,7 @@ use std::ops::Range;
 const FIRST_FAR_BLOCK: u32 = SINGLE_END as u32;
 
 /// The greatest number of blocks that lead from the record to a block, itself among them.
-pub const MOST_DEPTH: usize = 2;
+pub const MOST_DEPTH: usize = 3;
 
 /// In how many passes blocks are written, each before what holds its address.
 pub const RANKS: u32 = 3;

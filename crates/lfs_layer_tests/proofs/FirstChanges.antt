@@ -37,7 +37,7 @@ abbrev pub with_first : Content → Attrs → List ℕ → Content
 with_first c a bytes = map.insert (map.insert c 4 (file_of a [])) 4 (first_file a bytes)
 
 -- file 4 made, bytes put into it, and then the rest
-pub made_and_put : (n : ℕ) (c : Content) (a : Attrs) (p : Bor (List ℕ)) → n ≡ 16 → c ≡ opening_content → a.kind ≡ Regular → length (splice [] 0 p.now) ≤ 71680
+pub made_and_put : (n : ℕ) (c : Content) (a : Attrs) (p : Bor (List ℕ)) → n ≡ 16 → c ≡ opening_content → a.kind ≡ Regular → length (splice [] 0 p.now) ≤ 8460288
     → (rest : List Change) → CanChangeAll n rest (with_first c a p.now) → CanChangeAll n (Make 4 a ∷ Put 4 0 p ∷ rest) c
 made_and_put n c a p is_n is_c is_a fits rest h = (
   (omega arith, omega arith, ap (λ m. map.get m 4) is_c ∙ free_at_opening 4 (omega arith)),

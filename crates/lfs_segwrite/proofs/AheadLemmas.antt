@@ -304,7 +304,7 @@ more_or changes p has short = elim has [
   | inr taking ↦ elim taking.1 [ inl more ↦ inr more | inr both ↦ absurd (omega (arith, both.1)) ]
 ]
 
-pub makes_changes : (changes : List Change) (old a b : Parts) → HasRoom old → HasRoomFor changes old → waiting_blocks old ≤ 41 → needs_of changes ≤ 17
+pub makes_changes : (changes : List Change) (old a b : Parts) → HasRoom old → HasRoomFor changes old → waiting_blocks old ≤ 41 → needs_of changes ≤ 22
     → MakesWay changes old a → StagesAll changes a b → MakesChanges changes old b
 makes_changes changes old a b had has few most way stages =
     let free_or = room_or changes old has in

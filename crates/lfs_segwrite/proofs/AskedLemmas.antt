@@ -11,6 +11,7 @@ use Rattle.lfs_types.specs.Tree.{Content, File}
 use Rattle.lfs_types.specs.declared.attrs.Kind.{Kind}
 use Rattle.lfs_types.specs.declared.attrs.Kind.TheVariants.{File as Regular, Directory}
 use Rattle.lfs_types.proofs.Maps.{get-insert_other, get-insert_same}
+use Rattle.lfs_types.specs.declared.limits.TheConstants.{FILE_BYTES}
 use Rattle.lfs_ifile.specs.declared.inode.InodeRow.{InodeRow}
 use Rattle.lfs_ifile.specs.Inode.{fresh_row}
 use Rattle.lfs_ifile.specs.Tables.{row_of}
@@ -131,15 +132,15 @@ pub kind_same : (p : Parts) (n : ℕ) (k : Kind) → IsSomeAnd (map.get (content
 kind_same p n k can f is = sym (some_at _ (λ f. f.kind ≡ k) _ (content_file p n f is) can)
 
 -- ---- how far changes reach
-limit_of : (k : Kind) (n : ℕ) → IsLength k n → n ≤ 71680
+limit_of : (k : Kind) (n : ℕ) → IsLength k n → n ≤ FILE_BYTES
 limit_of Regular n h = h
 limit_of Directory n h = h.0
 
-pub length_limit : (o : Option File) (len : ℕ) → IsSomeAnd o (λ f. IsLength f.kind len) → len ≤ 71680
+pub length_limit : (o : Option File) (len : ℕ) → IsSomeAnd o (λ f. IsLength f.kind len) → len ≤ FILE_BYTES
 length_limit None len h = absurd h
 length_limit (Some f) len h = limit_of f.kind len h
 
 pub put_limit : (o : Option File) (start : ℕ) (bytes : List ℕ) → IsSomeAnd o (λ f. IsLength f.kind (length (splice f.bytes start bytes))) → 0 < length bytes
-    → start + length bytes ≤ 71680
+    → start + length bytes ≤ FILE_BYTES
 put_limit None start bytes h some = absurd h
 put_limit (Some f) start bytes h some = let long = splice_length f.bytes start bytes some in let most = limit_of f.kind _ h in omega arith

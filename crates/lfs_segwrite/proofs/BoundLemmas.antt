@@ -5,6 +5,7 @@ use Rattle.std.proofs.lemmas.Bool.{cases_eq, cond-true, cond-false, eq-eqb, ne_e
 use Rattle.std.proofs.lemmas.List.Sums.{sum_by-cons}
 use Rattle.lfs_types.specs.Changes.{CanApply, CanChange, CanChangeAll, changed, lengths_of, put_bytes, puts_of}
 use Rattle.lfs_types.specs.Tree.{Content}
+use Rattle.lfs_types.specs.declared.limits.TheConstants.{FILE_BLOCKS, FILE_BYTES}
 use Rattle.lfs_types.specs.declared.store.Change.{Change}
 use Rattle.lfs_types.specs.declared.store.Change.TheVariants.{Make, Remove, SetAttrs, Put, SetLength}
 use Rattle.lfs_segwrite.specs.Applying.{IsInReach, blocks_for, frames_of_all, needs_of, peak_of, peak_of_all, records_of_all}
@@ -47,20 +48,20 @@ all_in_reach numbers (change ∷ changes) c few can (suc k) d low =
     let parts = one_put change changes in all_in_reach numbers changes (changed change c) (omega arith) can.1 k d (omega arith)
 
 -- ---- frames
-put_most : (start count : ℕ) → 0 < count → start + count ≤ 71680 → 512 * frames_of_put start count ≤ count + 1534
-put_most start count some low = let one = tables_between-few (start / 512) ((start + count - 1) / 512) (omega arith) (omega arith) in omega arith
+put_most : (start count : ℕ) → 0 < count → count ≤ 4096 → 512 * frames_of_put start count ≤ count + 2558
+put_most start count some few = let tables = tables_between-few (start / 512) ((start + count - 1) / 512) (omega arith) (omega arith) in omega arith
 
-length_most : (len : ℕ) → len ≤ 71680 → frames_of_length len ≤ 2
+length_most : (len : ℕ) → len ≤ FILE_BYTES → frames_of_length len ≤ 3
 length_most len low =
-    let near : block_count len - 1 < 140 = omega arith in
-    let few = codes_on-few (Data (block_count len - 1)) near (omega arith) in
+    let near : block_count len - 1 < FILE_BLOCKS = omega arith in
+    let few = codes_on-few (Data (block_count len - 1)) near in
     let long = codes_on-long (way_to (length_table len)) in
     elim (cases_eq (len % 512) 0) [
       | inl e ↦ let is = cond-true {A = ℕ} _ 0 1 (eq-eqb (len % 512) 0 e) in omega arith
       | inr ne ↦ let is = cond-false {A = ℕ} _ 0 1 (ne_eqb (len % 512) 0 ne) in omega arith
     ]
 
-frames_sum : (changes : List Change) → All IsInReach changes → 512 * frames_of_all changes ≤ put_bytes changes + 1534 * puts_of changes + 1024 * lengths_of changes
+frames_sum : (changes : List Change) → All IsInReach changes → 512 * frames_of_all changes ≤ put_bytes changes + 2558 * puts_of changes + 1536 * lengths_of changes
 frames_sum [] reach = omega arith
 frames_sum (Make ino attrs ∷ changes) reach = frames_sum changes (rest_reach (Make ino attrs) changes reach)
 frames_sum (Remove ino ∷ changes) reach = frames_sum changes (rest_reach (Remove ino) changes reach)
@@ -74,7 +75,7 @@ frames_sum (Put ino off bytes ∷ changes) reach =
       | inl e ↦ let is = cond-true {A = ℕ} _ 0 (frames_of_put off n) (eq-eqb n 0 e) in omega arith
       | inr ne ↦
           let is = cond-false {A = ℕ} _ 0 (frames_of_put off n) (ne_eqb n 0 ne) in
-          let most = put_most off n (omega arith) (own.1 (omega arith)) in
+          let most = put_most off n (omega arith) own.0 in
           omega arith
     ]
 frames_sum (SetLength ino len ∷ changes) reach =
@@ -83,7 +84,7 @@ frames_sum (SetLength ino len ∷ changes) reach =
     let most = length_most len (first_reach (SetLength ino len) changes reach) in
     omega arith
 
-pub frames_most : (numbers : ℕ) (changes : List Change) (c : Content) → CanApply numbers changes c → frames_of_all changes ≤ 15
+pub frames_most : (numbers : ℕ) (changes : List Change) (c : Content) → CanApply numbers changes c → frames_of_all changes ≤ 20
 frames_most numbers changes c can =
     let sum = frames_sum changes (all_in_reach numbers changes c can.few_bytes can.each) in
     omega (arith, can.few_bytes, can.few_puts, can.few_lengths)
@@ -96,45 +97,24 @@ peak_least (SetAttrs ino attrs) reach = omega arith
 peak_least (Put ino off bytes) reach = omega arith
 peak_least (SetLength ino len) reach = let most = length_most len reach in omega arith
 
-puts_few : (changes : List Change) → puts_of changes ≤ length changes
-puts_few [] = omega arith
-puts_few (Make ino attrs ∷ changes) = let rest = puts_few changes in omega arith
-puts_few (Remove ino ∷ changes) = let rest = puts_few changes in omega arith
-puts_few (SetAttrs ino attrs ∷ changes) = let rest = puts_few changes in omega arith
-puts_few (Put ino off bytes ∷ changes) = let rest = puts_few changes in omega arith
-puts_few (SetLength ino len ∷ changes) = let rest = puts_few changes in omega arith
+-- a cut takes no more than it leaves waiting and four
+peak_more : (change : Change) → peak_of change ≤ frames_of change + 4
+peak_more (Make ino attrs) = omega arith
+peak_more (Remove ino) = omega arith
+peak_more (SetAttrs ino attrs) = omega arith
+peak_more (Put ino off bytes) = omega arith
+peak_more (SetLength ino len) = omega arith
 
-peak_sum : (changes : List Change) → All IsInReach changes → 512 * peak_of_all changes ≤ put_bytes changes + 1534 * puts_of changes + 1024 * (length changes - puts_of changes)
-peak_sum [] reach = omega arith
-peak_sum (Make ino attrs ∷ changes) reach =
-    let rest = peak_sum changes (rest_reach (Make ino attrs) changes reach) in
-    let sum = sum_by-cons peak_of (Make ino attrs) changes in let few = puts_few changes in omega arith
-peak_sum (Remove ino ∷ changes) reach =
-    let rest = peak_sum changes (rest_reach (Remove ino) changes reach) in
-    let sum = sum_by-cons peak_of (Remove ino) changes in let few = puts_few changes in omega arith
-peak_sum (SetAttrs ino attrs ∷ changes) reach =
-    let rest = peak_sum changes (rest_reach (SetAttrs ino attrs) changes reach) in
-    let sum = sum_by-cons peak_of (SetAttrs ino attrs) changes in let few = puts_few changes in omega arith
-peak_sum (Put ino off bytes ∷ changes) reach =
-    let rest = peak_sum changes (rest_reach (Put ino off bytes) changes reach) in
-    let sum = sum_by-cons peak_of (Put ino off bytes) changes in
-    let own = first_reach (Put ino off bytes) changes reach in
-    let n = length bytes.now in
-    elim (cases_eq n 0) [
-      | inl e ↦ let is = cond-true {A = ℕ} _ 0 (frames_of_put off n) (eq-eqb n 0 e) in omega arith
-      | inr ne ↦
-          let is = cond-false {A = ℕ} _ 0 (frames_of_put off n) (ne_eqb n 0 ne) in
-          let most = put_most off n (omega arith) (own.1 (omega arith)) in
-          omega arith
-    ]
-peak_sum (SetLength ino len ∷ changes) reach =
-    let rest = peak_sum changes (rest_reach (SetLength ino len) changes reach) in
-    let sum = sum_by-cons peak_of (SetLength ino len) changes in let few = puts_few changes in omega arith
+peak_sum : (changes : List Change) → peak_of_all changes ≤ frames_of_all changes + 4
+peak_sum [] = omega arith
+peak_sum (change ∷ changes) =
+    let one = peak_more change in
+    let rest = peak_sum changes in
+    let sum = sum_by-cons frames_of change changes in
+    omega arith
 
-pub peak_most : (numbers : ℕ) (changes : List Change) (c : Content) → CanApply numbers changes c → peak_of_all changes ≤ 21
-peak_most numbers changes c can =
-    let sum = peak_sum changes (all_in_reach numbers changes c can.few_bytes can.each) in
-    omega (arith, can.few_bytes, can.few_puts, can.few)
+pub peak_most : (numbers : ℕ) (changes : List Change) (c : Content) → CanApply numbers changes c → peak_of_all changes ≤ 24
+peak_most numbers changes c can = let sum = peak_sum changes in let frames = frames_most numbers changes c can in omega arith
 
 -- ---- records
 pub record_most : (change : Change) → records_of change ≤ 1
@@ -168,16 +148,16 @@ blocks_more f g r s more_frames more_records =
           omega arith
     ]
 
-pub needs_few : (changes : List Change) → frames_of_all changes ≤ 15 → records_of_all changes ≤ 4 → needs_of changes ≤ 17
+pub needs_few : (changes : List Change) → frames_of_all changes ≤ 20 → records_of_all changes ≤ 4 → needs_of changes ≤ 22
 needs_few changes frames records =
-    let most = blocks_more (frames_of_all changes) 15 (records_of_all changes) 4 frames records in
-    let is : blocks_for 15 4 ≡ 17 = refl in
+    let most = blocks_more (frames_of_all changes) 20 (records_of_all changes) 4 frames records in
+    let is : blocks_for 20 4 ≡ 22 = refl in
     omega arith
 
-pub needs_most : (changes : List Change) → frames_of_all changes ≤ 15 → records_of_all changes ≤ 4 → needs_of changes < 64
+pub needs_most : (changes : List Change) → frames_of_all changes ≤ 20 → records_of_all changes ≤ 4 → needs_of changes < 64
 needs_most changes frames records =
-    let most = blocks_more (frames_of_all changes) 15 (records_of_all changes) 4 frames records in
-    let is : blocks_for 15 4 ≡ 17 = refl in
+    let most = blocks_more (frames_of_all changes) 20 (records_of_all changes) 4 frames records in
+    let is : blocks_for 20 4 ≡ 22 = refl in
     omega arith
 
 -- frames and records written together take no more than each by itself

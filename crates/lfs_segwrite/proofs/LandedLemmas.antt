@@ -2,6 +2,7 @@
 use Rattle.std.proofs.Common.{◌≡◌, ◌≢◌, ℕ, ◌+◌, ◌-◌, ◌*◌, ◌/◌, ◌<◌, ◌≤◌, ◌⊎◌, List, [], ◌∷◌, length, None, Some, IsSome, false, refl, sym, ap, ◌∙◌, subst, inl, inr, arith}
 use Rattle.std.specs.Prelude.{slice_set}
 use Rattle.std.proofs.lemmas.Bool.{cases_eq, cases_lt, cond-true, cond-false, eq-eqb, ne_eqb, lt-ltb, le-ltb}
+use Rattle.lfs_types.specs.declared.limits.TheConstants.{FILE_BLOCKS}
 use Rattle.lfs_ifile.specs.declared.inode.InodeRow.{InodeRow}
 use Rattle.lfs_ifile.specs.Tables.{Tables, row_at, row_of}
 use Rattle.lfs_inodes.specs.declared.inode.Inode.{Inode}
@@ -187,12 +188,12 @@ module _ (p r s q : Parts) (v : Inode) (block : FileBlock) (a i : ℕ) (up : Lis
   pub data_same : (up ≢ [] → IsSome ((tree_of p v.number).waits up)) → (m k : ℕ) → m < length p.log.tables.rows → data_block (tree_of q m) k ≡ data_block (tree_of p m) k
   unfolding data_block
   data_same waited m k inside =
-      elim (cases_lt k 140) [
-        | inl below ↦ cond-true _ _ _ (lt-ltb k 140 below) ∙ reads below ∙ sym (cond-true _ _ _ (lt-ltb k 140 below))
-        | inr past ↦ cond-false _ _ _ (le-ltb k 140 past) ∙ sym (cond-false _ _ _ (le-ltb k 140 past))
+      elim (cases_lt k FILE_BLOCKS) [
+        | inl below ↦ cond-true _ _ _ (lt-ltb k FILE_BLOCKS below) ∙ reads below ∙ sym (cond-true _ _ _ (lt-ltb k FILE_BLOCKS below))
+        | inr past ↦ cond-false _ _ _ (le-ltb k FILE_BLOCKS past) ∙ sym (cond-false _ _ _ (le-ltb k FILE_BLOCKS past))
       ]
     where
-      reads : k < 140 → read (tree_of q m) (data_way k) ≡ read (tree_of p m) (data_way k)
+      reads : k < FILE_BLOCKS → read (tree_of q m) (data_way k) ≡ read (tree_of p m) (data_way k)
       reads below =
           elim (cases_eq m v.number) [
             | inl e ↦ ap (λ n. read (tree_of q n) (data_way k)) e ∙ ap (read (tree_of q v.number)) (sym (way_of-data k))

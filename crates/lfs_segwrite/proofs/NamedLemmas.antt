@@ -1,14 +1,16 @@
 -- The block that an info names, and that it is there.
-use Rattle.std.proofs.Common.{◌≡◌, ◌≢◌, ◌⊎◌, ℕ, ◌+◌, ◌-◌, ◌/◌, ◌<◌, ◌≤◌, List, length, min, refl, sym, ap, ◌∙◌, subst, inl, inr, arith}
+use Rattle.std.proofs.Common.{◌≡◌, ◌≢◌, ◌⊎◌, ℕ, ◌-◌, ◌/◌, ◌<◌, ◌≤◌, List, length, min, refl, sym, ap, ◌∙◌, subst, inl, inr, arith}
 use Rattle.std.specs.Prelude.{◌&&◌, if◌then◌else◌, nat_le, nat_lt}
-use Rattle.std.proofs.lemmas.Bool.{cases_eq, cases_lt, cond-true, cond-false, eq-eqb, ne_eqb, lt-leb, lt-ltb, le-leb, le-ltb}
+use Rattle.std.proofs.lemmas.Bool.{cases_eq, cases_lt, cond-true, cond-false, ne_eqb, lt-leb, lt-ltb, le-leb, le-ltb}
 use Rattle.lfs_types.specs.declared.cleaner.BlockInfo.{BlockInfo}
+use Rattle.lfs_types.specs.declared.limits.TheConstants.{FILE_BLOCKS}
 use Rattle.lfs_segments.specs.declared.entry.LogicalBlock.{LogicalBlock}
 use Rattle.lfs_segments.specs.declared.entry.LogicalBlock.TheVariants.{Data, Single, Double, Child, Inodes}
 use Rattle.lfs_segments.specs.Entry.{IsLogicalBlock, block_number}
 use Rattle.lfs_segments.specs.Reading.{block_from}
-use Rattle.lfs_segments.proofs.TestLemmas.{block_from-block_number, block_number-block_from}
+use Rattle.lfs_segments.proofs.TestLemmas.{block_from-block_number}
 use Rattle.lfs_bmap.specs.declared.blocks.FileBlock.{FileBlock}
+use Rattle.lfs_bmap.specs.declared.blocks.TheConstants.{BLOCK_CODES}
 use Rattle.lfs_bmap.specs.Blocks.{IsFileBlock, code_of, file_block_of, logical_of, way_to}
 use Rattle.lfs_bmap.specs.Ways.{way_of}
 use Rattle.lfs_bmap.proofs.TableLemmas.{way_length}
@@ -20,7 +22,7 @@ use Rattle.lfs_bmap.proofs.MoveLemmas.{present_address-key, present_address-othe
 use Rattle.lfs_segwrite.specs.Marking.{IsNamed, code_named, frames_of_code}
 
 -- ---- codes
-code_named-is : (lbn : ℕ) → code_named lbn ≡ min (code_of (file_block_of (block_from lbn))) 271
+code_named-is : (lbn : ℕ) → code_named lbn ≡ min (code_of (file_block_of (block_from lbn))) BLOCK_CODES
 unfolding code_named
 code_named-is lbn = refl
 
@@ -36,7 +38,7 @@ record IsOther (n : ℕ) : Type 0 where
   pub single : n ≢ 0x8000_0000
   pub double : n ≢ 0x8000_0001
   pub inodes : n ≢ 0xffff_ffff
-  pub data_ : 140 ≤ n
+  pub data_ : FILE_BLOCKS ≤ n
   pub child : (n < 0x8000_0100) ⊎ (0x8000_0180 ≤ n)
 
 other_data : (n : ℕ) → (n < 0x8000_0100) ⊎ (0x8000_0180 ≤ n) → (if nat_le 0x8000_0100 n && nat_lt n 0x8000_0180 then Child (n - 0x8000_0100) else Data n) ≡ Data n
@@ -48,7 +50,7 @@ block_from-other n h =
     cond-false _ _ _ (ne_eqb n 0x8000_0000 h.single) ∙ cond-false _ _ _ (ne_eqb n 0x8000_0001 h.double)
     ∙ cond-false _ _ _ (ne_eqb n 0xffff_ffff h.inodes) ∙ other_data n h.child
 
-code_named-other : (n : ℕ) → IsOther n → code_named n ≡ 271
+code_named-other : (n : ℕ) → IsOther n → code_named n ≡ BLOCK_CODES
 code_named-other n h =
     let named = code_named-is n in
     let is = ap (λ b. code_of (file_block_of b)) (block_from-other n h) in
@@ -74,7 +76,7 @@ kinds lbn = elim (cases_eq lbn 0x8000_0000) [
     | inl double ↦ inl (Double, tt, sym double)
     | inr not_double ↦ elim (cases_eq lbn 0xffff_ffff) [
       | inl inodes ↦ inl (Inodes, tt, sym inodes)
-      | inr not_inodes ↦ elim (cases_lt lbn 140) [
+      | inr not_inodes ↦ elim (cases_lt lbn FILE_BLOCKS) [
         | inl low ↦ inl (Data lbn, low, refl)
         | inr past ↦ elim (cases_lt lbn 0x8000_0100) [
           | inl low ↦ inr (record { single = not_single; double = not_double; inodes = not_inodes; data_ = past; child = inl low })
@@ -95,7 +97,7 @@ named_cases lbn = elim (kinds lbn) [
   | inr other ↦ inr (other_none lbn other)
 ]
 
-pub code_named-none : (lbn : ℕ) → ((block : LogicalBlock) → IsLogicalBlock block → block_number block ≡ lbn → ⊥) → code_named lbn ≡ 271
+pub code_named-none : (lbn : ℕ) → ((block : LogicalBlock) → IsLogicalBlock block → block_number block ≡ lbn → ⊥) → code_named lbn ≡ BLOCK_CODES
 code_named-none lbn none = elim (kinds lbn) [
   | inl named ↦ absurd (none named.0 named.1 named.2)
   | inr other ↦ code_named-other lbn other
@@ -105,17 +107,17 @@ code_named-none lbn none = elim (kinds lbn) [
 pub frames-block : (block : FileBlock) → IsFileBlock block → frames_of_code (code_of block) ≡ length (way_to block)
 unfolding frames_of_code
 frames-block block is =
-    cond-true _ _ _ (lt-ltb (code_of block) 271 (code_of-below block is)) ∙ ap (λ (way : List ℕ). length way) (way_of-code_of block is)
+    cond-true _ _ _ (lt-ltb (code_of block) BLOCK_CODES (code_of-below block is)) ∙ ap (λ (way : List ℕ). length way) (way_of-code_of block is)
 
-pub frames-none : frames_of_code 271 ≡ 0
+pub frames-none : frames_of_code BLOCK_CODES ≡ 0
 unfolding frames_of_code
 frames-none = refl
 
-pub frames-most : (code : ℕ) → frames_of_code code ≤ 2
+pub frames-most : (code : ℕ) → frames_of_code code ≤ 3
 unfolding frames_of_code
-frames-most code = elim (cases_lt code 271) [
-  | inl low ↦ subst (λ n. n ≤ 2) (sym (cond-true _ _ _ (lt-ltb code 271 low))) (way_length (way_of code) (way_of-known code low))
-  | inr past ↦ subst (λ n. n ≤ 2) (sym (cond-false _ _ _ (le-ltb code 271 past))) (omega arith)
+frames-most code = elim (cases_lt code BLOCK_CODES) [
+  | inl low ↦ subst (λ n. n ≤ 3) (sym (cond-true _ _ _ (lt-ltb code BLOCK_CODES low))) (way_length (way_of code) (way_of-known code low))
+  | inr past ↦ subst (λ n. n ≤ 3) (sym (cond-false _ _ _ (le-ltb code BLOCK_CODES past))) (omega arith)
 ]
 
 -- ---- what an info names
@@ -140,7 +142,7 @@ named_there l info h =
       | inr past ↦ absurd (not_none (present_address-other l info.ino info.version code (inl past)))
       | inl low ↦ elim (cases_eq (l.version info.ino) info.version) [
         | inr other ↦ absurd (not_none (present_address-other l info.ino info.version code (inr (inl other))))
-        | inl same ↦ elim (cases_lt code 271) [
+        | inl same ↦ elim (cases_lt code BLOCK_CODES) [
           | inr past ↦ absurd (not_none (present_address-other l info.ino info.version code (inr (inr past))))
           | inl below ↦
               let at : l.at info.ino code / 4 ≡ info.addr
@@ -165,14 +167,14 @@ named_kept old new info keys h = record {
 }
 
 -- the block whose code it is
-pub named_block : (lbn : ℕ) → code_named lbn < 271 → (block : FileBlock) × IsFileBlock block × (code_of block ≡ code_named lbn)
+pub named_block : (lbn : ℕ) → code_named lbn < BLOCK_CODES → (block : FileBlock) × IsFileBlock block × (code_of block ≡ code_named lbn)
 named_block lbn below = elim (named_cases lbn) [
   | inl h ↦ (file_block_of h.0, file_block_of-is h.0 h.1, sym (code_named-block h.0 h.1) ∙ ap code_named h.2)
   | inr none ↦ absurd (let e = code_named-none lbn none in omega arith)
 ]
 
 -- ---- two infos that name one block are the same
-same_lbn : (m n : ℕ) → code_named m < 271 → code_named m ≡ code_named n → m ≡ n
+same_lbn : (m n : ℕ) → code_named m < BLOCK_CODES → code_named m ≡ code_named n → m ≡ n
 same_lbn m n below same =
     elim (named_cases m) [
       | inr none ↦ absurd (let e = code_named-none m none in omega arith)

@@ -19,8 +19,8 @@ use Rattle.lfs_staging.proofs.KeptLemmas.{keys_kept}
 use Rattle.lfs_segwrite.proofs.NamedLemmas.{frames-most, named_kept}
 use Rattle.lfs_staging.proofs.StagingLemmas.{version-same}
 
--- at most two frames for each
-pub frames_few : (xs : List BlockInfo) → sum_by frames_to_mark xs ≤ 2 * length xs
+-- at most three frames for each
+pub frames_few : (xs : List BlockInfo) → sum_by frames_to_mark xs ≤ 3 * length xs
 frames_few [] = omega arith
 frames_few (x ∷ xs) =
     let e = sum_by-cons frames_to_mark x xs in
@@ -66,7 +66,7 @@ module _ (p q : Parts) (named : List BlockInfo) (i : ℕ) (low : i < length name
             omega arith;
       }
 
-  pub stages_frames : length q.cache.locked ≤ 2 * i
+  pub stages_frames : length q.cache.locked ≤ 3 * i
   stages_frames =
       let few = frames_few (take i named) in
       let some = length-take-le i named (omega arith) in

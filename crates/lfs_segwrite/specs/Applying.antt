@@ -1,5 +1,5 @@
 -- Changes of a store's content, made one after another, and written all together.
-use Rattle.std.specs.Prelude.{◌≡◌, ◌≢◌, ◌⊎◌, ◌||◌, ℕ, ◌+◌, ◌*◌, ◌/◌, ◌<◌, ◌≤◌, Bool, true, false, List, [], ◌∷◌, length, nat_lt, if◌then◌else◌, ◌==◌, sum_by}
+use Rattle.std.specs.Prelude.{◌≡◌, ◌≢◌, ◌⊎◌, ◌||◌, ℕ, ◌+◌, ◌*◌, ◌/◌, ◌<◌, ◌≤◌, Bool, true, false, List, [], ◌∷◌, length, max, nat_lt, if◌then◌else◌, ◌==◌, sum_by}
 use Rattle.std.specs.List.{list_any}
 use Rattle.lfs_types.specs.Changes.{applied, changed}
 use Rattle.lfs_types.specs.Stored.{bytes_of}
@@ -134,9 +134,10 @@ peak_of (SetAttrs ino attrs) = 0
 peak_of (Put ino off bytes) = if length bytes.now == 0 then 0 else frames_of_put off (length bytes.now)
 peak_of (SetLength ino len) = CUT_FRAMES
 
--- those that changes take at most
+-- those that changes take at most, in order: to those of a change come those that the changes before it left waiting
 abbrev pub peak_of_all : List Change → ℕ
-peak_of_all changes = sum_by peak_of changes
+peak_of_all [] = 0
+peak_of_all (change ∷ changes) = max (peak_of change) (frames_of change + peak_of_all changes)
 
 -- changes could have more wait than may wait
 abbrev pub passes_limits : Parts → List Change → Bool

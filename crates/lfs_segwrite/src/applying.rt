@@ -30,7 +30,7 @@ use lfs_types::block::BLOCK_SIZE;
 use lfs_types::store::Change;
 
 /// The greatest number of frames that the changes of one call take.
-pub const APPLIED_FRAMES: usize = 15;
+pub const APPLIED_FRAMES: usize = 20;
 
 /// The greatest number of records that they have wait: one for each change.
 pub const APPLIED_RECORDS: usize = 4;
@@ -95,17 +95,19 @@ fn peak_of(change: &Change<'_>) -> usize
     }
 }
 
-/// How many frames changes take at most while they are staged.
+/// How many frames changes take at most while they are staged, one after another.
 fn peak_of_all(changes: &[Change<'_>]) -> usize
     requires reach { All IsInReach changes.now }
     requires few { peak_of_all changes.now ≤ LOCKED_LIMIT }
     ensures { result ≡ peak_of_all changes.now }
 {
-    let mut frames = 0;
+    let mut taken = 0;
+    let mut peak = 0;
     for change in changes {
-        frames += peak_of(change);
+        peak = peak.max(taken + peak_of(change));
+        taken += frames_of(change);
     }
-    frames
+    peak
 }
 
 /// Whether changes could have more wait than may wait.

@@ -60,8 +60,8 @@ fn frames_to_mark(info: &BlockInfo) -> u32
 fn blocks_to_mark(named: &[BlockInfo]) -> u32
     requires { length named.now ≤ MARK_LIMIT }
     ensures blocks { result ≡ blocks_to_mark named.now }
-    ensures few { result ≤ 19 }
-    ensures frames { sum_by frames_to_mark named.now ≤ 16 }
+    ensures few { result ≤ 27 }
+    ensures frames { sum_by frames_to_mark named.now ≤ 24 }
 {
     let mut frames = 0;
     for info in named {
@@ -138,7 +138,7 @@ fn mark_settled(parts: &mut Parts, marks: &[BlockInfo], careful: bool) -> Result
 /// some segment can be cleaned behind them.
 fn may_mark(parts: &Parts, blocks: u32) -> bool
     requires store { IsStore parts.now }
-    requires few { blocks ≤ 19 }
+    requires few { blocks ≤ 27 }
     ensures { IsTrue result ↔ ((parts.now.log.clean ≡ 0) ⊎ LeavesCleanable blocks parts.now) }
 {
     let room = parts.log.room() + WHOLE;
@@ -149,7 +149,7 @@ fn may_mark(parts: &Parts, blocks: u32) -> bool
 /// too little left. With care none is opened where no segment could be cleaned behind them.
 fn make_room_to_mark(parts: &mut Parts, blocks: u32, careful: bool) -> Result<(), NoRoom>
     requires store { IsStore parts.old }
-    requires few { blocks ≤ 19 }
+    requires few { blocks ≤ 27 }
     ensures store { IsStore parts.new }
     ensures files { KeepsFiles parts.old parts.new }
     ensures room { OnOk result (blocks ≤ room_of parts.new.log.memory) }

@@ -5,6 +5,6 @@ ghost use Rattle.lfs_segwrite.specs.declared.applying.TheConstants.{APPLIED_FRAM
 
 /// The constants that contracts cite by name are these numbers: a law, which does nothing.
 pub fn sizes()
-    ensures frames { APPLIED_FRAMES ≡ 15 }
+    ensures frames { APPLIED_FRAMES ≡ 20 }
     ensures records { APPLIED_RECORDS ≡ 4 }
 {}

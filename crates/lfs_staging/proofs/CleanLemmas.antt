@@ -1,5 +1,5 @@
 -- The clean blocks that a cache holds are what the log has: how that is kept.
-use Rattle.std.proofs.Common.{◌≡◌, ◌≢◌, ◌⊎◌, ℕ, ◌<◌, ◌≤◌, List, [], None, Some, length, false, true, refl, sym, ap, ◌∙◌, subst, inl, inr, arith}
+use Rattle.std.proofs.Common.{◌≡◌, ◌≢◌, ◌⊎◌, ℕ, ◌<◌, List, [], None, Some, length, false, true, refl, sym, ap, ◌∙◌, subst, inl, inr}
 use Rattle.std.proofs.lemmas.Bool.{cases_eq, false≢true}
 use Rattle.std.proofs.lemmas.Option.{none-some}
 use Rattle.lfs_cache.specs.declared.key.Key.{Key}
@@ -11,8 +11,7 @@ use Rattle.lfs_segments.specs.Memory.{block_at}
 use Rattle.lfs_log.specs.Parts.{LogParts}
 use Rattle.lfs_bmap.specs.declared.blocks.TheConstants.{BLOCK_CODES}
 use Rattle.lfs_bmap.specs.declared.blocks.FileBlock.{FileBlock}
-use Rattle.lfs_bmap.specs.declared.blocks.FileBlock.TheVariants.{Record, Single, Double, Child, Data}
-use Rattle.lfs_bmap.specs.Blocks.{IsFileBlock, code_of, first_under}
+use Rattle.lfs_bmap.specs.Blocks.{IsFileBlock, code_of}
 use Rattle.lfs_bmap.specs.Reading.{SameReadings, address, read}
 use Rattle.lfs_bmap.specs.Ways.{IsKnown, way_of}
 use Rattle.lfs_bmap.proofs.BlockLemmas.{code_of-below}
@@ -32,17 +31,6 @@ coded_below code h = subst (λ c. c < BLOCK_CODES) h.coded (code_of-below h.bloc
 
 pub coded_block : (block : FileBlock) → IsFileBlock block → code_of block ≢ 0 → IsBlockCode (code_of block)
 coded_block block can other = record { block = block; is = can; coded = refl; other = other }
-
--- below data block 140, that is the single indirect block's code, or a data block's
-code_cases : (block : FileBlock) → IsFileBlock block → code_of block ≢ 0 → first_under block < 140 → (code_of block ≡ 1) ⊎ ((131 ≤ code_of block) × (code_of block < BLOCK_CODES))
-code_cases Record can other near = absurd (other refl)
-code_cases Single can other near = inl refl
-code_cases Double can other near = absurd (omega arith)
-code_cases (Child index) can other near = absurd (omega arith)
-code_cases (Data index) can other near = inr (omega arith, omega arith)
-
-pub coded_cases : (code : ℕ) (h : IsBlockCode code) → first_under h.block < 140 → (code ≡ 1) ⊎ ((131 ≤ code) × (code < BLOCK_CODES))
-coded_cases code h near = subst (λ c. (c ≡ 1) ⊎ ((131 ≤ c) × (c < BLOCK_CODES))) h.coded (code_cases h.block h.is (λ e. h.other (sym h.coded ∙ e)) near)
 
 -- where a cache holds nothing clean, there is nothing to show
 pub mirrors_none : (p : Parts) → p.cache.lru ≡ [] → Mirrors p

@@ -2,6 +2,7 @@
 use Rattle.std.proofs.Common.{◌≡◌, ◌≢◌, ℕ, ◌+◌, ◌*◌, ◌<◌, ◌⊎◌, List, [], ◌∷◌, length, None, IsSome, false, refl, sym, ap, ◌∙◌, subst, inl, inr, arith}
 use Rattle.std.specs.Prelude.{⊤}
 use Rattle.std.proofs.lemmas.Bool.{cases_eq, cases_lt}
+use Rattle.lfs_types.specs.declared.limits.TheConstants.{FILE_BLOCKS}
 use Rattle.lfs_types.specs.Blocks.{zero_block}
 use Rattle.lfs_ifile.specs.declared.inode.InodeRow.{InodeRow}
 use Rattle.lfs_ifile.specs.Tables.{row_at, row_of}
@@ -157,13 +158,13 @@ module _ (p s q : Parts) (v : Inode) (block : FileBlock) (i : ℕ) (up : List �
 
   pub zeros_here : (k : ℕ) → block ≡ Data k → data_block (tree_of q v.number) k ≡ zero_block
   zeros_here k is =
-      let low : k < 140 = subst IsFileBlock is h.can in
+      let low : k < FILE_BLOCKS = subst IsFileBlock is h.can in
       let code : code_of block ≡ 131 + k = ap code_of is in
       data_block-read (tree_of q v.number) k low ∙ ap (read (tree_of q v.number)) (ap way_of (sym code) ∙ way_here)
       ∙ cleared_bytes (tree_of p v.number) (tree_of q v.number) i up known slice_index-cells_zero_block clears
 
   -- every other data block reads as before
-  data_at : (k : ℕ) → k < 140 → 131 + k ≢ code_of block → read (tree_of q v.number) (way_of (131 + k)) ≡ read (tree_of p v.number) (way_of (131 + k))
+  data_at : (k : ℕ) → k < FILE_BLOCKS → 131 + k ≢ code_of block → read (tree_of q v.number) (way_of (131 + k)) ≡ read (tree_of p v.number) (way_of (131 + k))
   data_at k low ne =
       cleared_others (tree_of p v.number) (tree_of q v.number) i up known slice_index-cells_zero_block clears (way_of (131 + k)) (way_of-known (131 + k) (omega arith))
       (λ e. no_way_through (131 + k) i (omega arith) (subst (λ w. IsWay (i ∷ w)) (sym e) known.leads))
@@ -171,7 +172,7 @@ module _ (p s q : Parts) (v : Inode) (block : FileBlock) (i : ℕ) (up : List �
 
   pub data_same : (m k : ℕ) → (m ≢ v.number) ⊎ (131 + k ≢ code_of block) → data_block (tree_of q m) k ≡ data_block (tree_of p m) k
   data_same m k apart =
-      elim (cases_lt k 140) [
+      elim (cases_lt k FILE_BLOCKS) [
         | inl low ↦ data_block-read (tree_of q m) k low ∙ (elim (cases_eq m v.number) [
           | inl e ↦
               let other : 131 + k ≢ code_of block = elim apart [ inl ne ↦ absurd (ne e) | inr ne ↦ ne ] in

@@ -1,7 +1,8 @@
 -- Blocks of a file are given back one after another.
-use Rattle.std.proofs.Common.{◌≡◌, ◌≢◌, ℕ, ◌+◌, ◌<◌, ◌≤◌, List, ◌∷◌, Option, None, Some, IsSome, true, refl, sym, ap, ◌∙◌, subst, inl, inr, arith}
+use Rattle.std.proofs.Common.{◌≡◌, ℕ, ◌+◌, ◌<◌, ◌≤◌, List, ◌∷◌, Option, None, Some, IsSome, true, refl, sym, ap, ◌∙◌, subst, inl, inr, arith}
 use Rattle.std.proofs.lemmas.Bool.{cases_eq, cases_lt, cond-true}
 use Rattle.std.proofs.lemmas.Option.{same_Some}
+use Rattle.lfs_types.specs.declared.limits.TheConstants.{FILE_BLOCKS}
 use Rattle.lfs_types.specs.Blocks.{zero_block}
 use Rattle.lfs_ifile.specs.declared.inode.InodeRow.{InodeRow}
 use Rattle.lfs_ifile.specs.Tables.{row_at, row_of}
@@ -128,7 +129,7 @@ gone_still b c number block t q can is was = elim (cases_eq (code_of t) (code_of
 pub gone_zeros : (p : Parts) (number index : ℕ) → IsGone p number (data_way index) → data_block (tree_of p number) index ≡ zero_block
 gone_zeros p number index gone =
     let tree = tree_of p number in
-    elim (cases_lt index 140) [
+    elim (cases_lt index FILE_BLOCKS) [
       | inl low ↦
           data_block-read tree index low ∙ ap (read tree) (way_of-data index) ∙ read-via tree (data_way index)
           ∙ ap (bytes_via tree (data_way index)) gone.nowhere
@@ -173,7 +174,7 @@ may_clear a b number first index end may h from low =
       beneath = λ j known. absurd (no_way_through (131 + index) j (omega arith) (subst (λ w. IsWay (j ∷ w)) (sym (way_of-data index)) known.leads));
     }
 
-pub clears_more : (a b c : Parts) (number first index : ℕ) → first ≤ index → index < 140 → ClearsBlocks number first index a b → ClearsBlock number (Data index) b c
+pub clears_more : (a b c : Parts) (number first index : ℕ) → first ≤ index → index < FILE_BLOCKS → ClearsBlocks number first index a b → ClearsBlock number (Data index) b c
     → ClearsBlocks number first (index + 1) a c
 clears_more a b c number first index from low p q = record {
   staged = q.staged;

@@ -1,8 +1,9 @@
 -- A file is cut, step by step.
-use Rattle.std.proofs.Common.{◌≡◌, ◌≢◌, ℕ, ◌+◌, ◌*◌, ◌-◌, ◌/◌, ◌<◌, ◌≤◌, List, length, Some, refl, sym, ap, ◌∙◌, subst, inl, inr, arith}
+use Rattle.std.proofs.Common.{◌≡◌, ℕ, ◌+◌, ◌-◌, ◌/◌, ◌<◌, ◌≤◌, List, length, Some, refl, sym, ap, ◌∙◌, subst, inl, inr, arith}
 use Rattle.std.specs.List.{Contains}
 use Rattle.std.proofs.lemmas.Bool.{cases_lt}
 use Rattle.std.proofs.lemmas.Option.{same_Some}
+use Rattle.lfs_types.specs.declared.limits.TheConstants.{FILE_BLOCKS}
 use Rattle.lfs_types.specs.Blocks.{zero_block}
 use Rattle.lfs_ifile.specs.declared.inode.InodeRow.{InodeRow}
 use Rattle.lfs_ifile.specs.Tables.{row_at, row_of}
@@ -13,21 +14,20 @@ use Rattle.lfs_inodes.specs.Reading.{Fields, fields_of}
 use Rattle.lfs_cache.specs.Contents.{Contents}
 use Rattle.lfs_cache.specs.declared.cache.TheConstants.{LOCKED_LIMIT}
 use Rattle.lfs_log.specs.Parts.{LogParts}
-use Rattle.lfs_bmap.specs.declared.blocks.FileBlock.{FileBlock}
 use Rattle.lfs_bmap.specs.declared.blocks.FileBlock.TheVariants.{Data, Record}
-use Rattle.lfs_bmap.specs.Blocks.{IsFileBlock, code_of, way_to}
+use Rattle.lfs_bmap.specs.Blocks.{code_of, way_to}
 use Rattle.lfs_bmap.specs.Pieces.{IsCut, IsPadded}
 use Rattle.lfs_bmap.specs.Reading.{data_block}
 use Rattle.lfs_bmap.specs.Ways.{codes_on, data_way}
-use Rattle.lfs_bmap.proofs.HolderLemmas.{codes_on-most, codes_on-record}
+use Rattle.lfs_bmap.proofs.HolderLemmas.{codes_on-most, codes_on-record, table_of-code}
 use Rattle.lfs_bmap.proofs.PieceLemmas.{cut_padded, past_cut, zero_block-at, zero_block-length}
 use Rattle.lfs_bmap.proofs.PlaceLemmas.{data_block-past, data_block-same}
-use Rattle.lfs_bmap.proofs.TableLemmas.{codes_on-table_few, table_of-near}
+use Rattle.lfs_bmap.proofs.TableLemmas.{codes_on-table_few}
 use Rattle.lfs_staging.specs.declared.parts.Parts.{Parts}
 use Rattle.lfs_staging.specs.Changing.{StaysInLog, frames_of_length, length_codes}
 use Rattle.lfs_staging.specs.Cutting.{CutsFile, CutsLast, DropsBlocks, MayDropAll, MayShorten, Shortens, cut_codes, last_table}
 use Rattle.lfs_staging.specs.Staging.{HasFrames, IsStaged, MayStage, StagesOwnRecord, TakesOnly}
-use Rattle.lfs_staging.specs.View.{key_of, record_of, tree_of, version_of, waiting_in}
+use Rattle.lfs_staging.specs.View.{record_of, tree_of, version_of}
 use Rattle.lfs_staging.proofs.ClearingLemmas.{gone_zeros, rest_attributes}
 use Rattle.lfs_staging.proofs.CutLemmas.{length_codes-cut, length_codes-length, length_codes-table}
 use Rattle.lfs_staging.proofs.GrowthLemmas.{one_record}
@@ -45,14 +45,14 @@ module _ (a b : Parts) (v : Inode) (may : MayStage a v) (own : StagesOwnRecord v
   own_kept staged = parents_staged a b v Record may (parents_own a b v.number Record own refl) 0 staged (λ x is has. absurd (codes_on-record (code_of x) has))
 
   -- there are frames for the last block of a length
-  pub own_room : (index : ℕ) → index < 140 → length a.cache.locked + 2 ≤ LOCKED_LIMIT → HasFrames b v.number (codes_on (data_way index))
+  pub own_room : (index : ℕ) → index < FILE_BLOCKS → length a.cache.locked + 4 ≤ LOCKED_LIMIT → HasFrames b v.number (codes_on (data_way index))
   own_room index low room =
       let codes = codes_on (way_to (Data index)) in
       frames_after a b v.number codes (version-same a b v.number own.same.log) (takes_none v.number (version_of a v.number) codes a.cache b.cache own.cache)
-      (frames_enough a v.number codes (omega (arith, codes_on-most (Data index) low (λ e. omega arith) (omega arith))))
+      (frames_enough a v.number codes (omega (arith, codes_on-most (Data index) low (λ e. omega arith))))
 
 -- the number of the last data block that a length leaves
-pub last_index : (v : Inode) (p : Parts) (len : ℕ) → MayStage p v → len < v.size → len / 512 < 140
+pub last_index : (v : Inode) (p : Parts) (len : ℕ) → MayStage p v → len < v.size → len / 512 < FILE_BLOCKS
 last_index v p len may less = let most = (may.files.files v.number (fields_of v) may.here).formed.sized.0 in omega arith
 
 module _ (a b c : Parts) (v : Inode) (len left blocks : ℕ) (may : MayStage a v) (less : len < v.size) (left_is : left ≡ block_count len) (blocks_is : blocks ≡ block_count v.size)
@@ -72,7 +72,7 @@ module _ (a b c : Parts) (v : Inode) (len left blocks : ℕ) (may : MayStage a v
       subst (λ (s : Contents). TakesOnly v.number (version_of a v.number) (length_codes len) s c.cache) own.cache
       (takes_version v.number (version_of b v.number) (version_of a v.number) (length_codes len) b.cache c.cache (version-same a b v.number own.same.log) last.takes)
 
-  pub may_drop_all : length a.cache.locked + 2 ≤ LOCKED_LIMIT → MayDropAll c v.number left blocks
+  pub may_drop_all : length a.cache.locked + 4 ≤ LOCKED_LIMIT → MayDropAll c v.number left blocks
   may_drop_all room = record {
     staged = last.staged;
     in_use = ap (λ (l : LogParts). (row_of l.tables v.number).used) log_same ∙ may.in_use;
@@ -84,13 +84,13 @@ module _ (a b c : Parts) (v : Inode) (len left blocks : ℕ) (may : MayStage a v
         subst (λ (x : Fields). blocks ≡ block_count x.attributes.size) same blocks_is;
     frames = λ t is behind within.
         let most = (may.files.files v.number (fields_of v) may.here).formed.sized.0 in
-        let last = table_of-near (blocks - 1) (omega arith) in
-        let near : code_of t ≤ 1 = omega arith in
-        let few = codes_on-table_few t near in
+        let last = table_of-code (Data (blocks - 1)) (omega arith) in
+        let holds : code_of t < 131 = omega arith in
+        let few = codes_on-table_few t holds in
         frames_after a c v.number (cut_codes left t) (version-same a c v.number log_same)
         (takes_part v.number (version_of a v.number) (length_codes len) (cut_codes left t) a.cache c.cache
         (subst (λ n. (x : ℕ) → Contains (length_codes len) x → Contains (cut_codes n t) x) (sym left_is)
-        (length_codes-cut len t near (subst (λ n. code_of (last_table n) ≤ code_of t) left_is behind))) takes)
+        (length_codes-cut len t holds (subst (λ n. code_of (last_table n) ≤ code_of t) left_is behind))) takes)
         (frames_enough a v.number (cut_codes left t) (omega arith));
   }
 
@@ -106,7 +106,7 @@ module _ (a b c : Parts) (v : Inode) (len left blocks : ℕ) (may : MayStage a v
 
     -- no block is left past the length
     zeros : (m : ℕ) → left ≤ m → data_block (tree_of d v.number) m ≡ zero_block
-    zeros m from = elim (cases_lt m 140) [
+    zeros m from = elim (cases_lt m FILE_BLOCKS) [
       | inl low ↦ gone_zeros d v.number m (drops.gone (Data m) low (λ e. omega arith) from)
       | inr past ↦ data_block-past (tree_of d v.number) m past
     ]

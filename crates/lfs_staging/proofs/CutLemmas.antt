@@ -4,12 +4,13 @@ use Rattle.std.specs.Prelude.{if◌then◌else◌, ◌==◌}
 use Rattle.std.specs.List.{Contains}
 use Rattle.std.proofs.lemmas.Bool.{cases_eq, cond-false, cond-true, eq-eqb, ne_eqb, le-ltb}
 use Rattle.std.proofs.lemmas.List.Elements.{Contains-append_right}
+use Rattle.lfs_types.specs.declared.limits.TheConstants.{FILE_BLOCKS}
 use Rattle.lfs_inodes.specs.declared.inode.Inode.{Inode}
 use Rattle.lfs_inodes.specs.Facts.{block_count}
 use Rattle.lfs_inodes.specs.Reading.{fields_of}
 use Rattle.lfs_bmap.specs.declared.blocks.FileBlock.{FileBlock}
 use Rattle.lfs_bmap.specs.declared.blocks.FileBlock.TheVariants.{Data}
-use Rattle.lfs_bmap.specs.Blocks.{code_of, table_of, way_to}
+use Rattle.lfs_bmap.specs.Blocks.{code_of, way_to}
 use Rattle.lfs_bmap.specs.Pieces.{IsCut}
 use Rattle.lfs_bmap.specs.Reading.{data_block}
 use Rattle.lfs_bmap.specs.Ways.{codes_on}
@@ -18,14 +19,14 @@ use Rattle.lfs_bmap.proofs.PieceLemmas.{below_cut}
 use Rattle.lfs_bmap.proofs.TableLemmas.{codes_on-behind, codes_on-long}
 use Rattle.lfs_staging.specs.declared.parts.Parts.{Parts}
 use Rattle.lfs_staging.specs.Changing.{frames_of_length, length_codes, length_table}
-use Rattle.lfs_staging.specs.Cutting.{CutsBlock, CutsLast, cut_codes}
+use Rattle.lfs_staging.specs.Cutting.{CutsBlock, CutsLast, cut_codes, last_table}
 use Rattle.lfs_staging.specs.Staging.{IsStaged, IsZeroPast, MayStage, StagesData, TakesOnly}
 use Rattle.lfs_staging.specs.View.{tree_of, version_of}
 use Rattle.lfs_staging.proofs.TakenLemmas.{first_code, more_codes, takes_none}
 
 -- ---- the codes of a length
 -- where it ends within a block they are those on this one's way
-length_codes-some : (len : ℕ) → len % 512 ≢ 0 → block_count len - 1 < 140 → length_codes len ≡ codes_on (way_to (Data (block_count len - 1)))
+length_codes-some : (len : ℕ) → len % 512 ≢ 0 → block_count len - 1 < FILE_BLOCKS → length_codes len ≡ codes_on (way_to (Data (block_count len - 1)))
 length_codes-some len some low =
     ap (λ xs. xs ++ codes_on (way_to (length_table len))) (cond-false _ [] ((131 + (block_count len - 1)) ∷ []) (ne_eqb (len % 512) 0 some))
     ∙ sym (codes_on-block (Data (block_count len - 1)) low (λ e. omega arith))
@@ -53,18 +54,27 @@ pub length_codes-table : (len c : ℕ) → Contains (codes_on (way_to (length_ta
 length_codes-table len c has =
     Contains-append_right (if len % 512 == 0 then [] else (131 + (block_count len - 1)) ∷ []) (codes_on (way_to (length_table len))) c has
 
+-- what leads to the last data block that is left is among what a cut has wait
+pub last_codes-cut : (left : ℕ) (t : FileBlock) → code_of t < 131 → code_of (last_table left) ≤ code_of t → (c : ℕ) → Contains (codes_on (way_to (last_table left))) c
+    → Contains (cut_codes left t) c
+last_codes-cut left t holds behind c has =
+    let holder : ℕ = code_of (last_table left) in
+    more_codes c (131 + (left - 1)) (holder ∷ codes_on (way_to t)) (elim (codes_on-behind (left - 1) t holds behind c has) [
+      | inl own ↦ subst (Contains (holder ∷ codes_on (way_to t))) own (first_code holder (codes_on (way_to t)))
+      | inr there ↦ more_codes c holder (codes_on (way_to t)) there
+    ])
+
 -- and all are among those that a cut has wait
-pub length_codes-cut : (len : ℕ) (t : FileBlock) → code_of t ≤ 1 → code_of (length_table len) ≤ code_of t → (c : ℕ) → Contains (length_codes len) c
+pub length_codes-cut : (len : ℕ) (t : FileBlock) → code_of t < 131 → code_of (length_table len) ≤ code_of t → (c : ℕ) → Contains (length_codes len) c
     → Contains (cut_codes (block_count len) t) c
-length_codes-cut len t near behind c has =
+length_codes-cut len t holds behind c has =
     let last : ℕ = 131 + (block_count len - 1) in
     let above : List ℕ = codes_on (way_to (length_table len)) in
-    let deep : Contains above c → Contains (cut_codes (block_count len) t) c
-    = λ there. more_codes c last (codes_on (way_to t)) (codes_on-behind (block_count len - 1) t near behind c there) in
+    let deep : Contains above c → Contains (cut_codes (block_count len) t) c = last_codes-cut (block_count len) t holds behind c in
     elim (cases_eq (len % 512) 0) [
       | inl none ↦ deep (subst (λ xs. Contains (xs ++ above) c) (cond-true _ [] (last ∷ []) (eq-eqb (len % 512) 0 none)) has)
       | inr some ↦ elim (code_cases c last above (subst (λ xs. Contains (xs ++ above) c) (cond-false _ [] (last ∷ []) (ne_eqb (len % 512) 0 some)) has)) [
-        | inl own ↦ subst (Contains (cut_codes (block_count len) t)) own (first_code last (codes_on (way_to t)))
+        | inl own ↦ subst (Contains (cut_codes (block_count len) t)) own (first_code last (code_of (length_table len) ∷ codes_on (way_to t)))
         | inr there ↦ deep there
       ]
     ]
@@ -105,7 +115,7 @@ last_whole p v len may staged none = record {
   waits = λ waits. waits;
 }
 
-pub last_cut : (old new : Parts) (v : Inode) (len : ℕ) → MayStage old v → len % 512 ≢ 0 → len / 512 < 140 → CutsBlock v.number (len / 512) len old new
+pub last_cut : (old new : Parts) (v : Inode) (len : ℕ) → MayStage old v → len % 512 ≢ 0 → len / 512 < FILE_BLOCKS → CutsBlock v.number (len / 512) len old new
     → CutsLast v.number len old new
 last_cut old new v len may some low h =
     let last : block_count len - 1 ≡ len / 512 = omega arith in

@@ -1,8 +1,10 @@
 -- The blocks of a file past a length are given back, one block that holds addresses after another, the last first.
-use Rattle.std.proofs.Common.{Bool, List, Some, IsSome, IsTrue, false, true, length, ap, arith, inl, inr, refl, subst, sym, ℕ, ◌+◌, ◌-◌, ◌<◌, ◌∙◌, ◌∷◌, ◌≡◌, ◌≢◌, ◌≤◌, ◌↔◌, ◌⊎◌, min, max}
+use Rattle.std.proofs.Common.{Bool, List, [], ◌++◌, Some, IsSome, IsTrue, false, true, length, ap, arith, inl, inr, refl, subst, sym, ℕ, ◌+◌, ◌-◌, ◌<◌, ◌∙◌, ◌∷◌, ◌≡◌, ◌≢◌, ◌≤◌, ◌↔◌, ◌⊎◌, min, max}
 use Rattle.std.specs.List.{Contains}
-use Rattle.std.specs.Prelude.{not}
-use Rattle.std.proofs.lemmas.Bool.{cases_eq, cases_lt, cond-true, false≢true}
+use Rattle.std.specs.Prelude.{not, if◌then◌else◌, nat_lt}
+use Rattle.std.proofs.lemmas.Bool.{cases_eq, cases_lt, cond-false, cond-true, false≢true, le-ltb, lt-ltb}
+use Rattle.std.proofs.lemmas.List.Elements.{Contains-append_right}
+use Rattle.lfs_types.specs.declared.limits.TheConstants.{FILE_BLOCKS}
 use Rattle.lfs_ifile.specs.Tables.{row_of}
 use Rattle.lfs_inodes.specs.declared.inode.Inode.{Inode}
 use Rattle.lfs_inodes.specs.Facts.{block_count}
@@ -14,20 +16,19 @@ use Rattle.lfs_bmap.specs.declared.blocks.FileBlock.{FileBlock}
 use Rattle.lfs_bmap.specs.declared.blocks.FileBlock.TheVariants.{Record, Single, Double, Child, Data}
 use Rattle.lfs_bmap.specs.Blocks.{IsFileBlock, code_of, first_under, table_of, way_to}
 use Rattle.lfs_bmap.specs.Reading.{address, data_block}
-use Rattle.lfs_bmap.specs.Ways.{IsKnown, codes_on, data_way}
+use Rattle.lfs_bmap.specs.Ways.{codes_on, data_way}
 use Rattle.lfs_bmap.proofs.BlockLemmas.{same_block}
-use Rattle.lfs_bmap.proofs.HolderLemmas.{table_of-direct, table_of-is, table_of-under, table_of-way}
+use Rattle.lfs_bmap.proofs.HolderLemmas.{code_cases, codes_on-block, data_table, table_of-code, table_of-direct, table_of-is, table_of-under, table_of-way}
 use Rattle.lfs_bmap.proofs.PlaceLemmas.{data_block-same}
-use Rattle.lfs_bmap.proofs.TableLemmas.{codes_on-above, codes_on-behind, codes_on-within, first_under-least, first_under-past, table_of-later, table_of-less, table_of-near, under_table}
-use Rattle.lfs_bmap.proofs.HolderLemmas.{code_cases, codes_on-block}
+use Rattle.lfs_bmap.proofs.TableLemmas.{codes_on-above, codes_on-two, codes_on-within, first_under-least, first_under-past, table_of-later, table_of-less, under_table}
 use Rattle.lfs_staging.specs.declared.parts.Parts.{Parts}
-use Rattle.lfs_staging.specs.Cutting.{ClearsBlock, ClearsBlocks, DropsBlocks, DropsDown, DropsTable, GoneDown, IsGone, KeepsRest, MayClear, MayClearBetween, MayDrop, MayDropAll, cut_codes, last_table}
-use Rattle.lfs_staging.specs.Staging.{HasFrames, IsStaged, MayStage, StagesTable, TakesOnly}
-use Rattle.lfs_staging.specs.Store.{HolderWaits, IsWithin}
+use Rattle.lfs_staging.specs.Cutting.{ClearsBlock, ClearsBlocks, DropsBlocks, DropsDown, DropsTable, GoneDown, IsGone, KeepsRest, MayClear, MayClearBetween, MayDrop, MayDropAll, cut_codes, down_codes, last_table}
+use Rattle.lfs_staging.specs.Staging.{IsStaged, MayStage, StagesTable, TakesOnly}
+use Rattle.lfs_staging.specs.Store.{HolderWaits}
 use Rattle.lfs_staging.specs.View.{key_of, record_of, tree_from, tree_of, version_of, waiting_in}
 use Rattle.lfs_staging.proofs.FileLemmas.{tree_from-of}
-use Rattle.lfs_staging.proofs.ClearingLemmas.{cleared_gone, gone_still, past_gone, rest_count, rest_refl, rest_trans, rest_used, rest_version, some_fields, there_within}
-use Rattle.lfs_staging.proofs.ForgettingLemmas.{used_low, way_some}
+use Rattle.lfs_staging.proofs.ClearingLemmas.{cleared_gone, gone_still, past_gone, rest_count, rest_refl, rest_trans, rest_used, rest_version, there_within}
+use Rattle.lfs_staging.proofs.ForgettingLemmas.{used_low}
 use Rattle.lfs_staging.proofs.FrameLemmas.{waiting_number}
 use Rattle.lfs_staging.proofs.HoleLemmas.{hole_under}
 use Rattle.lfs_staging.proofs.HolderLemmas.{block_gone, gone_free, holder_at, holder_code}
@@ -35,7 +36,8 @@ use Rattle.lfs_staging.proofs.KeptLemmas.{block_known}
 use Rattle.lfs_staging.proofs.KeyLemmas.{lies_in}
 use Rattle.lfs_staging.proofs.StagedLemmas.{stays_same, table_staged_still}
 use Rattle.lfs_staging.proofs.StagingLemmas.{version-same}
-use Rattle.lfs_staging.proofs.TakenLemmas.{frames_after, frames_part, more_codes, takes_none, takes_part, takes_version}
+use Rattle.lfs_staging.proofs.CutLemmas.{last_codes-cut}
+use Rattle.lfs_staging.proofs.TakenLemmas.{first_code, frames_after, frames_part, more_codes, takes_none, takes_part}
 use Rattle.lfs_staging.proofs.ViewLemmas.{record_of-waiting}
 use Rattle.lfs_staging.proofs.WaitingLemmas.{length-less, length-rest}
 
@@ -90,7 +92,7 @@ run_ordered left blocks start end (inr whole) few some ordered = omega arith
 -- ---- what is gone with one block more
 -- the block itself, and the data blocks whose addresses stand in it
 gone_next : (p : Parts) (number left : ℕ) (t : FileBlock) → IsFileBlock t → GoneDown p number left (code_of t + 1) → (left ≤ first_under t → IsGone p number (way_to t))
-    → ((k : ℕ) → k < 140 → table_of (Data k) ≡ t → left ≤ k → IsGone p number (data_way k)) → GoneDown p number left (code_of t)
+    → ((k : ℕ) → k < FILE_BLOCKS → table_of (Data k) ≡ t → left ≤ k → IsGone p number (data_way k)) → GoneDown p number left (code_of t)
 gone_next p number left t can down own under = record {
   tables = λ b is few from past. elim (cases_eq (code_of b) (code_of t)) [
     | inl same ↦
@@ -106,7 +108,7 @@ gone_next p number left t can down own under = record {
 
 -- where they are gone, so is each block whose address stands in the block
 gone_beneath : (p : Parts) (number left : ℕ) (t : FileBlock) → GoneDown p number left (code_of t + 1) → left ≤ first_under t
-    → ((k : ℕ) → k < 140 → table_of (Data k) ≡ t → left ≤ k → IsGone p number (data_way k)) → (b : FileBlock) → IsFileBlock b → code_of b ≢ 0 → table_of b ≡ t
+    → ((k : ℕ) → k < FILE_BLOCKS → table_of (Data k) ≡ t → left ≤ k → IsGone p number (data_way k)) → (b : FileBlock) → IsFileBlock b → code_of b ≢ 0 → table_of b ≡ t
     → IsGone p number (way_to b)
 gone_beneath p number left t down few under Record is other held = absurd (other refl)
 gone_beneath p number left t down few under Single is other held =
@@ -128,7 +130,7 @@ gone_beneath p number left t down few under (Data k) is other held =
 -- ---- nothing is done
 -- where each data block that the block leads to is left
 pub drop_none : (a : Parts) (number left blocks : ℕ) (t : FileBlock) → MayDrop a number t left blocks → first_under t < left
-    → ((k : ℕ) → k < 140 → table_of (Data k) ≡ t → k < left) → DropsTable number t left a a
+    → ((k : ℕ) → k < FILE_BLOCKS → table_of (Data k) ≡ t → k < left) → DropsTable number t left a a
 drop_none a number left blocks t may first all = record {
   staged = may.staged;
   rest = rest_refl number a may.waits;
@@ -192,14 +194,14 @@ module _ (a b : Parts) (v : Inode) (t : FileBlock) (left blocks : ℕ) (may : Ma
     blocks = λ k low from past. still_gone (Data k) low (let holds = may.holds in omega arith) (may.gone.blocks k low from past);
   }
 
-  few_blocks : (end : ℕ) → end ≤ blocks → end ≤ 140
+  few_blocks : (end : ℕ) → end ≤ blocks → end ≤ FILE_BLOCKS
   few_blocks end few =
       let size = may.all (fields_of v) stage.here in
       let most = (stage.files.files v.number (fields_of v) stage.here).formed.sized.0 in
       omega arith
 
   -- the data blocks whose addresses stand in it may be given back
-  pub may_between : (first end : ℕ) → end ≤ blocks → ((k : ℕ) → k < 140 → first ≤ k → k < end → table_of (Data k) ≡ t) → MayClearBetween b v.number first end
+  pub may_between : (first end : ℕ) → end ≤ blocks → ((k : ℕ) → k < FILE_BLOCKS → first ≤ k → k < end → table_of (Data k) ≡ t) → MayClearBetween b v.number first end
   may_between first end few held = record {
     staged = table_kept;
     in_use = rest_used v.number a b table_rest may.in_use;
@@ -212,7 +214,7 @@ module _ (a b : Parts) (v : Inode) (t : FileBlock) (left blocks : ℕ) (may : Ma
   }
 
   module _ (c : Parts) (first end : ℕ) (p : ClearsBlocks v.number first end b c)
-      (from_left : (k : ℕ) → k < 140 → table_of (Data k) ≡ t → left ≤ k → k < blocks → (first ≤ k) × (k < end)) (not_before : left ≤ first) where
+      (from_left : (k : ℕ) → k < FILE_BLOCKS → table_of (Data k) ≡ t → left ≤ k → k < blocks → (first ≤ k) × (k < end)) (not_before : left ≤ first) where
     rest_both : KeepsRest v.number a c
     rest_both = rest_trans v.number a b c table_rest p.rest
 
@@ -228,7 +230,7 @@ module _ (a b : Parts) (v : Inode) (t : FileBlock) (left blocks : ℕ) (may : Ma
       blocks = λ k low from past. p.still (Data k) low (table_down.blocks k low from past);
     }
 
-    under : (k : ℕ) → k < 140 → table_of (Data k) ≡ t → left ≤ k → IsGone c v.number (data_way k)
+    under : (k : ℕ) → k < FILE_BLOCKS → table_of (Data k) ≡ t → left ≤ k → IsGone c v.number (data_way k)
     under k low held past = elim (cases_lt k blocks) [
       | inl inside ↦ let at = from_left k low held past inside in p.gone k at.0 at.1
       | inr out ↦ past_gone c v.number blocks p.staged used_there count_there (Data k) low out
@@ -284,6 +286,32 @@ module _ (a b : Parts) (v : Inode) (t : FileBlock) (left blocks : ℕ) (may : Ma
       data_same = λ n k apart. q.data_same n k (inr (λ e. let holds = may.holds in omega arith)) ∙ same_before n k apart;
     }
 
+-- ---- what waits more between two turns
+down_cases : (left turn c : ℕ) → Contains (down_codes left turn) c → ((c ≡ 2) × (2 < turn)) ⊎ Contains (codes_on (way_to (last_table left))) c
+down_cases left turn c has =
+    let above : List ℕ = codes_on (way_to (last_table left)) in
+    elim (cases_lt 2 turn) [
+      | inl more ↦ elim (code_cases c 2 above (subst (λ xs. Contains (xs ++ above) c) (cond-true _ (2 ∷ []) [] (lt-ltb 2 turn more)) has)) [
+        | inl two ↦ inl (sym two, more)
+        | inr there ↦ inr there
+      ]
+      | inr few ↦ inr (subst (λ xs. Contains (xs ++ above) c) (cond-false _ (2 ∷ []) [] (le-ltb 2 turn few)) has)
+    ]
+
+down_last : (left turn c : ℕ) → Contains (codes_on (way_to (last_table left))) c → Contains (down_codes left turn) c
+down_last left turn c has = Contains-append_right (if nat_lt 2 turn then 2 ∷ [] else []) (codes_on (way_to (last_table left))) c has
+
+down_two : (left turn : ℕ) → 2 < turn → Contains (down_codes left turn) 2
+down_two left turn more =
+    let above : List ℕ = codes_on (way_to (last_table left)) in
+    subst (λ xs. Contains (xs ++ above) 2) (sym (cond-true _ (2 ∷ []) [] (lt-ltb 2 turn more))) (first_code 2 above)
+
+-- the double indirect block holds the address of no data block
+double_apart : (left : ℕ) (t : FileBlock) → code_of (last_table left) ≤ code_of t → code_of t ≡ 2 → code_of (last_table left) < code_of t
+double_apart left t behind two =
+    data_table (λ x. code_of x ≤ code_of t → code_of x < code_of t) (left - 1)
+    (λ low least. omega arith) (λ past low least. omega arith) (λ far least. absurd (omega arith)) behind
+
 -- ---- one block after another
 module _ (a : Parts) (number left blocks : ℕ) (may : MayDropAll a number left blocks) where
   -- behind the last one there is nothing
@@ -293,7 +321,7 @@ module _ (a : Parts) (number left blocks : ℕ) (may : MayDropAll a number left 
       record {
         staged = may.staged;
         rest = rest_refl number a may.waits;
-        takes = takes_none number (version_of a number) (codes_on (way_to (last_table left))) a.cache a.cache refl;
+        takes = takes_none number (version_of a number) (down_codes left (code_of (table_of (Data (blocks - 1))) + 1)) a.cache a.cache refl;
         gone = record {
           tables = λ x is few from past.
               let out = first_under-past x (blocks - 1) few (omega arith) in
@@ -306,19 +334,22 @@ module _ (a : Parts) (number left blocks : ℕ) (may : MayDropAll a number left 
         data_same = λ n k apart. refl;
       }
 
-  -- each one is the record or the single indirect block
-  near_table : (t : FileBlock) → code_of t ≤ code_of (table_of (Data (blocks - 1))) → code_of t ≤ 1
-  near_table t within =
-      let some = may.some in let bounded = may.bounded in
-      let last = table_of-near (blocks - 1) (omega arith) in
-      omega arith
+  -- what waits more is among what may wait while what the next block leads to goes
+  down_cut : (t : FileBlock) → code_of t < 131 → code_of (last_table left) ≤ code_of t → (c : ℕ) → Contains (down_codes left (code_of t + 1)) c → Contains (cut_codes left t) c
+  down_cut t holds behind c has = elim (down_cases left (code_of t + 1) c has) [
+    | inl two ↦
+        let from = two.1 in
+        more_codes c (131 + (left - 1)) (code_of (last_table left) ∷ codes_on (way_to t))
+        (more_codes c (code_of (last_table left)) (codes_on (way_to t)) (subst (Contains (codes_on (way_to t))) (sym two.0) (codes_on-two t (omega arith) holds)))
+    | inr there ↦ last_codes-cut left t holds behind c there
+  ]
 
   -- the next one may go
   pub may_drop : (b : Parts) (t : FileBlock) → IsFileBlock t → code_of t ≢ 0 → code_of t ≤ code_of (table_of (Data (blocks - 1))) → code_of t < 131
       → code_of (last_table left) ≤ code_of t → DropsDown number left (code_of t + 1) a b → MayDrop b number t left blocks
   may_drop b t is other within holds behind h =
       let version = rest_version number a b h.rest number in
-      let near = near_table t within in
+      let above : List ℕ = code_of (last_table left) ∷ codes_on (way_to t) in
       record {
         staged = h.staged;
         in_use = rest_used number a b h.rest may.in_use;
@@ -329,13 +360,30 @@ module _ (a : Parts) (number left blocks : ℕ) (may : MayDropAll a number left 
         ordered = may.ordered;
         all = rest_count number blocks a b may.staged may.in_use h.rest may.all;
         frames =
-            frames_part b number (codes_on (way_to t)) (cut_codes left t) (λ c has. more_codes c (131 + (left - 1)) (codes_on (way_to t)) has)
+            frames_part b number (codes_on (way_to t)) (cut_codes left t)
+            (λ c has. more_codes c (131 + (left - 1)) above (more_codes c (code_of (last_table left)) (codes_on (way_to t)) has))
             (frames_after a b number (cut_codes left t) version
-            (takes_part number (version_of a number) (codes_on (way_to (last_table left))) (cut_codes left t) a.cache b.cache
-            (λ c has. more_codes c (131 + (left - 1)) (codes_on (way_to t)) (codes_on-behind (left - 1) t near behind c has)) h.takes)
+            (takes_part number (version_of a number) (down_codes left (code_of t + 1)) (cut_codes left t) a.cache b.cache (down_cut t holds behind) h.takes)
             (may.frames t is behind within));
         gone = h.gone;
       }
+
+  -- what waited more is among what may wait when its turn is over: if it is the double indirect block, this one waits no more
+  down_still : (c : Parts) (t : FileBlock) → IsFileBlock t → code_of t < 131 → code_of (last_table left) ≤ code_of t → GoneDown c number left (code_of t)
+      → (d : ℕ) → Contains (down_codes left (code_of t + 1)) d → (code_of t ≡ d → IsLocked (key_of number (version_of c number) (code_of t)) c.cache)
+      → Contains (down_codes left (code_of t)) d
+  down_still c t is holds behind gone d has locked = elim (down_cases left (code_of t + 1) d has) [
+    | inr there ↦ down_last left (code_of t) d there
+    | inl two ↦ elim (cases_lt 2 (code_of t)) [
+      | inl more ↦ subst (Contains (down_codes left (code_of t))) (sym two.0) (down_two left (code_of t) more)
+      | inr few ↦
+          let from = two.1 in
+          let own : code_of t ≡ d = omega (arith, two.0) in
+          let double = double_apart left t behind (own ∙ two.0) in
+          let past = first_under-past t (left - 1) holds double in
+          absurd (gone_free c number t (gone.tables t is holds (omega arith) (omega arith)) (locked own))
+    ]
+  ]
 
   -- and went
   pub drops_more : (b c : Parts) (t : FileBlock) → IsFileBlock t → code_of t ≢ 0 → code_of t ≤ code_of (table_of (Data (blocks - 1))) → code_of t < 131 → code_of (last_table left) ≤ code_of t → DropsDown number left (code_of t + 1) a b
@@ -347,19 +395,29 @@ module _ (a : Parts) (number left blocks : ℕ) (may : MayDropAll a number left 
         staged = q.staged;
         rest = rest_trans number a b c p.rest q.rest;
         takes = λ key locked. elim (q.takes key locked) [
-          | inr was ↦ p.takes key was
+          | inr was ↦ elim (p.takes key was) [
+            | inr before ↦ inr before
+            | inl one ↦ inl (
+              one.0,
+              down_still c t is holds behind q.gone one.0 one.1 (λ own.
+                  subst (λ k. IsLocked k c.cache)
+                  (one.2 ∙ ap (λ n. key_of number n one.0) (sym version ∙ sym after) ∙ ap (key_of number (version_of c number)) (sym own)) locked),
+              one.2,
+            )
+          ]
           | inl one ↦ elim (cases_eq (code_of t) (code_of (last_table left))) [
             | inl last ↦
                 let some = may.some in let bounded = may.bounded in let ordered = may.ordered in
                 let same = same_block t (last_table left) is (table_of-is (Data (left - 1)) (omega arith)) last in
-                inl (one.0, subst (λ x. Contains (codes_on (way_to x)) one.0) same one.1, one.2 ∙ ap (λ n. key_of number n one.0) version)
+                inl (one.0, down_last left (code_of t) one.0 (subst (λ x. Contains (codes_on (way_to x)) one.0) same one.1), one.2 ∙ ap (λ n. key_of number n one.0) version)
             | inr more ↦ elim (code_cases one.0 (code_of t) (codes_on (way_to (table_of t))) (subst (λ cs. Contains cs one.0) (codes_on-block t is other) one.1)) [
               | inl own ↦
                   let past = first_under-past t (left - 1) holds (omega arith) in
                   absurd (gone_free c number t (q.gone.tables t is holds (omega arith) (omega arith))
                   (subst (λ k. IsLocked k c.cache) (one.2 ∙ ap (λ n. key_of number n one.0) (sym after) ∙ ap (key_of number (version_of c number)) (sym own)) locked))
               | inr above ↦
-                  inl (one.0, codes_on-above t (near_table t within) one.0 above (codes_on (way_to (last_table left))), one.2 ∙ ap (λ n. key_of number n one.0) version)
+                  let two = codes_on-above t holds one.0 above in
+                  inl (one.0, subst (Contains (down_codes left (code_of t))) (sym two.0) (down_two left (code_of t) two.1), one.2 ∙ ap (λ n. key_of number n one.0) version)
             ]
           ]
         ];
@@ -372,7 +430,13 @@ module _ (a : Parts) (number left blocks : ℕ) (may : MayDropAll a number left 
   drops_same b code none h = record {
     staged = h.staged;
     rest = h.rest;
-    takes = h.takes;
+    takes = takes_part number (version_of a number) (down_codes left (code + 1)) (down_codes left code) a.cache b.cache (λ c has. elim (down_cases left (code + 1) c has) [
+      | inr there ↦ down_last left code c there
+      | inl two ↦ elim (cases_eq code 2) [
+        | inl double ↦ absurd (none Double tt (sym double))
+        | inr other ↦ let from = two.1 in subst (Contains (down_codes left code)) (sym two.0) (down_two left code (omega arith))
+      ]
+    ]) h.takes;
     gone = record {
       tables = λ x is few from past. elim (cases_eq (code_of x) code) [
         | inl same ↦ absurd (none x is same)
@@ -391,7 +455,14 @@ module _ (a : Parts) (number left blocks : ℕ) (may : MayDropAll a number left 
   drops_down b turn few h = record {
     staged = h.staged;
     rest = h.rest;
-    takes = h.takes;
+    takes = takes_part number (version_of a number) (down_codes left turn) (down_codes left 1) a.cache b.cache (λ c has. elim (down_cases left turn c has) [
+      | inr there ↦ down_last left 1 c there
+      | inl two ↦
+          let from = two.1 in
+          let bounded = may.bounded in let ordered = may.ordered in let some = may.some in
+          let holder = table_of-code (Data (left - 1)) (omega arith) in
+          down_last left 1 c (subst (Contains (codes_on (way_to (last_table left)))) (sym two.0) (codes_on-two (last_table left) (omega arith) holder))
+    ]) h.takes;
     gone = record {
       tables = λ x is low from past. elim (cases_lt (code_of x) turn) [
         | inr there ↦ h.gone.tables x is low there past
@@ -411,7 +482,7 @@ module _ (a : Parts) (number left blocks : ℕ) (may : MayDropAll a number left 
   }
 
   -- ---- the data blocks whose addresses stand in the record go last
-  module _ (b : Parts) (from direct : ℕ) (own : (k : ℕ) → k < 140 → (table_of (Data k) ≡ Record) ↔ ((from ≤ k) × (k < direct))) (zero_ : from ≡ 0)
+  module _ (b : Parts) (from direct : ℕ) (own : (k : ℕ) → k < FILE_BLOCKS → (table_of (Data k) ≡ Record) ↔ ((from ≤ k) × (k < direct))) (zero_ : from ≡ 0)
       (h : DropsDown number left 1 a b) where
     pub may_direct : MayClearBetween b number (min left direct) (min blocks direct)
     may_direct = record {
@@ -431,7 +502,10 @@ module _ (a : Parts) (number left blocks : ℕ) (may : MayDropAll a number left 
         record {
           staged = q.staged;
           rest = rest;
-          takes = λ key locked. h.takes key (q.only key locked);
+          takes = takes_part number (version_of a number) (down_codes left 1) (codes_on (way_to (last_table left))) a.cache c.cache (λ d has. elim (down_cases left 1 d has) [
+            | inr there ↦ there
+            | inl two ↦ let from = two.1 in absurd (omega arith)
+          ]) (λ key locked. h.takes key (q.only key locked));
           gone = each;
           data_same = λ n k apart. q.data_same n k (elim apart [
             | inl other ↦ inl other

@@ -1,13 +1,11 @@
 -- What holds the address of a block that waits.
-use Rattle.std.proofs.Common.{List, [], ap, inl, inr, refl, subst, sym, ℕ, ◌+◌, ◌-◌, ◌<◌, ◌∙◌, ◌∷◌, ◌≡◌, ◌≢◌, ◌≤◌}
-use Rattle.std.proofs.lemmas.Bool.{cases_lt}
+use Rattle.std.proofs.Common.{List, [], ap, subst, sym, ℕ, ◌∙◌, ◌∷◌, ◌≡◌, ◌≢◌}
 use Rattle.lfs_cache.specs.Contents.{Contents, IsLocked}
-use Rattle.lfs_bmap.specs.declared.blocks.FileBlock.TheVariants.{Single}
-use Rattle.lfs_bmap.specs.Ways.{code_at, data_way, way_of}
-use Rattle.lfs_bmap.proofs.WayLemmas.{data_way-direct, data_way-single, way_of-code_of, way_of-data, way_of-zero}
+use Rattle.lfs_bmap.specs.Ways.{code_at, way_of}
+use Rattle.lfs_bmap.proofs.WayLemmas.{way_of-code_of, way_of-zero}
 use Rattle.lfs_staging.specs.Store.{HolderWaits, IsBlockCode}
 use Rattle.lfs_staging.specs.View.{key_of, tree_of, version_of}
-use Rattle.lfs_staging.proofs.SettingLemmas.{at_way, holder_locked, holder_waits}
+use Rattle.lfs_staging.proofs.SettingLemmas.{holder_locked, holder_waits}
 use Rattle.lfs_staging.proofs.ViewLemmas.{code_at-way_to, way_to-some}
 use Rattle.lfs_bmap.specs.declared.blocks.FileBlock.{FileBlock}
 use Rattle.lfs_bmap.specs.Blocks.{IsFileBlock, code_of, table_of, way_to}
@@ -21,20 +19,6 @@ pub holder_kept : (c d : Contents) (number version : ℕ) (up : List ℕ) → ((
     → HolderWaits c number version up → HolderWaits d number version up
 holder_kept c d number version [] more h = tt
 holder_kept c d number version (i ∷ up) more h = more (code_at (i ∷ up)) h
-
--- that of the single indirect block is the record
-pub holder_single : (c : Contents) (number version i : ℕ) (up : List ℕ) → way_of 1 ≡ i ∷ up → HolderWaits c number version up
-holder_single c number version i up e = at_way (λ i up. HolderWaits c number version up) (12 ∷ []) 12 [] refl tt i up (sym (way_of-code_of Single tt) ∙ e)
-
--- that of a data block the record, or the single indirect block
-pub holder_data : (c : Contents) (number version index : ℕ) → index < 140 → (12 ≤ index → IsLocked (key_of number version 1) c)
-    → (i : ℕ) (up : List ℕ) → way_of (131 + index) ≡ i ∷ up → HolderWaits c number version up
-holder_data c number version index low single i up e =
-    elim (cases_lt index 12) [
-      | inl direct ↦ at_way (λ i up. HolderWaits c number version up) (data_way index) index [] (data_way-direct index direct) tt i up (sym (way_of-data index) ∙ e)
-      | inr past ↦ at_way (λ i up. HolderWaits c number version up) (data_way index) (index - 12) (12 ∷ []) (data_way-single index past low)
-          (subst (λ code. IsLocked (key_of number version code) c) (sym (code_at-way_to Single)) (single past)) i up (sym (way_of-data index) ∙ e)
-    ]
 
 -- what holds the address of a block, where it isn't the record, has a code of its own
 pub holder_coded : (block : FileBlock) → IsFileBlock block → (i : ℕ) (up : List ℕ) → way_to block ≡ i ∷ up → up ≢ [] → IsBlockCode (code_at up)

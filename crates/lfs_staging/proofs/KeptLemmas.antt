@@ -45,6 +45,7 @@ use Rattle.lfs_staging.proofs.WaitingLemmas.{all_without, length-rest, once_stag
 use Rattle.lfs_staging.proofs.TakenLemmas.{block_room, block_takes, takes_none}
 use Rattle.lfs_bmap.proofs.HolderLemmas.{codes_on-below, table_of-under, table_of-way}
 use Rattle.std.specs.List.{Contains}
+use Rattle.lfs_types.specs.declared.limits.TheConstants.{FILE_BLOCKS}
 use Rattle.lfs_cache.specs.declared.cache.TheConstants.{LOCKED_LIMIT}
 
 -- each block that waits lies within the size of its file
@@ -307,7 +308,7 @@ table_staged p number t formed locked =
     }
 
 -- ---- a data block waits
-module _ (old new : Parts) (number index : ℕ) (bytes : List ℕ) (low : index < 140) (h : StagesBlock number (Data index) bytes old new) where
+module _ (old new : Parts) (number index : ℕ) (bytes : List ℕ) (low : index < FILE_BLOCKS) (h : StagesBlock number (Data index) bytes old new) where
   staged_way : Stages (tree_of old number) (tree_of new number) (way_of (131 + index)) bytes
   staged_way = subst (λ w. Stages (tree_of old number) (tree_of new number) w bytes) (sym (way_of-data index)) h.staged
 
@@ -317,7 +318,7 @@ module _ (old new : Parts) (number index : ℕ) (bytes : List ℕ) (low : index 
       ∙ staged_bytes (tree_of old number) (tree_of new number) (way_of (131 + index)) bytes (way_of-known (131 + index) (omega arith)) (data_leaf (131 + index) (omega arith)) staged_way
 
   data_other : (m : ℕ) → m ≢ index → data_block (tree_of new number) m ≡ data_block (tree_of old number) m
-  data_other m other = elim (cases_lt m 140) [
+  data_other m other = elim (cases_lt m FILE_BLOCKS) [
     | inl inside ↦
         data_block-read (tree_of new number) m inside
         ∙ staged_others (tree_of old number) (tree_of new number) (way_of (131 + index)) bytes (way_of-known (131 + index) (omega arith)) (data_leaf (131 + index) (omega arith)) staged_way
@@ -469,7 +470,7 @@ table_parents old new number block h = record {
 }
 
 -- ---- and the data block
-pub staged_data : (old between new : Parts) (number index : ℕ) (bytes : List ℕ) → index < 140 → StagesParents number (Data index) old between
+pub staged_data : (old between new : Parts) (number index : ℕ) (bytes : List ℕ) → index < FILE_BLOCKS → StagesParents number (Data index) old between
     → StagesBlock number (Data index) bytes between new → StagesData number index bytes old new
 staged_data old between new number index bytes low h b = record {
   log = b.log ∙ h.same.log;
@@ -483,7 +484,7 @@ staged_data old between new number index bytes low h b = record {
 }
 
 -- another block of the file may wait
-pub data_again : (old between new : Parts) (v : Inode) (index : ℕ) (bytes : List ℕ) → index < 140 → MayStage old v → StagesParents v.number (Data index) old between
+pub data_again : (old between new : Parts) (v : Inode) (index : ℕ) (bytes : List ℕ) → index < FILE_BLOCKS → MayStage old v → StagesParents v.number (Data index) old between
     → StagesBlock v.number (Data index) bytes between new → length bytes ≡ 512 → IsZeroPast v.size index bytes → MayStage new v
 data_again old between new v index bytes low may h b whole zeros =
     let present = present_kept old between v.number v.version h.same.log (may_present old v may) in
@@ -528,7 +529,7 @@ taken_within old new v codes records version has inside takes was n block f is c
       | inr before ↦ was n block f is_old can (subst (λ m. IsLocked (key_of n m (code_of block)) old.cache) (version n) before)
     ]
 
-pub data_within : (old between new : Parts) (v : Inode) (index : ℕ) (bytes : List ℕ) → index < 140 → record_of old v.number ≡ Some (fields_of v) → index < block_count v.size
+pub data_within : (old between new : Parts) (v : Inode) (index : ℕ) (bytes : List ℕ) → index < FILE_BLOCKS → record_of old v.number ≡ Some (fields_of v) → index < block_count v.size
     → StagesParents v.number (Data index) old between → StagesBlock v.number (Data index) bytes between new → AllWithin old → AllWithin new
 data_within old between new v index bytes low has within h b =
     let moved = staged_data old between new v.number index bytes low h b in
@@ -542,7 +543,7 @@ few_records new number others is few =
     let same : length (without number new.waiting) ≡ length others = ap (λ (vs : List Inode). length vs) is in
     omega arith
 
-pub data_kept : (old between new : Parts) (v : Inode) (index : ℕ) (bytes : List ℕ) → index < 140 → index < block_count v.size → MayStage old v
+pub data_kept : (old between new : Parts) (v : Inode) (index : ℕ) (bytes : List ℕ) → index < FILE_BLOCKS → index < block_count v.size → MayStage old v
     → StagesParents v.number (Data index) old between → StagesBlock v.number (Data index) bytes between new → MayStage new v
     → (spare : ℕ) → IsStaged old spare → IsStaged new spare
 data_kept old between new v index bytes low within may h b again spare staged =

@@ -4,6 +4,7 @@ use Rattle.std.specs.Prelude.{slice_index}
 use Rattle.std.specs.List.{Contains}
 use Rattle.std.proofs.lemmas.List.Elements.{Contains-append_left, Contains-append_right}
 use Rattle.std.proofs.lemmas.Bool.{cases_eq, cases_lt}
+use Rattle.lfs_types.specs.declared.limits.TheConstants.{FILE_BLOCKS}
 use Rattle.lfs_inodes.specs.declared.inode.Inode.{Inode}
 use Rattle.lfs_inodes.specs.Reading.{fields_of}
 use Rattle.lfs_bmap.specs.Pieces.{IsPadded, IsPut, Touches}
@@ -117,7 +118,7 @@ table_codes-length first last =
     let two = codes_on-long (way_to (table_of (Data first))) in
     omega arith
 
-table_codes-has : (first last index c : ℕ) → index < 140 → first ≤ index → index ≤ last → Contains (codes_on (way_to (table_of (Data index)))) c → Contains (table_codes first last) c
+table_codes-has : (first last index c : ℕ) → index < FILE_BLOCKS → first ≤ index → index ≤ last → Contains (codes_on (way_to (table_of (Data index)))) c → Contains (table_codes first last) c
 unfolding table_codes
 table_codes-has first last index c inside from to has =
     let low = code_of (table_of (Data first)) in
@@ -142,7 +143,7 @@ put_codes-length start count =
     let second = table_codes-length (start / 512) ((start + count - 1) / 512) in
     omega arith
 
-put_codes-has : (start count index c : ℕ) → index < 140 → start / 512 ≤ index → index < (start + count - 1) / 512 + 1 → 0 < count → Contains (codes_on (way_to (Data index))) c
+put_codes-has : (start count index c : ℕ) → index < FILE_BLOCKS → start / 512 ≤ index → index < (start + count - 1) / 512 + 1 → 0 < count → Contains (codes_on (way_to (Data index))) c
     → Contains (put_codes start count) c
 unfolding put_codes
 put_codes-has start count index c inside from to some has =
@@ -159,7 +160,7 @@ takes_first p number codes = record { takes = takes_none number (version_of p nu
 
 -- and one more block
 pub takes_more : (a b c : Parts) (number start count index : ℕ) → TakesBelow number (put_codes start count) a b → b.log ≡ a.log → TakesFrames number (Data index) b c
-    → index < 140 → start / 512 ≤ index → index < (start + count - 1) / 512 + 1 → 0 < count → TakesBelow number (put_codes start count) a c
+    → index < FILE_BLOCKS → start / 512 ≤ index → index < (start + count - 1) / 512 + 1 → 0 < count → TakesBelow number (put_codes start count) a c
 takes_more a b c number start count index p log q inside from to some = record {
   takes = takes_both number (version_of a number) (put_codes start count) a.cache b.cache c.cache p.takes
       (takes_version number (version_of b number) (version_of a number) (put_codes start count) b.cache c.cache (version-same a b number log)
@@ -168,7 +169,7 @@ takes_more a b c number start count index p log q inside from to some = record {
 }
 
 -- there are frames for one more where there are for all
-pub takes_room : (old p : Parts) (number start count index : ℕ) → index < 140 → start / 512 ≤ index → index < (start + count - 1) / 512 + 1 → 0 < count
+pub takes_room : (old p : Parts) (number start count index : ℕ) → index < FILE_BLOCKS → start / 512 ≤ index → index < (start + count - 1) / 512 + 1 → 0 < count
     → length old.cache.locked + frames_of_put start count ≤ 24 → p.log ≡ old.log → TakesBelow number (put_codes start count) old p → HasFrames p number (codes_on (way_to (Data index)))
 takes_room old p number start count index inside from to some room log takes =
     let many = put_codes-length start count in

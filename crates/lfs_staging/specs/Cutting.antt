@@ -1,5 +1,5 @@
 -- The length of a file is set.
-use Rattle.std.specs.Prelude.{◌≡◌, ◌≢◌, ℕ, ◌+◌, ◌-◌, ◌<◌, ◌≤◌, ◌⊎◌, List, ◌∷◌, length, Some, IsSome, false, true}
+use Rattle.std.specs.Prelude.{◌≡◌, ◌≢◌, ℕ, ◌+◌, ◌-◌, ◌<◌, ◌≤◌, ◌⊎◌, List, [], ◌∷◌, ◌++◌, if◌then◌else◌, length, nat_lt, Some, IsSome, false, true}
 use Rattle.std.specs.FinMap as map
 use Rattle.lfs_types.specs.Changes.{changed_at}
 use Rattle.lfs_types.specs.Splicing.{resized}
@@ -29,11 +29,6 @@ use Rattle.lfs_staging.specs.Waiting.{without}
 -- the content with a file cut, or with zeros added to it, to have this many bytes
 abbrev pub with_length : ℕ → ℕ → Content → Content
 with_length number len c = changed_at (map.get c number) number (λ f. record f { bytes = resized f.bytes len }) c
-
--- the codes of the blocks that a cut has wait while what a block leads to goes: the last data block that is left, the block
--- and its parents
-abbrev pub cut_codes : ℕ → FileBlock → List ℕ
-cut_codes left table = (FIRST_DATA_CODE + (left - 1)) ∷ codes_on (way_to table)
 
 -- The block at the end of a way of a number has no address, and doesn't wait.
 pub record IsGone (p : Parts) (number : ℕ) (way : List ℕ) : Type 0 where
@@ -135,12 +130,22 @@ pub record DropsTable (number : ℕ) (table : FileBlock) (left : ℕ) (old new :
 abbrev pub last_table : ℕ → FileBlock
 last_table left = table_of (Data (left - 1))
 
+-- The codes of the blocks that a cut has wait while what a block leads to goes: the last data block that is left and what holds
+-- its address, the block and its parents. What leads to that holder is among these.
+abbrev pub cut_codes : ℕ → FileBlock → List ℕ
+cut_codes left table = (FIRST_DATA_CODE + (left - 1)) ∷ code_of (last_table left) ∷ codes_on (way_to table)
+
+-- The codes of the blocks that it has wait when the turn of the block with a code is over: those that lead to the last data
+-- block that is left, and the double indirect block, as long as its turn is to come.
+abbrev pub down_codes : ℕ → ℕ → List ℕ
+down_codes left turn = (if nat_lt 2 turn then 2 ∷ [] else []) ++ codes_on (way_to (last_table left))
+
 -- The blocks of a file that hold addresses were dropped, from the last down to the one with a code. What waits more leads
--- to the last data block that is left.
+-- to the last data block that is left, or to blocks whose turn is to come.
 pub record DropsDown (number left turn : ℕ) (old new : Parts) : Type 0 where
   pub staged : IsStaged new 0
   pub rest : KeepsRest number old new
-  pub takes : TakesOnly number (version_of old number) (codes_on (way_to (last_table left))) old.cache new.cache
+  pub takes : TakesOnly number (version_of old number) (down_codes left turn) old.cache new.cache
   pub gone : GoneDown new number left turn
   pub data_same : (n index : ℕ) → (n ≢ number) ⊎ (index < left) → data_block (tree_of new n) index ≡ data_block (tree_of old n) index
 

@@ -25,9 +25,9 @@ use lfs_cache::Key;
 use lfs_inodes::inode::Inode;
 use lfs_types::block::BLOCK_SIZE;
 
-/// The greatest number of frames that a cut takes while it goes on: for the last block that is left,
-/// and for what leads to the blocks that go.
-pub const CUT_FRAMES: usize = 2;
+/// The greatest number of frames that a cut takes while it goes on: for the last block that is left and
+/// what holds its address, and for what leads to the blocks that go.
+pub const CUT_FRAMES: usize = 4;
 
 impl Parts {
     /// Cuts a file in use, or adds zeros to it, so that it has this many bytes. The blocks past them

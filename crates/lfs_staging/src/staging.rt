@@ -68,20 +68,20 @@ impl Parts {
         self.stage_block(inode, block, bytes);
     }
 
-    /// Has the parents of a block wait, with what they have: the record of the file, and the block
-    /// that holds its address.
+    /// Has the parents of a block wait, with what they have: the record of the file, and the blocks
+    /// that lead from it to the block.
     pub fn stage_parents(&mut self, inode: &Inode, block: FileBlock)
         requires may { MayStage self.old inode.now }
         requires block { IsFileBlock block }
         requires room { HasFrames self.old inode.now.number (codes_on (way_to (table_of block))) }
         ensures { StagesParents inode.now.number block self.old self.new }
     {
-        self.stage_own_record(inode);
         let table = block.table();
         match table {
-            FileBlock::Record => {}
+            FileBlock::Record => self.stage_own_record(inode),
             FileBlock::Single | FileBlock::Double | FileBlock::Child(_) | FileBlock::Data(_) => {
-                self.stage_table(inode, table)
+                self.stage_parents(inode, table);
+                self.stage_table(inode, table);
             }
         }
     }

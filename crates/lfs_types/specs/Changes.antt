@@ -28,8 +28,8 @@ applied (change ∷ changes) c = applied changes (changed change c)
 
 -- a file of this kind may have this many bytes
 abbrev pub IsLength : Kind → ℕ → Type 0
-IsLength Regular len = len ≤ 71680
-IsLength Directory len = (len ≤ 71680) × (len % 512 ≡ 0)
+IsLength Regular len = len ≤ 8460288
+IsLength Directory len = (len ≤ 8460288) × (len % 512 ≡ 0)
 
 -- a change may be asked for, of a store with this many inode numbers
 abbrev pub CanChange : ℕ → Change → Content → Type 0

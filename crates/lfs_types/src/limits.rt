@@ -28,10 +28,10 @@ pub const ROOT_INODE: u32 = 2;
 pub const FIRST_INODE: u32 = 4;
 
 /// The greatest number of blocks of a file or a directory.
-pub const FILE_BLOCKS: u32 = 140;
+pub const FILE_BLOCKS: u32 = 16_524;
 
 /// The greatest number of bytes of a file or a directory.
-pub const FILE_BYTES: u64 = 71_680;
+pub const FILE_BYTES: u64 = 8_460_288;
 
 /// The greatest number of bytes that one Read serves and one Write brings.
 pub const TRANSFER_BYTES: usize = 4_096;

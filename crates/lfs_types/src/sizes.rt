@@ -24,8 +24,8 @@ pub fn sizes()
     ensures most_frames { MOST_FRAMES ≡ 1024 }
     ensures root { ROOT_INODE ≡ 2 }
     ensures first_inode { FIRST_INODE ≡ 4 }
-    ensures blocks { FILE_BLOCKS ≡ 140 }
-    ensures bytes { FILE_BYTES ≡ 71680 }
+    ensures blocks { FILE_BLOCKS ≡ 16524 }
+    ensures bytes { FILE_BYTES ≡ 8460288 }
     ensures infos { INFO_LIMIT ≡ 248 }
     ensures marks { MARK_LIMIT ≡ 8 }
 {}

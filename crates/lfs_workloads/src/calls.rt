@@ -45,6 +45,7 @@ fn request_of(alloc: Global, scale: &Scale, step: Step) -> Result<Request> {
             place,
             bytes: payload_of(alloc, size)?,
         },
+        Verb::SetLength(len) => Request::SetLength { path, len },
         Verb::List => Request::List { path },
         Verb::Create => Request::Create {
             path,

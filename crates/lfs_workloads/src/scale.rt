@@ -2,11 +2,10 @@
 
 ghost use Rattle.std.specs.Prelude.{◌≤◌, ◌<◌, ◌*◌};
 
+use lfs_types::limits::MOST_SEGMENTS;
+
 /// The most calls of a run before they grow.
 pub const CALLS_MAX: u32 = 65_536;
-
-/// The most bytes of a file.
-const BYTES_MAX: u32 = 71_680;
 
 /// How many times as large a run is as the first of its row.
 #[derive(Clone, Copy)]
@@ -34,6 +33,18 @@ impl Factor {
             Factor::Sixteen => 16,
         }
     }
+
+    /// How many bytes a large file has: as many as stand in its record and the single indirect block, as many as fill
+    /// both, and as many as take most of the double indirect block.
+    fn length(self) -> u32
+        ensures { 0 < result }
+    {
+        match self {
+            Factor::One => 10_000,
+            Factor::Four => 71_680,
+            Factor::Sixteen => 8_000_000,
+        }
+    }
 }
 
 /// What grows along a row of the table.
@@ -55,9 +66,14 @@ pub enum Growth {
     Frames,
     /// How many segments the log has.
     Segments,
+    /// How many bytes a large file has: 10,000, 71,680 and 8,000,000.
+    Length,
 }
 
 impl Growth {
+    /// What grows for calls on a large file.
+    pub const OF_LARGE: [Growth; 1] = [Growth::Length];
+
     /// What may grow in a volume and its calls.
     pub const OF_VOLUMES: [Growth; 6] = [
         Growth::Calls,
@@ -93,6 +109,7 @@ impl Growth {
             Growth::Entries => "entries",
             Growth::Frames => "frames",
             Growth::Segments => "segments",
+            Growth::Length => "length",
         }
     }
 }
@@ -128,7 +145,7 @@ pub struct Scale {
     pub names: u32,
     /// How many components the path of each of them has: 2 to 112.
     pub components: u32,
-    /// How many bytes the first of them has: 10,000 to 71,680.
+    /// How many bytes the first of them has: 10,000 to 160,000, or up to 8,000,000 where its length grows.
     pub bytes: u32,
     /// How many inode numbers the store has: 256 to 4,096.
     pub inodes: u32,
@@ -156,11 +173,24 @@ impl Scale {
             calls: grown.of(Growth::Calls, calls),
             names: grown.of(Growth::Names, 15),
             components: grown.of(Growth::Components, components),
-            bytes: grown.of(Growth::Bytes, 10_000).min(BYTES_MAX),
+            bytes: grown.of(Growth::Bytes, 10_000),
             inodes: grown.of(Growth::Inodes, 256),
             entries: grown.of(Growth::Entries, 1024),
             frames: grown.of(Growth::Frames, 32),
             segments: grown.of(Growth::Segments, 64),
+        }
+    }
+
+    /// The scale of so many calls on a large file, over as large a log as there may be.
+    pub fn large(calls: u32, components: u32, factor: Factor) -> Scale
+        requires few_calls { calls ≤ 65536 }
+        requires few_components { components ≤ 7 }
+    {
+        let scale = Scale::grown(calls, components, Growth::Length, factor);
+        Scale {
+            bytes: factor.length(),
+            segments: MOST_SEGMENTS,
+            ..scale
         }
     }
 
@@ -175,6 +205,7 @@ impl Scale {
             Growth::Entries => self.entries,
             Growth::Frames => self.frames,
             Growth::Segments => self.segments,
+            Growth::Length => self.bytes,
         }
     }
 }

@@ -51,6 +51,7 @@ impl Series {
             Series::Files => scale.names,
             Series::Bytes => scale.bytes / LARGE + 1,
             Series::Entries => scale.entries,
+            Series::Timed(UserLoad::LargeCut) => 1,
             Series::Timed(_) => scale.calls,
             Series::Session(_) => each_of(scale),
             Series::Lone => each_of(scale) * SESSIONS,

@@ -37,6 +37,8 @@ pub enum Verb {
     Read(u64, u32),
     /// A Write at this place of so many bytes.
     Write(Place, u32),
+    /// A SetLength to so many bytes.
+    SetLength(u64),
     /// A List.
     List,
     /// A Create.

@@ -5,11 +5,15 @@ ghost use Rattle.std.specs.Prelude.{◌<◌};
 use crate::scale::Scale;
 use crate::step::{STRANGER, Spot, Step, Verb};
 use crate::workload::UserLoad;
+use lfs_types::block::BLOCK_SIZE;
 use lfs_types::limits::TRANSFER_BYTES;
 use lfs_types::request::Place;
 
 /// How many bytes a small Write puts.
 pub const SMALL: u32 = 16;
+
+/// How many bytes a Write at the end of a large file puts.
+const BLOCK: u32 = BLOCK_SIZE as u32;
 
 /// The most bytes that a call reads or writes.
 pub const LARGE: u32 = TRANSFER_BYTES as u32;
@@ -37,6 +41,10 @@ pub fn timed_step(scale: &Scale, load: UserLoad, index: u32) -> Step {
         UserLoad::ListLarge => (last_directory(scale), Verb::List),
         UserLoad::Deny => return denied_step(scale, index),
         UserLoad::Mixed => return mixed_step(scale, index),
+        UserLoad::LargeWrite if is_even => (FIRST, last_write(scale)),
+        UserLoad::LargeWrite => (Spot::Root, Verb::Sync),
+        UserLoad::LargeRead => (FIRST, last_read(scale)),
+        UserLoad::LargeCut => (FIRST, Verb::SetLength(0)),
     };
     Step::new(spot, verb)
 }
@@ -75,6 +83,17 @@ pub fn write(scale: &Scale, index: u32, size: u32) -> Verb
     requires { 0 < size }
 {
     Verb::Write(Place::At(offset(scale, index, size)), size)
+}
+
+/// A Write of the last 512 bytes of the file.
+fn last_write(scale: &Scale) -> Verb {
+    let off = scale.bytes.saturating_sub(BLOCK);
+    Verb::Write(Place::At(u64::from(off)), BLOCK)
+}
+
+/// A Read of the last 4,096 bytes of the file.
+fn last_read(scale: &Scale) -> Verb {
+    Verb::Read(u64::from(scale.bytes.saturating_sub(LARGE)), LARGE)
 }
 
 /// Where the bytes begin whose turn it is. They go through the file again and again, and never beyond its end.

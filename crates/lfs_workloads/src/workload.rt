@@ -26,6 +26,12 @@ pub enum UserLoad {
     Deny,
     /// Eight calls in turn: Stat, Read, Write, Create, Rename, List, a denied Write and Unlink.
     Mixed,
+    /// A Write of the last block of a large file and a Sync by turns, so that the block and all that lead to it are written.
+    LargeWrite,
+    /// A Read of the last 4,096 bytes of a large file.
+    LargeRead,
+    /// A large file is cut to no bytes, once.
+    LargeCut,
 }
 
 /// The name by which calls of sessions on threads are asked for.
@@ -36,6 +42,8 @@ pub const SESSIONS: &str = "sessions";
 pub enum Workload {
     /// Calls of users.
     Users(UserLoad),
+    /// Calls of users on a large file.
+    LargeFile,
     /// Moves of frames to the front of a queue.
     Frames,
     /// Look-ups of keys that the cache holds.
@@ -46,7 +54,7 @@ pub enum Workload {
 
 impl Workload {
     /// The names by which workloads are asked for, in the order of the table.
-    pub const NAMES: [&'static str; 13] = [
+    pub const NAMES: [&'static str; 14] = [
         "stat-deep",
         "read-hot",
         "write-4k",
@@ -57,13 +65,14 @@ impl Workload {
         "list-large",
         "deny",
         "mixed",
+        "large-file",
         "frames",
         "look-ups",
         SESSIONS,
     ];
 
     /// The workload of each of the names.
-    const ALL: [Workload; 13] = [
+    const ALL: [Workload; 14] = [
         Workload::Users(UserLoad::StatDeep),
         Workload::Users(UserLoad::ReadHot),
         Workload::Users(UserLoad::Write4k),
@@ -74,6 +83,7 @@ impl Workload {
         Workload::Users(UserLoad::ListLarge),
         Workload::Users(UserLoad::Deny),
         Workload::Users(UserLoad::Mixed),
+        Workload::LargeFile,
         Workload::Frames,
         Workload::LookUps,
         Workload::Sessions,
@@ -91,6 +101,21 @@ impl Workload {
 }
 
 impl UserLoad {
+    /// The calls on a large file, by the names of their rows.
+    pub const LARGE: [(&'static str, UserLoad); 3] = [
+        ("large-file write", UserLoad::LargeWrite),
+        ("large-file read", UserLoad::LargeRead),
+        ("large-file cut", UserLoad::LargeCut),
+    ];
+
+    /// Whether its calls are on a large file.
+    pub fn is_large(self) -> bool {
+        matches!(
+            self,
+            UserLoad::LargeWrite | UserLoad::LargeRead | UserLoad::LargeCut
+        )
+    }
+
     /// How many components its paths have before they grow.
     pub fn components(self) -> u32
         ensures { result ≤ 7 }

@@ -27,10 +27,10 @@ const EXAMPLE_FIELDS: [u8; 40] = [
     0x00, 0x00, 0x00, 0x09, // first address
 ];
 
-/// The fields of the first version's record of directory 4095, version 2, mode 7777, each known flag,
-/// size 71680, and its addresses.
-const FULL_FIELDS: [u8; 88] = [
-    0x00, 0x01, // record version
+/// The fields of the record of directory 4095, version 2, mode 7777, each known flag, the greatest size,
+/// and its addresses.
+const FULL_FIELDS: [u8; 92] = [
+    0x00, 0x02, // record version
     0x00, 0x02, // directory
     0x00, 0x00, 0x0f, 0xff, // number
     0x00, 0x00, 0x00, 0x02, // version
@@ -38,12 +38,13 @@ const FULL_FIELDS: [u8; 88] = [
     0x00, 0x00, 0x00, 0x00, // group
     0x0f, 0xff, 0x00, 0x00, // mode
     0x00, 0x07, 0x00, 0x07, // flags
-    0x00, 0x00, 0x00, 0x00, 0x00, 0x01, 0x18, 0x00, // size
+    0x00, 0x00, 0x00, 0x00, 0x00, 0x81, 0x18, 0x00, // size
     0x00, 0x00, 0x00, 0x01, 0x00, 0x00, 0x00, 0x02, 0x00, 0x00, 0x00, 0x03, // addresses 0 to 2
     0x00, 0x00, 0x00, 0x04, 0x00, 0x00, 0x00, 0x05, 0x00, 0x00, 0x00, 0x06, // 3 to 5
     0x00, 0x00, 0x00, 0x07, 0x00, 0x00, 0x00, 0x08, 0x00, 0x00, 0x00, 0x09, // 6 to 8
     0x00, 0x00, 0x00, 0x0a, 0x00, 0x00, 0x00, 0x0b, 0x00, 0x00, 0xff, 0xff, // 9 to 11
     0x00, 0x00, 0x00, 0x14, // single indirect block
+    0x00, 0x00, 0xff, 0xfe, // double indirect block
 ];
 
 /// The record that begins with these bytes and goes on with zeros.
@@ -96,7 +97,7 @@ fn example() -> Inode
 
 /// A directory of the greatest size, with all addresses of its record.
 fn full() -> Inode
-    ensures { result.size ≡ 71680 }
+    ensures { result.size ≡ 8460288 }
 {
     Inode {
         kind: Kind::Directory,
@@ -106,10 +107,10 @@ fn full() -> Inode
         group: 0,
         mode: mode(0o7777),
         flags: flags(0x7_0007),
-        size: 71680,
+        size: 8_460_288,
         direct: [1, 2, 3, 4, 5, 6, 7, 8, 9, 10, 11, 65535],
         single: 20,
-        double: 0,
+        double: 65534,
     }
 }
 
@@ -122,9 +123,12 @@ fn full_indirect() -> Block {
     block
 }
 
-/// A child of the double indirect block.
+/// A child of the double indirect block, whose first address is 40 and whose last is 771.
 fn child() -> Block {
-    [7; 512]
+    let mut block = [7; 512];
+    block[..4].copy_from_slice(&[0, 0, 0, 40]);
+    block[508..].copy_from_slice(&[0, 0, 3, 3]);
+    block
 }
 
 /// The addresses of the blocks of `full`.
@@ -157,7 +161,19 @@ fn the_example_both_ways(rt: HostRuntime) {
 
 #[test]
 fn the_greatest_values(rt: HostRuntime) {
-    expect_both_ways(&rt, &record_of(&FULL_FIELDS), &full());
+    let record = record_of(&FULL_FIELDS);
+    expect_bytes(&rt, &full().encode(), &record);
+    expect_inode(&rt, &record, Some(full()));
+}
+
+/// In a record of the first version no double indirect block has a place.
+#[test]
+fn the_first_version_has_no_double_indirect_block(rt: HostRuntime) {
+    let mut record = record_of(&FULL_FIELDS);
+    record[1] = 1;
+    expect_inode(&rt, &record, None);
+    record[88..92].fill(0);
+    expect_both_ways(&rt, &record, &full().with_double(0));
 }
 
 /// A file of one block has no double indirect block.
@@ -190,18 +206,29 @@ fn changed_records(rt: &impl Abort, record: &[u8; 128]) -> u32 {
 
 /// Of the changes of one byte of the example these stay records: one of the record's version, 267 of
 /// the number, 1,019 of the version, 1,020 each of owner and group, 270 of the mode, 14 of the flags,
-/// 510 of the size and 510 of the first address.
+/// 638 of the size and 510 of the first address.
 #[test]
 fn each_change_of_one_byte(rt: HostRuntime) {
-    expect_eq(&rt, changed_records(&rt, &example_record()), 4631);
+    expect_eq(&rt, changed_records(&rt, &example_record()), 4759);
     let second = second_version(&example_record());
-    expect_eq(&rt, changed_records(&rt, &second), 4631);
+    expect_eq(&rt, changed_records(&rt, &second), 4759);
 }
 
 #[test]
 fn addresses_at_the_ends(rt: HostRuntime) {
     let (inode, indirect) = (full(), full_indirect());
-    for (index, wanted) in [(0, 1), (11, 65535), (12, 30), (13, 0), (139, 515)] {
+    let places = [
+        (0, 1),
+        (11, 65535),
+        (12, 30),
+        (13, 0),
+        (139, 515),
+        (140, 40),
+        (267, 771),
+        (268, 40),
+        (16_523, 771),
+    ];
+    for (index, wanted) in places {
         expect_eq(&rt, address(&inode, &indirect, &child(), index), wanted);
     }
     addresses_are_replaced(&rt, &inode, &indirect);
@@ -222,6 +249,17 @@ fn expect_replaced(
     expect_bytes(rt, &kept, &child());
 }
 
+/// Asserts what the child becomes once the address of a block beneath it is replaced; all else stays.
+fn expect_child_replaced(rt: &impl Abort, (index, address): (u32, u32), place: usize) {
+    assert!(rt; index >= 140 && index < 16_524 && address < 65_536 && place < 128);
+    let mut changed = child();
+    changed[4 * place..4 * place + 4].copy_from_slice(&address.to_be_bytes());
+    let (inode, block, kept) = with_address(&full(), &full_indirect(), &child(), index, address);
+    expect_addresses(rt, &inode, &FULL, 20);
+    expect_bytes(rt, &block, &full_indirect());
+    expect_bytes(rt, &kept, &changed);
+}
+
 /// Asserts what is replaced in `full` and its indirect block.
 fn addresses_are_replaced(rt: &impl Abort, inode: &Inode, indirect: &Block) {
     let direct = [600, 2, 3, 4, 5, 6, 7, 8, 9, 10, 11, 65535];
@@ -234,6 +272,9 @@ fn addresses_are_replaced(rt: &impl Abort, inode: &Inode, indirect: &Block) {
     let mut changed = *indirect;
     changed[504..].copy_from_slice(&[0, 0, 0, 0, 0, 0, 0xff, 0xff]);
     expect_replaced(rt, (139, 65535), &inode.direct, &changed);
+    expect_child_replaced(rt, (140, 65535), 0);
+    expect_child_replaced(rt, (269, 0), 1);
+    expect_child_replaced(rt, (16_523, 256), 127);
 }
 
 /// Asserts what inodes the slots of a block have.
@@ -300,20 +341,24 @@ fn the_addresses_of_a_record_are_replaced(rt: HostRuntime) {
     let inode = full().with_direct(11, 600).with_single(0);
     let direct = [1, 2, 3, 4, 5, 6, 7, 8, 9, 10, 11, 600];
     expect_addresses(&rt, &inode, &direct, 0);
-    let most = full().with_single(65535).with_double(0);
+    let most = full().with_single(65535).with_double(600);
     expect_addresses(&rt, &most, &full().direct, 65535);
-    expect_eq(&rt, double_address(&most), 0);
+    expect_eq(&rt, double_address(&most), 600);
 }
 
 #[test]
 fn the_addresses_of_a_record_by_place(rt: HostRuntime) {
     let inode = full();
-    for (place, wanted) in [(0, 1), (11, 65535), (12, 20), (13, 0)] {
+    for (place, wanted) in [(0, 1), (11, 65535), (12, 20), (13, 65534)] {
         expect_eq(&rt, root_address(&inode, place), wanted);
     }
-    let changed = inode.with_root(0, 600).with_root(12, 65535);
+    let changed = inode
+        .with_root(0, 600)
+        .with_root(12, 65535)
+        .with_root(13, 7);
     let direct = [600, 2, 3, 4, 5, 6, 7, 8, 9, 10, 11, 65535];
     expect_addresses(&rt, &changed, &direct, 65535);
+    expect_eq(&rt, double_address(&changed), 7);
 }
 
 #[test]
@@ -330,7 +375,7 @@ fn the_entries_of_an_indirect_block(rt: HostRuntime) {
 
 /// Asserts how many blocks an empty file takes that grows to this size.
 fn expect_blocks(rt: &impl Abort, size: u64, blocks: u32) {
-    assert!(rt; size <= 71_680);
+    assert!(rt; size <= 8_460_288);
     let empty = Inode::new(4, 1, &shown(Kind::File));
     expect_eq(
         rt,
@@ -347,6 +392,8 @@ fn a_size_takes_blocks(rt: HostRuntime) {
     expect_blocks(&rt, 6144, 12);
     expect_blocks(&rt, 6145, 13);
     expect_blocks(&rt, 71680, 140);
+    expect_blocks(&rt, 71681, 141);
+    expect_blocks(&rt, 8_460_288, 16_524);
 }
 
 /// Asserts the size and the addresses of an inode.
@@ -357,11 +404,14 @@ fn expect_sized(rt: &impl Abort, inode: &Inode, size: u64, direct: &[u32; 12], s
 
 #[test]
 fn an_inode_is_cut_and_grows(rt: HostRuntime) {
+    expect_eq(&rt, double_address(&full().cut(72_192)), 65534);
+    expect_eq(&rt, double_address(&full().cut(71680)), 0);
+    expect_sized(&rt, &full().cut(71680), 71680, &FULL, 20);
     expect_sized(&rt, &full().cut(6656), 6656, &FULL, 20);
     expect_sized(&rt, &full().cut(6144), 6144, &FULL, 0);
     let (first, cut) = ([1, 0, 0, 0, 0, 0, 0, 0, 0, 0, 0, 0], full().cut(512));
     expect_sized(&rt, &cut, 512, &first, 0);
-    expect_sized(&rt, &cut.grown(71680), 71680, &first, 0);
+    expect_sized(&rt, &cut.grown(8_460_288), 8_460_288, &first, 0);
     expect_addresses(&rt, &example().cut(1), &example().direct, 0);
     expect_bytes(&rt, &example().cut(0).encode()[28..], &[0; 100]);
 }

@@ -103,7 +103,7 @@ fn entries() -> [SummaryEntry; 5]
         SummaryEntry {
             number: 4,
             version: 2,
-            block: LogicalBlock::Data(139),
+            block: LogicalBlock::Data(16_523),
         },
         SummaryEntry {
             number: 4,
@@ -155,7 +155,7 @@ fn put_three(rt: &impl Abort, log: &mut Log) {
 /// Asserts what is to be found of the blocks and the records that were put: no other segment has any.
 fn put_are_found(rt: &impl Abort, log: &Log) {
     let wanted = [
-        info(4, 2, 139, 2),
+        info(4, 2, 16_523, 2),
         info(4, 2, 0x8000_0000, 3),
         info(4, 2, 0x8000_0001, 4),
         info(4, 2, 0x8000_0100, 5),

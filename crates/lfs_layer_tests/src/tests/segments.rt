@@ -34,7 +34,7 @@ const LAST: [u8; 28] = [
 
 /// The entry of a data block of file 4 in its first version.
 fn data(index: u32) -> SummaryEntry
-    requires { index < 140 }
+    requires { index < 16524 }
     ensures { IsEntry result }
 {
     SummaryEntry {
@@ -95,7 +95,8 @@ fn double_indirect_blocks_are_spelled_and_read(rt: HostRuntime) {
 #[test]
 fn each_kind_of_entry_is_spelled(rt: HostRuntime) {
     for (bytes, block) in [
-        ([0, 0, 0, 139], LogicalBlock::Data(139)),
+        ([0, 0, 0, 140], LogicalBlock::Data(140)),
+        ([0, 0, 0x40, 0x8b], LogicalBlock::Data(16_523)),
         ([0x80, 0, 0, 0], LogicalBlock::Single),
         ([0x80, 0, 0, 1], LogicalBlock::Double),
         ([0x80, 0, 1, 0], LogicalBlock::Child(0)),
@@ -106,14 +107,14 @@ fn each_kind_of_entry_is_spelled(rt: HostRuntime) {
         expect_eq(&rt, block.number(), number);
         expect_eq(&rt, LogicalBlock::from_number(number), Some(block));
     }
-    for number in [140, 0x8000_0002, 0x8000_00ff, 0x8000_0180] {
+    for number in [16_524, 0x8000_0002, 0x8000_00ff, 0x8000_0180] {
         expect_eq(&rt, LogicalBlock::from_number(number), None);
     }
 }
 
 #[test]
 fn a_loose_summary_is_none(rt: HostRuntime) {
-    for (place, byte) in [(11, 0), (11, 41), (15, 1), (27, 140), (511, 1)] {
+    for (place, byte) in [(11, 0), (11, 41), (15, 1), (26, 65), (511, 1)] {
         let mut block = block_of(&EXAMPLE);
         if place < 512 {
             block[place] = byte;
@@ -146,8 +147,8 @@ fn each_changed_byte_is_refused_or_kept(rt: HostRuntime) {
         }
     }
     // 512 bytes as they were; segment 3 and 255, offset 62, number 15 and 252, version three times 255
-    // and 254, logical block 139 and 1.
-    expect_eq(&rt, kept, 2258);
+    // and 254, logical block 255, 64 and 1.
+    expect_eq(&rt, kept, 2438);
 }
 
 /// The fault of a format with so many segments.
@@ -229,7 +230,7 @@ fn written(segments: &mut Segments) -> [u32; 4]
     requires room { 5 ≤ room_of segments.old }
     ensures { segments.new.segments ≡ segments.old.segments }
 {
-    let summary = segments.begin(&[data(0), data(139)]);
+    let summary = segments.begin(&[data(0), data(16_523)]);
     let first = segments.put(&[7; 512]);
     let second = segments.put(&[9; 512]);
     [summary, first, second, segments.begin(&[data(5)])]
@@ -259,7 +260,7 @@ fn partial_segments_follow_one_another(rt: HostRuntime) {
 
 #[test]
 fn forty_entries_fit_a_summary(rt: HostRuntime) {
-    let full = Summary::new(1023, 23, &[data(139); 40]);
+    let full = Summary::new(1023, 23, &[data(16_523); 40]);
     expect_summary(&rt, &full.encode(), &full);
-    assert!(rt; full.entries == [data(139); 40]);
+    assert!(rt; full.entries == [data(16_523); 40]);
 }

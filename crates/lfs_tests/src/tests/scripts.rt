@@ -5,7 +5,7 @@ mod arguments;
 mod counts;
 mod fakes;
 mod full;
-mod log;
+pub(super) mod log;
 mod passes;
 mod runs;
 mod status;

@@ -2,6 +2,7 @@
 
 mod cleaning;
 mod invented;
+mod large;
 mod run_steps_rows;
 mod threads;
 mod waiting;

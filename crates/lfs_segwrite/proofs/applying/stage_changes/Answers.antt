@@ -1,13 +1,13 @@
-use Rattle.std.proofs.Common.{◌+◌, drop, refl, sym, ap, ◌∙◌, subst, arith}
+use Rattle.std.proofs.Common.{◌+◌, drop, refl, sym, ap, ◌∙◌, arith}
 use Rattle.std.proofs.lemmas.List.{drop_all, length-drop}
 use Rattle.lfs_types.specs.Changes.{applied}
 use Rattle.lfs_staging.specs.Changing.{frames_of, records_of}
 use Rattle.lfs_staging.specs.Files.{content_of}
-use Rattle.lfs_segwrite.specs.Applying.{IsInReach, peak_of, versions_after}
+use Rattle.lfs_segwrite.specs.Applying.{versions_after}
 use Rattle.lfs_staging.specs.View.{version_of}
-use Rattle.lfs_segwrite.proofs.BoundLemmas.{peak_least, record_most}
+use Rattle.lfs_segwrite.proofs.BoundLemmas.{record_most}
 use Rattle.lfs_segwrite.proofs.ChangedLemmas.{stays_refl, stays_trans}
-use Rattle.lfs_segwrite.proofs.StepLemmas.{next_applied, next_can, next_sum, next_versions, rest_can}
+use Rattle.lfs_segwrite.proofs.StepLemmas.{next_applied, next_can, next_peak, next_sum, next_versions, rest_can}
 use Rattle.lfs_segwrite.proofs.applying.stage_changes.Goals as goal
 
 pub loop-change-init : goal.loop-change-init
@@ -29,7 +29,7 @@ stage_change-requires-clause-can c =
 
 pub stage_change-requires-clause-frames : goal.stage_change-requires-clause-frames
 stage_change-requires-clause-frames c =
-    let peak = next_sum c.args.changes.now c.loop-change.change-index c.change-item.result c.loop-change-test.true c.change-item.is peak_of in
+    let peak = next_peak c.args.changes.now c.loop-change.change-index c.change-item.result c.loop-change-test.true c.change-item.is in
     omega (arith, c.loop-change.invariant.peak, c.requires.frames)
 
 pub stage_change-requires-clause-records : goal.stage_change-requires-clause-records
@@ -48,9 +48,8 @@ loop-change-preserved c =
     let low = c.loop-change-test.true in
     let frames = next_sum xs i d low c.change-item.is frames_of in
     let records = next_sum xs i d low c.change-item.is records_of in
-    let peak = next_sum xs i d low c.change-item.is peak_of in
+    let peak = next_peak xs i d low c.change-item.is in
     let one = record_most c.change-item.result in
-    let least = peak_least c.change-item.result (subst IsInReach (sym c.change-item.is) (c.requires.reach i d low)) in
     let long = length-drop i xs in
     let longer = length-drop (i + 1) xs in
     let made = c.stage_change.ensures.content_is in

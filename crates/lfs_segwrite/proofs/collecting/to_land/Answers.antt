@@ -1,7 +1,7 @@
-use Rattle.std.proofs.Common.{All, ◌≡◌, ◌<◌, length, map, sym, ap, ◌∙◌, subst, arith}
+use Rattle.std.proofs.Common.{All, ◌≡◌, length, map, sym, ap, ◌∙◌, subst, arith}
 use Rattle.std.proofs.lemmas.List.{length-map}
 use Rattle.lfs_cache.specs.declared.key.Key.{Key}
-use Rattle.lfs_cache.specs.Contents.{AreApart, keys_of}
+use Rattle.lfs_cache.specs.Contents.{AreApart}
 use Rattle.lfs_segments.specs.Entry.{IsEntry}
 use Rattle.lfs_staging.specs.Store.{IsBlockCode}
 use Rattle.lfs_segwrite.specs.Collecting.{entry_of, in_passes}

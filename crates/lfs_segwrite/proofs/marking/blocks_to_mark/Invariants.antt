@@ -4,4 +4,4 @@ use Rattle.lfs_segwrite.specs.Marking.{frames_to_mark}
 use Rattle.lfs_segwrite.proofs.marking.blocks_to_mark.Given as goal
 
 abbrev pub invariant-loop-info : goal.invariant-loop-info
-invariant-loop-info l = (l.frames ≡ sum_by frames_to_mark (take l.info-index l.named)) × (l.frames ≤ 2 * l.info-index)
+invariant-loop-info l = (l.frames ≡ sum_by frames_to_mark (take l.info-index l.named)) × (l.frames ≤ 3 * l.info-index)

@@ -1,4 +1,4 @@
-use Rattle.std.proofs.Common.{◌≡◌, ◌∙◌, ap, sym, inl, inr}
+use Rattle.std.proofs.Common.{◌∙◌, ap, sym, inl, inr}
 use Rattle.std.proofs.lemmas.Option.{none-some}
 use Rattle.lfs_bmap.specs.Blocks.{file_block_of}
 use Rattle.lfs_bmap.proofs.BlockLemmas.{file_block_of-is}

@@ -1,8 +1,8 @@
-use Rattle.std.proofs.Common.{◌≢◌, sym, ap, ◌∙◌, subst, arith}
+use Rattle.std.proofs.Common.{◌≢◌, sym, subst, arith}
 use Rattle.lfs_bmap.specs.declared.blocks.FileBlock.TheVariants.{Record}
 use Rattle.lfs_bmap.specs.Blocks.{code_of, table_of, way_to}
 use Rattle.lfs_bmap.specs.Ways.{codes_on}
-use Rattle.lfs_bmap.proofs.BlockLemmas.{code_of-below, same_block}
+use Rattle.lfs_bmap.proofs.BlockLemmas.{same_block}
 use Rattle.lfs_bmap.proofs.HolderLemmas.{codes_on-few, codes_on-most}
 use Rattle.lfs_segwrite.specs.Marking.{StagesAgain}
 use Rattle.lfs_segwrite.proofs.AgainLemmas.{block_again, record_again, record_staged}
@@ -14,7 +14,7 @@ use Rattle.lfs_segwrite.proofs.marking.stage_again.Goals as goal
 pub stage_parents-requires-clause-room : goal.stage_parents-requires-clause-room
 stage_parents-requires-clause-room c =
     frames_enough c.args.parts.now c.args.inode.now.number (codes_on (way_to (table_of c.args.block)))
-    (omega (arith, codes_on-few c.args.block c.requires.block (code_of-below c.args.block c.requires.block), c.requires.frames))
+    (omega (arith, codes_on-few c.args.block c.requires.block, c.requires.frames))
 
 pub returns-in-Record-clause-staged : goal.returns-in-Record-clause-staged
 returns-in-Record-clause-staged c =
@@ -37,7 +37,7 @@ pub stage_moved-requires-clause-room : goal.stage_moved-requires-clause-room
 stage_moved-requires-clause-room c =
     let other = stage_moved-requires-clause-other c in
     frames_enough c.args.parts.now c.args.inode.now.number (codes_on (way_to c.args.block))
-    (omega (arith, codes_on-most c.args.block c.requires.block other (code_of-below c.args.block c.requires.block), c.requires.frames))
+    (omega (arith, codes_on-most c.args.block c.requires.block other, c.requires.frames))
 
 other_code : (c : goal.After-stage_moved) → code_of c.args.block ≢ 0
 other_code c = λ e. c.in_default.not-Record (same_block c.args.block Record c.requires.block tt e)

@@ -1,10 +1,10 @@
-use Rattle.std.proofs.Common.{◌≡◌, ◌<◌, ◌⊎◌, length, sym, ap, ◌∙◌, subst, arith}
+use Rattle.std.proofs.Common.{◌≡◌, ◌<◌, ◌⊎◌, length, sym, ap, ◌∙◌, subst}
 use Rattle.lfs_inodes.specs.Reading.{fields_of}
 use Rattle.lfs_cache.specs.Contents.{IsLocked}
 use Rattle.lfs_bmap.specs.Blocks.{code_of, way_to}
 use Rattle.lfs_bmap.specs.Reading.{address, read}
 use Rattle.lfs_staging.specs.Staging.{StagesBlock}
-use Rattle.lfs_staging.specs.View.{blocks_of, key_of, tree_from, tree_of}
+use Rattle.lfs_staging.specs.View.{blocks_of, key_of, tree_of}
 use Rattle.lfs_staging.proofs.FileLemmas.{tree_from-of}
 use Rattle.lfs_staging.proofs.KeptLemmas.{block_known, may_present, present_kept, table_again}
 use Rattle.lfs_staging.proofs.StagingLemmas.{version-same}

@@ -178,11 +178,14 @@ fn full_volume_keeps_all_that_was_served(rt: HostRuntime) {
     );
 }
 
-/// The most bytes of a file.
-const LENGTH_LIMIT: usize = 71_680;
+/// The bytes of a file of 276 blocks, of which the last stand under the second child of the double indirect block.
+const WHOLE: usize = 141_312;
 
-/// Where blocks 11, 12, 13 and 139 begin. From block 12 on the addresses stand in an indirect block.
-const EDGES: [usize; 4] = [5_632, 6_144, 6_656, 71_168];
+/// Where blocks 11, 12, 13, 139, 140, 141, 267, 268 and 269 begin. From block 12 on the addresses stand in the single
+/// indirect block, from 140 on in a child of the double one, from 268 on in the next child.
+const EDGES: [usize; 9] = [
+    5_632, 6_144, 6_656, 71_168, 71_680, 72_192, 136_704, 137_216, 137_728,
+];
 
 /// The byte at a place of a file that is written whole, 4,096 bytes at a time.
 fn byte_at(place: usize) -> usize {
@@ -191,15 +194,10 @@ fn byte_at(place: usize) -> usize {
 
 /// Appends the Writes that write `/f` whole, and their answers.
 fn push_whole(rt: &impl Abort, script: &mut String, expected: &mut String) {
-    for part in 0..18 {
+    for part in 0..35 {
         let place = part * 4_096;
         push_number(rt, script, "write /f at ", place, " ");
-        push_byte(
-            rt,
-            script,
-            byte_at(place),
-            (LENGTH_LIMIT - place).min(4_096),
-        );
+        push_byte(rt, script, byte_at(place), (WHOLE - place).min(4_096));
         push(rt, script, "\n");
         push(rt, expected, OK);
     }
@@ -217,48 +215,57 @@ fn push_edge(
     let first = place.saturating_sub(2);
     push_number(rt, script, "read /f ", first, " 4\n");
     push(rt, expected, "0 bytes ");
-    for byte in first..place.saturating_add(2).min(LENGTH_LIMIT) {
+    for byte in first..place.saturating_add(2).min(WHOLE) {
         push_byte(rt, expected, if byte < cut { byte_at(byte) } else { 0 }, 1);
     }
     push(rt, expected, "\n");
 }
 
-/// Appends a cut of `/f` and its growth to the limit, and the answers.
+/// Appends a cut of `/f` and its growth to all its bytes, and the answers.
 fn push_cut(rt: &impl Abort, script: &mut String, expected: &mut String, cut: usize) {
     push_number(rt, script, "length /f ", cut, "\nstat /f\n");
     push_number(rt, script, "read /f ", cut, " 4\n");
     push(rt, expected, OK);
     push_number(rt, expected, "0 stat 4 file 0 0 0644 00000000 ", cut, "\n");
     push(rt, expected, "0 bytes -\n");
-    push_number(rt, script, "length /f ", LENGTH_LIMIT, "\n");
+    push_number(rt, script, "length /f ", WHOLE, "\n");
     push(rt, expected, OK);
 }
 
-/// Appends the Writes, a cut and growth, and Reads around the cut, the limit and the edges, and the answers.
+/// Appends the Writes, a cut and growth, and Reads around the cut, the end and the edges, and the answers.
 fn push_round(rt: &impl Abort, script: &mut String, expected: &mut String, cut: usize) {
     push_whole(rt, script, expected);
     push_cut(rt, script, expected, cut);
     push_edge(rt, script, expected, cut, cut);
-    push_edge(rt, script, expected, LENGTH_LIMIT, cut);
+    push_edge(rt, script, expected, WHOLE, cut);
     for edge in EDGES {
         push_edge(rt, script, expected, edge, cut);
     }
 }
 
-#[test]
-fn cut_file_keeps_its_bytes_and_grows_by_zeros(rt: HostRuntime) {
-    let mut script = String::new(rt.alloc());
-    let mut expected = String::new(rt.alloc());
-    push(&rt, &mut script, "create /f 0644\n");
-    push(&rt, &mut expected, OK);
-    for cut in [5_632, 6_144, 6_145, 6_656, 71_168, 71_679] {
-        push_round(&rt, &mut script, &mut expected, cut);
+/// Asserts that a file keeps its bytes through cuts to so many bytes, and grows by zeros.
+fn expect_cuts(rt: &impl Abort, alloc: Global, cuts: &[usize]) {
+    let mut script = String::new(alloc);
+    let mut expected = String::new(alloc);
+    push(rt, &mut script, "create /f 0644\n");
+    push(rt, &mut expected, OK);
+    for cut in cuts {
+        push_round(rt, &mut script, &mut expected, *cut);
     }
-    expect_with(
-        &rt,
-        rt.alloc(),
-        script.as_str(),
-        DEFAULTS,
-        expected.as_str(),
-    );
+    expect_with(rt, alloc, script.as_str(), DEFAULTS, expected.as_str());
+}
+
+#[test]
+fn file_cut_below_its_double_indirect_block_grows_by_zeros(rt: HostRuntime) {
+    expect_cuts(&rt, rt.alloc(), &[5_632, 6_145, 71_679]);
+}
+
+#[test]
+fn file_cut_to_its_single_indirect_block_grows_by_zeros(rt: HostRuntime) {
+    expect_cuts(&rt, rt.alloc(), &[6_144, 6_656, 71_680]);
+}
+
+#[test]
+fn file_cut_within_its_double_indirect_block_grows_by_zeros(rt: HostRuntime) {
+    expect_cuts(&rt, rt.alloc(), &[71_681, 136_705, 137_216]);
 }

@@ -183,19 +183,12 @@ fn long_names(rt: &impl Abort, alloc: Global, letters: &str, fewer: &str) -> Str
     script
 }
 
-/// The answers: the 141st name is refused.
-fn long_answers(rt: &impl Abort, alloc: Global) -> String {
-    let mut answers = repeated(rt, alloc, "3 ok\n", 140);
-    push(rt, &mut answers, "3 refused DirectoryFull\n3 ok\n");
-    answers
-}
-
 #[test]
 fn directory_of_long_names(rt: HostRuntime) {
     let letters = repeated(&rt, rt.alloc(), "n", 252);
     let fewer = repeated(&rt, rt.alloc(), "n", 244);
     let script = long_names(&rt, rt.alloc(), letters.as_str(), fewer.as_str());
-    let answers = long_answers(&rt, rt.alloc());
+    let answers = repeated(&rt, rt.alloc(), "3 ok\n", 142);
     run_fresh(&rt, rt.alloc(), script.as_str(), answers.as_str());
 }
 

@@ -1,4 +1,5 @@
 use Rattle.std.proofs.Common.{◌<◌, sym, ap, ◌∙◌, subst, arith}
+use Rattle.lfs_types.specs.declared.limits.TheConstants.{FILE_BLOCKS}
 use Rattle.lfs_inodes.specs.Reading.{fields_of}
 use Rattle.lfs_bmap.specs.Reading.{read}
 use Rattle.lfs_bmap.specs.Ways.{data_way}
@@ -27,7 +28,7 @@ returns c =
     let same = tree_from-of p v.number v c.requires.may.here file in
     let most = file.formed.sized.0 in
     let inside = c.requires.within in
-    let low : c.args.index < 140 = omega arith in
+    let low : c.args.index < FILE_BLOCKS = omega arith in
     let block = c.block_of.ensures ∙ ap (λ t. read t (data_way c.args.index)) same ∙ sym (data_block-read (tree_of p v.number) c.args.index low) in
     cut_one p c.stage_data.new.self v c.args.index c.args.len c.block_of.result.now c.cut_piece.new.block (c.stage_data.ensures.kept 0 c.requires.staged)
     c.stage_data.ensures.staged block c.cut_piece.ensures

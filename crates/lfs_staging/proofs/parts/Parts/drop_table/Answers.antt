@@ -1,9 +1,9 @@
-use Rattle.std.proofs.Common.{◌≡◌, ◌≤◌, ◌<◌, sym, ap, ◌∙◌, subst, inl, inr, arith}
+use Rattle.std.proofs.Common.{sym, ◌∙◌, subst, arith}
 use Rattle.std.proofs.lemmas.Bool.{false≢true}
-use Rattle.lfs_bmap.specs.Blocks.{first_under, way_to}
+use Rattle.lfs_bmap.specs.Blocks.{way_to}
 use Rattle.lfs_bmap.specs.Ways.{codes_on}
 use Rattle.lfs_staging.specs.Cutting.{ClearsBlock, ClearsBlocks, DropsTable, IsGone, MayClear, MayClearBetween, MayDrop}
-use Rattle.lfs_staging.specs.Staging.{HasFrames, StagesTable}
+use Rattle.lfs_staging.specs.Staging.{HasFrames}
 use Rattle.lfs_staging.proofs.ClearingLemmas.{there_within}
 use Rattle.lfs_staging.proofs.DroppingLemmas.{drop_hole, drop_none, drop_part, drop_whole, may_between, may_clear_table, run_ordered, waiting_may}
 use Rattle.lfs_staging.proofs.FrameLemmas.{waiting_number}

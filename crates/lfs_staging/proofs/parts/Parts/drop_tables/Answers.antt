@@ -1,4 +1,4 @@
-use Rattle.std.proofs.Common.{◌≡◌, ◌≢◌, ◌≤◌, ◌<◌, ◌+◌, ◌-◌, max, sym, ap, ◌∙◌, subst, arith}
+use Rattle.std.proofs.Common.{◌≡◌, ◌+◌, ◌-◌, sym, ap, ◌∙◌, subst, arith}
 use Rattle.lfs_bmap.specs.declared.blocks.FileBlock.TheVariants.{Data}
 use Rattle.lfs_bmap.specs.Blocks.{code_of, table_of}
 use Rattle.lfs_bmap.proofs.HolderLemmas.{table_of-code}

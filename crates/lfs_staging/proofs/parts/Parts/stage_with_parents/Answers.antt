@@ -1,4 +1,4 @@
-use Rattle.std.proofs.Common.{◌∙◌, sym}
+use Rattle.std.proofs.Common.{◌∙◌}
 use Rattle.lfs_staging.proofs.KeptLemmas.{table_again}
 use Rattle.lfs_staging.proofs.StagedLemmas.{parents_again}
 use Rattle.lfs_staging.proofs.StagingLemmas.{version-same}

@@ -11,7 +11,7 @@ use Rattle.lfs_layer_tests.proofs.tests.stores.flatfiles.shows_zeros_where_a_fil
 
 asked : (n : ℕ) (c : Content) (a : Attrs) (p : Bor (List ℕ)) → n ≡ 16 → c ≡ opening_content → a.kind ≡ Regular → p.now ≡ 97 ∷ 98 ∷ 99 ∷ 100 ∷ [] → CanApply n (Make 4 a ∷ Put 4 0 p ∷ SetLength 4 1 ∷ []) c
 asked n c a p is_n is_c is_a is_p =
-    let fits : 1 ≤ 71680 = omega arith in
+    let fits : 1 ≤ 8460288 = omega arith in
     record {
       few = omega arith;
       few_puts = omega arith;
