@@ -186,12 +186,10 @@ impl Scale {
         requires few_calls { calls ≤ 65536 }
         requires few_components { components ≤ 7 }
     {
-        let scale = Scale::grown(calls, components, Growth::Length, factor);
-        Scale {
-            bytes: factor.length(),
-            segments: MOST_SEGMENTS,
-            ..scale
-        }
+        let mut scale = Scale::grown(calls, components, Growth::Length, factor);
+        scale.bytes = factor.length();
+        scale.segments = MOST_SEGMENTS;
+        scale
     }
 
     /// How much there is of this.
