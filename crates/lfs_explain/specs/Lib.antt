@@ -1,0 +1,4 @@
+pub mod Asked
+pub mod Classes
+pub mod Tables
+pub mod Ways
