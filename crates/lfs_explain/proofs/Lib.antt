@@ -1,5 +1,6 @@
 pub mod Askings
 pub mod ExplainLemmas
+pub mod LineLemmas
 pub mod LookLemmas
 pub mod MoveLemmas
 pub mod Pushed

@@ -2,3 +2,4 @@ pub mod Asked
 pub mod Classes
 pub mod Tables
 pub mod Ways
+pub mod WhyText

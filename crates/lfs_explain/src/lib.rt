@@ -4,6 +4,7 @@
 pub mod check;
 pub mod class;
 pub mod explain;
+pub mod lines;
 mod looking;
 mod moving;
 mod privileged;
