@@ -5,7 +5,7 @@ mod arriving;
 pub mod attributes;
 mod cleaning;
 pub mod cutting;
-mod directory;
+pub mod directory;
 pub mod listing;
 pub mod making;
 pub mod not_served;

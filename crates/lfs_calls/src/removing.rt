@@ -192,7 +192,7 @@ fn may_rmdir<F: FileStore>(store: &mut Tree<F>, row: &Reached, at: u32) -> Resul
 }
 
 /// Whether a directory of this size lists no name.
-pub(crate) fn is_empty_directory<F: FileStore>(store: &mut Tree<F>, dir: u32, size: u64) -> bool
+pub fn is_empty_directory<F: FileStore>(store: &mut Tree<F>, dir: u32, size: u64) -> bool
     requires { HasBlocks (F.state store.old).content dir size }
     ensures empty { IsTrue result ↔ (listed (bytes_of (F.state store.old).content dir) ≡ []) }
     ensures state { F.state store.new ≡ F.state store.old }

@@ -48,7 +48,7 @@ impl<F: FileStore + Drop> Tree<F> {
 
 impl<F: FileStore> Tree<F> {
     /// The attributes of a number, if it is in use.
-    pub(crate) fn attrs(&self, ino: u32) -> Option<Attrs>
+    pub fn attrs(&self, ino: u32) -> Option<Attrs>
         ensures { result ≡ shown_attrs (F.state self.now).content ino }
     {
         self.store.attrs(ino)

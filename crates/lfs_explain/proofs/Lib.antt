@@ -1,0 +1,9 @@
+pub mod Askings
+pub mod ExplainLemmas
+pub mod LineLemmas
+pub mod LookLemmas
+pub mod MoveLemmas
+pub mod Pushed
+pub mod StepsTold
+pub mod TableLemmas
+pub mod WayLemmas

@@ -1,0 +1,33 @@
+use Rattle.std.proofs.Common.{◌+◌, ◌++◌, List, [], ◌∷◌, drop, sym, ap, ◌∙◌, append_assoc}
+use Rattle.lfs_calls.proofs.CallLemmas.{still}
+use Rattle.lfs_calls.proofs.StepLemmas.{child-stored}
+use Rattle.lfs_explain.specs.Ways.{way}
+use Rattle.lfs_explain.specs.declared.trail.Seen.{Seen}
+use Rattle.lfs_explain.proofs.StepsTold.{left_from}
+use Rattle.lfs_explain.proofs.WayLemmas.{way_on}
+use Rattle.lfs_explain.proofs.looking.way.Goals as goal
+
+pub child_of-requires-clause-world : goal.child_of-requires-clause-world
+child_of-requires-clause-world g c = let t = c.requires.world in (t.0, still c.loop-name.invariant.state t.1)
+
+pub look-requires : goal.look-requires
+look-requires g c = c.loop-name.invariant.used
+
+pub loop-name-preserved : goal.loop-name-preserved
+loop-name-preserved g c = record {
+  way = λ w v.
+      let here = still c.loop-name.invariant.state v in
+      let rest = drop (c.loop-name.name-index + 1) c.args.names.now in
+      c.loop-name.invariant.way w v
+      ∙ ap (λ ns. c.loop-name.rows.items ++ way w.rows c.loop-name.at ns) (left_from c.args.names.now c.loop-name.name-index c.name-item.result c.loop-name-test.true c.name-item.is)
+      ∙ ap (λ (l : List Seen). c.loop-name.rows.items ++ l)
+      (way_on w.rows c.loop-name.at c.name-item.result rest c.in-Some.next (c.in-Some.ensures.child w here)
+      ∙ ap (λ (s : Seen). s ∷ way w.rows c.in-Some.next rest) (sym (c.look.ensures w here)))
+      ∙ sym (append_assoc c.loop-name.rows.items (c.look.result ∷ []) (way w.rows c.in-Some.next rest))
+      ∙ ap (λ (l : List Seen). l ++ way w.rows c.in-Some.next rest) (sym c.in_ok-push.ensures.items);
+  used =
+      let t = c.requires.world in
+      let here = still c.loop-name.invariant.state t.1 in
+      child-stored (g.F.FileStore.state c.child_of.new.tree).content t.0 (still c.child_of.ensures.state here).shows c.loop-name.at c.name-item.result c.in-Some.next (c.in-Some.ensures.child t.0 here);
+  state = c.child_of.ensures.state ∙ c.loop-name.invariant.state;
+}

@@ -1,0 +1,136 @@
+//! What a store shows of the rows that a path leads through.
+
+ghost use Rattle.std.specs.Prelude.{◌≡◌, ◌==◌, ◌≤◌, IfOk, IfSome, IsSome, Some, length, slice_get};
+ghost use Rattle.std.specs.FinMap.{get};
+ghost use Rattle.lfs_types.specs.declared.path.TheConstants.{PATH_MAX};
+ghost use Rattle.lfs_types.specs.Tree.{root};
+ghost use Rattle.lfs_model.specs.World.{child, children};
+ghost use Rattle.lfs_calls.specs.Volumes.{HasWorld, InWorld};
+ghost use Rattle.lfs_explain.specs.Ways.{IsTrail, seen_at, way};
+ghost use Rattle.lfs_explain.specs.declared.trail.Seen.{Seen};
+
+use crate::trail::{Seen, Trail};
+use lfs_calls::directory::look_up;
+use lfs_calls::removing::is_empty_directory;
+use lfs_calls::tree::Tree;
+use lfs_checks::attributes::shown_size;
+use lfs_types::attrs::Attrs;
+use lfs_types::limits::ROOT_INODE;
+use lfs_types::name::Name;
+use lfs_types::store::FileStore;
+use std::alloc::{AllocError, Global};
+
+/// What the names of a path lead through from the root.
+pub(crate) fn trail<F: FileStore>(
+    alloc: Global,
+    tree: &mut Tree<F>,
+    names: &[Name],
+) -> Result<Trail, AllocError>
+    requires world { HasWorld (F.state tree.old) }
+    requires short { length names.now ≤ PATH_MAX }
+    ensures trail { IfOk result (λ trail. InWorld (F.state tree.old)
+        (λ w. IsTrail w.rows names.now trail)) }
+    ensures state { F.state tree.new ≡ F.state tree.old }
+{
+    let rows = way(alloc, tree, names)?;
+    let is_childless = ends_childless(tree, &rows, names.len());
+    let names = names.len() as u32;
+    Ok(Trail {
+        rows,
+        names,
+        is_childless,
+    })
+}
+
+/// Whether nothing hangs in the row at this component, if there is one.
+fn ends_childless<F: FileStore>(tree: &mut Tree<F>, rows: &[Seen], at: usize) -> bool
+    requires world { HasWorld (F.state tree.old) }
+    requires used { (row : Seen) → slice_get rows.now at ≡ Some row
+        → IsSome (get (F.state tree.old).content row.number) }
+    ensures childless { (row : Seen) → slice_get rows.now at ≡ Some row
+        → InWorld (F.state tree.old)
+        (λ w. result ≡ (length (children w.rows row.number) == 0)) }
+    ensures state { F.state tree.new ≡ F.state tree.old }
+{
+    match row_of(rows, at) {
+        Some(row) => is_childless(tree, row.number),
+        None => false,
+    }
+}
+
+/// The rows that names lead through from the root, as far as they lead.
+fn way<F: FileStore>(
+    alloc: Global,
+    tree: &mut Tree<F>,
+    names: &[Name],
+) -> Result<Vec<Seen>, AllocError>
+    requires world { HasWorld (F.state tree.old) }
+    ensures way { IfOk result (λ rows. InWorld (F.state tree.old)
+        (λ w. rows.items ≡ way w.rows root names.now)) }
+    ensures state { F.state tree.new ≡ F.state tree.old }
+{
+    let mut rows = Vec::new(alloc);
+    let mut at = ROOT_INODE;
+    for name in names {
+        rows.push(look(tree, at))?;
+        match child_of(tree, at, name) {
+            Some(next) => at = next,
+            None => return Ok(rows),
+        }
+    }
+    rows.push(look(tree, at))?;
+    Ok(rows)
+}
+
+/// A row of some, if there are as many.
+pub(crate) fn row_of(rows: &[Seen], at: usize) -> Option<Seen>
+    ensures { result ≡ slice_get rows.now at }
+{
+    rows.get(at).copied()
+}
+
+/// A file or a directory that is there, as users see it.
+fn look<F: FileStore>(tree: &Tree<F>, number: u32) -> Seen
+    requires { IsSome (get (F.state tree.now).content number) }
+    ensures { InWorld (F.state tree.now) (λ w. result ≡ seen_at w.rows number) }
+{
+    let Some(attrs) = tree.attrs(number) else {
+        unreachable!()
+    };
+    let size = shown_size(&attrs);
+    let attrs = Attrs { size, ..attrs };
+    Seen { number, attrs }
+}
+
+/// The number that has a name in a file, where none has one, or in a directory.
+fn child_of<F: FileStore>(tree: &mut Tree<F>, dir: u32, name: &Name) -> Option<u32>
+    requires world { HasWorld (F.state tree.old) }
+    requires used { IsSome (get (F.state tree.old).content dir) }
+    ensures child { InWorld (F.state tree.old) (λ w. child w.rows dir name.now ≡ result) }
+    ensures state { F.state tree.new ≡ F.state tree.old }
+{
+    let Some(attrs) = tree.attrs(dir) else {
+        unreachable!()
+    };
+    if !attrs.kind.is_directory() {
+        return None;
+    }
+    look_up(tree, dir, attrs.size, name)
+}
+
+/// Whether nothing hangs in a file or a directory.
+fn is_childless<F: FileStore>(tree: &mut Tree<F>, number: u32) -> bool
+    requires world { HasWorld (F.state tree.old) }
+    requires used { IsSome (get (F.state tree.old).content number) }
+    ensures childless { InWorld (F.state tree.old)
+        (λ w. result ≡ (length (children w.rows number) == 0)) }
+    ensures state { F.state tree.new ≡ F.state tree.old }
+{
+    let Some(attrs) = tree.attrs(number) else {
+        unreachable!()
+    };
+    if !attrs.kind.is_directory() {
+        return true;
+    }
+    is_empty_directory(tree, number, attrs.size)
+}

@@ -1,0 +1,146 @@
+//! The checks of a row that gets another place.
+
+ghost use Rattle.std.specs.Prelude.{◌≡◌, ◌==◌, ◌++◌, ◌≤◌, OnOk, length, map, slice_get, take};
+ghost use Rattle.std.specs.List.{list_any};
+ghost use Rattle.lfs_types.specs.declared.path.TheConstants.{PATH_MAX};
+ghost use Rattle.lfs_model.specs.Rules.{leaves_test, position};
+ghost use Rattle.lfs_explain.specs.Tables.{arriving_by, is_itself, last_by, moving_by, path_of, placing_by};
+ghost use Rattle.lfs_explain.specs.declared.trail.Seen.{Seen};
+
+use crate::check::Check;
+use crate::looking::row_of;
+use crate::telling::{dir_of, end_of, push, push_way};
+use crate::testing;
+use crate::trail::{Seen, Trail};
+use lfs_rules::access::grants;
+use lfs_types::attrs::{Attrs, Bit};
+use lfs_types::cred::Cred;
+use lfs_types::rule::Rule;
+use std::alloc::AllocError;
+
+/// Puts those of the way to a place behind other checks.
+pub(crate) fn push_arriving(
+    checks: &mut Vec<Check>,
+    cred: &Cred,
+    to: &Trail,
+) -> Result<(), AllocError>
+    requires { to.now.names ≤ PATH_MAX }
+    ensures { OnOk result (checks.new.items ≡ checks.old.items
+        ++ arriving_by cred.now (path_of to.now)) }
+{
+    let at = to.names.saturating_sub(1);
+    push(checks, &[Check::new(to.names != 0, Rule::IsNotRoot, 1, 0)])?;
+    push_way(checks, cred, 1, at, &to.rows)?;
+    push(checks, &testing::search(&dir_of(to).attrs, cred, 1, at))
+}
+
+/// Puts those of a row that gets the place; none where it has that place already.
+pub(crate) fn push_moving(
+    checks: &mut Vec<Check>,
+    cred: &Cred,
+    from: &Trail,
+    to: &Trail,
+) -> Result<(), AllocError>
+    requires { to.now.names ≤ PATH_MAX }
+    ensures { OnOk result (checks.new.items ≡ checks.old.items
+        ++ moving_by cred.now (path_of from.now) (path_of to.now)
+        (slice_get to.now.rows.items to.now.names)) }
+{
+    let moved = end_of(from);
+    if is_itself(moved.number, to) {
+        return Ok(());
+    }
+    push_placing(checks, cred, &moved.attrs, to)?;
+    push_last(checks, cred, from, to)
+}
+
+/// Whether what is at a place is the row of this number.
+fn is_itself(number: u32, to: &Trail) -> bool
+    ensures { result ≡ is_itself number (slice_get to.now.rows.items to.now.names) }
+{
+    match row_of(&to.rows, to.names as usize) {
+        None => false,
+        Some(row) => row.number == number,
+    }
+}
+
+/// Puts those of the directory of the place, and of what is there.
+fn push_placing(
+    checks: &mut Vec<Check>,
+    cred: &Cred,
+    moved: &Attrs,
+    to: &Trail,
+) -> Result<(), AllocError>
+    requires { to.now.names ≤ PATH_MAX }
+    ensures { OnOk result (checks.new.items ≡ checks.old.items
+        ++ placing_by cred.now moved.now (path_of to.now)
+        (slice_get to.now.rows.items to.now.names)) }
+{
+    let at = to.names.saturating_sub(1);
+    let dir = dir_of(to);
+    let Some(row) = row_of(&to.rows, to.names as usize) else {
+        return push(checks, &testing::enter(&dir.attrs, cred, 1, at));
+    };
+    push(
+        checks,
+        &testing::remove(&dir.attrs, &row.attrs, cred, 1, at),
+    )?;
+    push(
+        checks,
+        &testing::replace(moved, &row.attrs, to.is_childless, at + 1),
+    )
+}
+
+/// Puts the last: of the way to the place, and of what is moved.
+fn push_last(
+    checks: &mut Vec<Check>,
+    cred: &Cred,
+    from: &Trail,
+    to: &Trail,
+) -> Result<(), AllocError>
+    requires { to.now.names ≤ PATH_MAX }
+    ensures { OnOk result (checks.new.items ≡ checks.old.items
+        ++ last_by cred.now (path_of from.now) (path_of to.now)) }
+{
+    let moved = end_of(from);
+    let stays = dir_of(from).number == dir_of(to).number;
+    let (is_on_way, place) = place_on(way_to(to), moved.number);
+    push(
+        checks,
+        &[
+            Check::new(!is_on_way, Rule::IsNotBeneathItself, 1, place),
+            leaves(&moved.attrs, cred, stays, from.names),
+        ],
+    )
+}
+
+/// The directories on the way to the place.
+fn way_to(to: &Trail) -> &[Seen]
+    ensures { result.now ≡ take to.now.names to.now.rows.items }
+{
+    let count = to.rows.len().min(to.names as usize);
+    &to.rows[..count]
+}
+
+/// Whether a number is one of some rows, and the index at which it first is, or how many rows there are.
+fn place_on(rows: &[Seen], number: u32) -> (bool, u32)
+    requires { length rows.now ≤ PATH_MAX }
+    ensures is_on { result.0 ≡ list_any (λ n. n == number)
+        (map (λ (row : Seen). row.number) rows.now) }
+    ensures place { result.1 ≡ position number (map (λ (row : Seen). row.number) rows.now) }
+{
+    for (at, row) in rows.iter().enumerate() {
+        if row.number == number {
+            return (true, at as u32);
+        }
+    }
+    (false, rows.len() as u32)
+}
+
+/// That of what is moved, which may stay in its directory.
+fn leaves(file: &Attrs, cred: &Cred, stays: bool, at: u32) -> Check
+    ensures { result ≡ leaves_test cred.now stays file.now at }
+{
+    let may = !file.kind.is_directory() || stays || grants(file, cred, Bit::Write);
+    Check::new(may, Rule::GrantsWrite, 0, at)
+}

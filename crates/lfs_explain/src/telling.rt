@@ -1,0 +1,220 @@
+//! The checks of a call, told from the rows that its paths lead through.
+
+ghost use Rattle.std.specs.Prelude.{◌≡◌, ◌+◌, ◌-◌, ◌++◌, ◌≤◌, OnOk, slice_get};
+ghost use Rattle.lfs_types.specs.declared.path.TheConstants.{PATH_MAX};
+ghost use Rattle.lfs_explain.specs.Asked.{asked};
+ghost use Rattle.lfs_explain.specs.Tables.{dir_of, end_of, making_by, no_row, own_tests, path_of, reaching_by, removing_by, row_at, table_by, way_tests};
+
+use crate::check::Check;
+use crate::looking::row_of;
+use crate::moving::{push_arriving, push_moving};
+use crate::privileged::{chflags, set_level};
+use crate::testing;
+use crate::trail::{Seen, Trail};
+use lfs_types::attrs::{Attrs, Kind};
+use lfs_types::cred::Cred;
+use lfs_types::file_flags::FileFlags;
+use lfs_types::level::Level;
+use lfs_types::mode::Mode;
+use lfs_types::request::Request;
+use lfs_types::rule::Rule;
+use std::alloc::AllocError;
+
+/// Puts the checks of a call, whose paths lead through these rows, behind others.
+pub(crate) fn push_table(
+    checks: &mut Vec<Check>,
+    level: Level,
+    cred: &Cred,
+    request: &Request,
+    first: &Trail,
+    second: &Trail,
+) -> Result<(), AllocError>
+    requires short { first.now.names ≤ PATH_MAX }
+    requires short_second { second.now.names ≤ PATH_MAX }
+    ensures { OnOk result (asked checks.new.items ≡ asked (checks.old.items
+        ++ table_by level cred.now request.now (path_of first.now) (path_of second.now))) }
+{
+    match request {
+        Request::Create { .. } | Request::Mkdir { .. } => push_making(checks, cred, first),
+        Request::Unlink { .. } => {
+            push_removing(checks, cred, first)?;
+            push(checks, &testing::unlink(&end_of(first).attrs, first.names))
+        }
+        Request::Rmdir { .. } => {
+            push_removing(checks, cred, first)?;
+            let end = end_of(first);
+            push(
+                checks,
+                &testing::rmdir(&end.attrs, first.is_childless, first.names),
+            )
+        }
+        Request::Rename { .. } => {
+            push_removing(checks, cred, first)?;
+            push_arriving(checks, cred, second)?;
+            push_moving(checks, cred, first, second)
+        }
+        Request::SetLevel { level: new } => push(checks, &set_level(cred, level, *new)),
+        Request::Sync => Ok(()),
+        _ => push_reaching(checks, level, cred, request, first),
+    }
+}
+
+/// Puts checks behind others.
+pub(crate) fn push(checks: &mut Vec<Check>, more: &[Check]) -> Result<(), AllocError>
+    ensures { OnOk result (checks.new.items ≡ checks.old.items ++ more.now) }
+{
+    checks.extend_from_slice(more)
+}
+
+/// Puts those of so many steps along the rows of the path of this index.
+pub(crate) fn push_way(
+    checks: &mut Vec<Check>,
+    cred: &Cred,
+    path: u8,
+    count: u32,
+    rows: &[Seen],
+) -> Result<(), AllocError>
+    requires { count ≤ PATH_MAX }
+    ensures { OnOk result (checks.new.items ≡ checks.old.items
+        ++ way_tests cred.now path 0 count rows.now) }
+{
+    let steps = rows.len().min(count as usize);
+    for at in 0..steps {
+        let there = row_of(rows, at + 1).is_some();
+        push(
+            checks,
+            &testing::step(&rows[at].attrs, cred, path, at as u32, there),
+        )?;
+    }
+    Ok(())
+}
+
+/// What stands for a row that isn't there.
+fn no_row() -> Seen
+    ensures { result ≡ no_row }
+{
+    let Some(mode) = Mode::new(0o755) else {
+        unreachable!()
+    };
+    let attrs = Attrs {
+        kind: Kind::Directory,
+        uid: 0,
+        gid: 0,
+        mode,
+        flags: FileFlags::none(),
+        size: 0,
+    };
+    Seen { number: 0, attrs }
+}
+
+/// The row at a component, or what stands for it.
+fn row_at(rows: &[Seen], at: u32) -> Seen
+    ensures { result ≡ row_at rows.now at }
+{
+    row_of(rows, at as usize).unwrap_or(no_row())
+}
+
+/// The row that a path's names lead to.
+pub(crate) fn end_of(path: &Trail) -> Seen
+    ensures { result ≡ end_of (path_of path.now) }
+{
+    row_at(&path.rows, path.names)
+}
+
+/// The directory of that row.
+pub(crate) fn dir_of(path: &Trail) -> Seen
+    ensures { result ≡ dir_of (path_of path.now) }
+{
+    row_at(&path.rows, path.names.saturating_sub(1))
+}
+
+/// Puts those of a call with one path to a file.
+fn push_reaching(
+    checks: &mut Vec<Check>,
+    level: Level,
+    cred: &Cred,
+    request: &Request,
+    path: &Trail,
+) -> Result<(), AllocError>
+    requires { path.now.names ≤ PATH_MAX }
+    ensures { OnOk result (asked checks.new.items ≡ asked (checks.old.items
+        ++ reaching_by cred.now (own_tests level cred.now request.now) (path_of path.now))) }
+{
+    push_way(checks, cred, 0, path.names, &path.rows)?;
+    push_own(
+        checks,
+        level,
+        cred,
+        request,
+        &end_of(path).attrs,
+        path.names,
+    )
+}
+
+/// Puts those of the file, at component `at`, that a call with one path leads to.
+fn push_own(
+    checks: &mut Vec<Check>,
+    level: Level,
+    cred: &Cred,
+    request: &Request,
+    file: &Attrs,
+    at: u32,
+) -> Result<(), AllocError>
+    ensures { OnOk result (asked checks.new.items ≡ asked (checks.old.items
+        ++ own_tests level cred.now request.now file.now at)) }
+{
+    match request {
+        Request::Read { .. } => push(checks, &testing::read(file, cred, at)),
+        Request::List { .. } => push(checks, &testing::list(file, cred, at)),
+        Request::Write { place, bytes, .. } => {
+            let count = bytes.as_slice().len();
+            push(
+                checks,
+                &testing::change(file, cred, testing::is_end(*place), at),
+            )?;
+            push(checks, &testing::fits(file, *place, count, at))
+        }
+        Request::SetLength { len, .. } => {
+            push(checks, &testing::change(file, cred, false, at))?;
+            push(checks, &testing::fits_length(*len, at))
+        }
+        Request::Chmod { .. } => push(checks, &testing::chmod(file, cred, at)),
+        Request::Chown { uid, gid, .. } => {
+            push(checks, &testing::chown(file, cred, *uid, *gid, at))
+        }
+        Request::Chflags { flags, .. } => push(checks, &chflags(file, cred, level, *flags, at)),
+        _ => Ok(()),
+    }
+}
+
+/// Puts those of a call that makes a row.
+fn push_making(checks: &mut Vec<Check>, cred: &Cred, path: &Trail) -> Result<(), AllocError>
+    requires { path.now.names ≤ PATH_MAX }
+    ensures { OnOk result (checks.new.items ≡ checks.old.items
+        ++ making_by cred.now (path_of path.now)) }
+{
+    let at = path.names.saturating_sub(1);
+    let free = row_of(&path.rows, path.names as usize).is_none();
+    push(checks, &[Check::new(path.names != 0, Rule::NameFree, 0, 0)])?;
+    push_way(checks, cred, 0, at, &path.rows)?;
+    push(checks, &testing::make(&dir_of(path).attrs, cred, free, at))
+}
+
+/// Puts those of a call that takes away a name, up to those that a file and a directory differ in.
+fn push_removing(checks: &mut Vec<Check>, cred: &Cred, path: &Trail) -> Result<(), AllocError>
+    requires { path.now.names ≤ PATH_MAX }
+    ensures { OnOk result (checks.new.items ≡ checks.old.items
+        ++ removing_by cred.now (path_of path.now)) }
+{
+    let at = path.names.saturating_sub(1);
+    let (dir, file) = (dir_of(path), end_of(path));
+    push(
+        checks,
+        &[Check::new(path.names != 0, Rule::IsNotRoot, 0, 0)],
+    )?;
+    push_way(checks, cred, 0, path.names, &path.rows)?;
+    push(
+        checks,
+        &testing::remove(&dir.attrs, &file.attrs, cred, 0, at),
+    )
+}
