@@ -72,6 +72,13 @@ impl<F: FileStore> Tree<F> {
         self.store.least_free()
     }
 
+    /// The store, to be read.
+    pub fn store(&self) -> &F
+        ensures { result.now ≡ self.now }
+    {
+        &self.store
+    }
+
     /// How many segments are clean.
     pub fn clean_segments(&self) -> u32
         ensures { result ≡ (F.state self.now).clean }

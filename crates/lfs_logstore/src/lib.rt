@@ -4,6 +4,7 @@
 
 mod cleaning;
 mod files;
+mod looking;
 mod store;
 
 pub use lfs_types::cleaner::{BlockInfo, CleanFault, InfoList, MarkList};

@@ -209,6 +209,13 @@ impl<F: FileStore + Drop> Volume<F> {
         self.level
     }
 
+    /// The store, to be read.
+    pub fn store(&self) -> &F
+        ensures { result.now ≡ self.now.store }
+    {
+        self.store.store()
+    }
+
     /// How many segments of the store are clean.
     pub fn clean_segments(&self) -> u32
         ensures { result ≡ (F.state self.now.store).clean }

@@ -1,0 +1,11 @@
+//! A look at the log of a store: what stands at each address, whose it is, and whether it is of use.
+#![tactic(auto)]
+
+pub mod cells;
+pub mod life;
+mod map;
+mod padding;
+pub mod records;
+mod segment;
+pub mod shows;
+pub mod walk;
