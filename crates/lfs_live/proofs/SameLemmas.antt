@@ -34,7 +34,8 @@ use Rattle.lfs_audit.specs.Runs.{AreAsked, Runs, lines_text}
 use Rattle.lfs_audit.specs.Scripts.{log_cleaner}
 use Rattle.lfs_audit.proofs.RunLemmas.{lines_of_runs, runs_joined, runs_none}
 use Rattle.lfs_live.specs.Hearing.{heard_of, is_dotted}
-use Rattle.lfs_live.specs.Scripts.{WritesAsScript}
+use Rattle.lfs_live.specs.Scripts.{WritesAsScript, log_talker}
+use Rattle.lfs_live.specs.Talkers.{Talker}
 use Rattle.lfs_live.specs.Talking.{Does, Hears, HearsAll, IsLast, IsTalk, ended, first_speaker}
 use Rattle.lfs_live.specs.Telling.{ended_line}
 use Rattle.lfs_live.specs.declared.hearing.Dot.TheVariants.{Quit}
@@ -197,31 +198,31 @@ record Goes {F : Type 0} (r : Cleaner F) (old new : Seen F) (draft : Drafted) (t
   short : All IsShort (lines_of rest)
   goes_on : plan_from number after (lines_of rest) ≡ Ok plan
 
-script-heard : {F : Type 0} (r : Cleaner F) (old new : Seen F) (speaker then : Speaker) (lines : List (List ℕ)) (told rest : List ℕ) (n : ℕ) (draft : Drafted) (plan : Planned)
-    → HearsAll r old speaker lines told new then → draft.session ≡ speaker.session → draft.cred ≡ speaker.cred
+script-heard : {F : Type 0} (t : Talker F) (old new : Seen F) (speaker then : Speaker) (lines : List (List ℕ)) (told rest : List ℕ) (n : ℕ) (draft : Drafted) (plan : Planned)
+    → HearsAll t old speaker lines told new then → draft.session ≡ speaker.session → draft.cred ≡ speaker.cred
     → All IsShort (lines_of (ended lines ++ rest)) → plan_from n draft (lines_of (ended lines ++ rest)) ≡ Ok plan
-    → Goes r old new draft then told rest plan
-script-heard r old new speaker then [] told rest n draft plan hears session cred short ok = record {
+    → Goes t.cleaner old new draft then told rest plan
+script-heard t old new speaker then [] told rest n draft plan hears session cred short ok = record {
   number = n;
   after = draft;
-  followed = followed-none r old new draft draft then told hears.0 refl (session ∙ ap (λ (s : Speaker). s.session) (sym hears.1)) (cred ∙ ap (λ (s : Speaker). s.cred) (sym hears.1)) hears.2;
+  followed = followed-none t.cleaner old new draft draft then told hears.0 refl (session ∙ ap (λ (s : Speaker). s.session) (sym hears.1)) (cred ∙ ap (λ (s : Speaker). s.cred) (sym hears.1)) hears.2;
   short = short;
   goes_on = ok;
 }
-script-heard {F} r old new speaker then (line ∷ lines) told rest n draft plan hears session cred short ok =
+script-heard {F} t old new speaker then (line ∷ lines) told rest n draft plan hears session cred short ok =
     let text = ended (line ∷ lines) ++ rest in
     let behind = ended lines ++ rest in
     let cut = first-of line lines rest hears.5 in
     let shorts : All IsShort (line ∷ lines_of behind) = subst (All IsShort) (lines_first text line behind cut) short in
     let read = said-there n (line_said line) (λ (s : Line). plan_from (n + 1) (added draft s) (lines_of behind)) plan (sym (plan_step n draft text line behind cut) ∙ ok) in
     let says : heard_of line ≡ heard.Line read.0 = heard-said line read.0 (All-head IsShort line (lines_of behind) shorts) read.1 in
-    let does : Does r old speaker read.0 hears.0 hears.2 hears.3 = subst (λ (h : Heard). Hears r old speaker h hears.0 hears.2 hears.3) says hears.6 in
-    let followed = followed-line r old hears.2 draft speaker hears.3 read.0 hears.0 session cred does in
-    let more = script-heard r hears.2 new hears.3 then lines hears.1 rest (n + 1) (added draft read.0) plan hears.7 followed.session followed.cred (All-tail IsShort line (lines_of behind) shorts) read.2 in
+    let does : Does t.cleaner old speaker read.0 hears.0 hears.2 hears.3 = subst (λ (h : Heard). Hears t old speaker h hears.0 hears.2 hears.3) says hears.6 in
+    let followed = followed-line t.cleaner old hears.2 draft speaker hears.3 read.0 hears.0 session cred does in
+    let more = script-heard t hears.2 new hears.3 then lines hears.1 rest (n + 1) (added draft read.0) plan hears.7 followed.session followed.cred (All-tail IsShort line (lines_of behind) shorts) read.2 in
     record {
       number = more.number;
       after = more.after;
-      followed = followed-joined r old hears.2 new draft (added draft read.0) more.after hears.3 then hears.0 hears.1 told hears.4 followed more.followed;
+      followed = followed-joined t.cleaner old hears.2 new draft (added draft read.0) more.after hears.3 then hears.0 hears.1 told hears.4 followed more.followed;
       short = more.short;
       goes_on = more.goes_on;
     }
@@ -261,13 +262,13 @@ told-whole told told_last lines report all none is same =
     ap (λ (l : List ℕ). (told ++ l) ++ report) none ∙ ap (λ (l : List ℕ). l ++ report) (append-nil told) ∙ ap (λ (l : List ℕ). l ++ report) is ∙ ap (λ (l : List ℕ). lines ++ l) same
 
 script-written : (old new : Seen Parts) (script behind : List ℕ) (start out : Option (List ℕ)) (plan : Planned)
-    → old.journal ≡ [] → plan_of script ≡ Ok plan → All IsShort (lines_of script) → IsTalk log_cleaner old new (Some script) (Some behind) start out
+    → old.journal ≡ [] → plan_of script ≡ Ok plan → All IsShort (lines_of script) → IsTalk log_talker old new (Some script) (Some behind) start out
     → (text : List ℕ) × IsOutput log_cleaner script old.limit old.store text × Appends start out text
 script-written old new script behind start out plan empty parsed short talk =
     let all = talk.heard in
     let rest = all.last ++ behind in
     let whole : script ≡ ended all.lines ++ rest = all.taken ∙ append_assoc (ended all.lines) all.last behind in
-    let goes = script-heard log_cleaner old new first_speaker all.then all.lines all.told rest 1 first_draft plan all.heard refl refl
+    let goes = script-heard log_talker old new first_speaker all.then all.lines all.told rest 1 first_draft plan all.heard refl refl
     (subst (λ (s : List ℕ). All IsShort (lines_of s)) whole short) (subst (λ (s : List ℕ). plan_from 1 first_draft (lines_of s) ≡ Ok plan) whole parsed) in
     let fin = script-ends goes.number goes.after plan all.last all.told_last behind all.ends goes.short goes.goes_on in
     let ran = goes.followed.ran in

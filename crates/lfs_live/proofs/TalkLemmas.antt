@@ -4,11 +4,11 @@ use Rattle.std.specs.Io.KnownBytes.{Appends, Consumes, Keeps}
 use Rattle.std.proofs.KnownBytes.{Appends-kept, Appends-nil, Appends-trans, Consumes-nil, Consumes-trans, Keeps-refl}
 use Rattle.std.proofs.lemmas.Grind.{flat_map-append}
 use Rattle.std.proofs.lemmas.List.Elements.{All-nil}
-use Rattle.lfs_volume.specs.Cleanings.{Cleaner}
 use Rattle.lfs_volume.specs.Seen.{Seen}
 use Rattle.lfs_words.specs.Lines.{HasNoLineFeed}
 use Rattle.lfs_live.specs.Hearing.{heard_of}
 use Rattle.lfs_live.specs.Steps.{FailsHere, HearsLast, HearsNext, IsTold}
+use Rattle.lfs_live.specs.Talkers.{Talker}
 use Rattle.lfs_live.specs.Talking.{HasHeard, HasHeardAll, HasHeardSoFar, Hears, HearsAll, ended, first_speaker}
 use Rattle.lfs_live.specs.Telling.{cut_text, ended_line}
 use Rattle.lfs_live.specs.Pieces.{IsPiece, IsUnended}
@@ -19,7 +19,7 @@ use Rattle.lfs_live.proofs.LineLemmas.{cut_kept, heard_kept}
 use Rattle.lfs_live.specs.declared.telling.Speaker.{Speaker}
 
 -- no line was heard
-pub heard_none : {F : Type 0} (r : Cleaner F) (v : Seen F) (speaker : Speaker) (known start : Option (List ℕ)) → speaker ≡ first_speaker → HasHeard r v v speaker known known start start
+pub heard_none : {F : Type 0} (r : Talker F) (v : Seen F) (speaker : Speaker) (known start : Option (List ℕ)) → speaker ≡ first_speaker → HasHeard r v v speaker known known start start
 heard_none r v speaker known start first = record {
   lines = [];
   told = [];
@@ -29,7 +29,7 @@ heard_none r v speaker known start first = record {
 }
 
 -- one more line
-hears-more : {F : Type 0} (r : Cleaner F) (old middle new : Seen F) (first speaker then : Speaker) (lines : List (List ℕ)) (line told more : List ℕ)
+hears-more : {F : Type 0} (r : Talker F) (old middle new : Seen F) (first speaker then : Speaker) (lines : List (List ℕ)) (line told more : List ℕ)
     → HearsAll r old first lines told middle speaker → HasNoLineFeed line → Hears r middle speaker (heard_of line) more new then
     → HearsAll r old first (lines ++ line ∷ []) (told ++ more) new then
 hears-more {F} r old middle new first speaker then [] line told more heard unended next = (
@@ -57,7 +57,7 @@ ended-more : (lines : List (List ℕ)) (line : List ℕ) → ended (lines ++ lin
 ended-more lines line = flat_map-append ended_line lines (line ∷ []) ∙ ap (λ (l : List ℕ). ended lines ++ l) (append-nil (ended_line line))
 
 -- one more line was heard
-pub heard_next : {F : Type 0} (r : Cleaner F) (old middle new : Seen F) (speaker then : Speaker) (known left rest start out more : Option (List ℕ))
+pub heard_next : {F : Type 0} (r : Talker F) (old middle new : Seen F) (speaker then : Speaker) (known left rest start out more : Option (List ℕ))
     → HasHeard r old middle speaker known left start out → HearsNext r middle new speaker then left rest out more → HasHeard r old new then known rest start more
 heard_next r old middle new speaker then known left rest start out more heard next = record {
   lines = heard.lines ++ next.line ∷ [];
@@ -69,7 +69,7 @@ heard_next r old middle new speaker then known left rest start out more heard ne
 }
 
 -- the last was heard
-pub heard_last : {F : Type 0} (r : Cleaner F) (old middle new : Seen F) (speaker : Speaker) (known left rest start out more : Option (List ℕ))
+pub heard_last : {F : Type 0} (r : Talker F) (old middle new : Seen F) (speaker : Speaker) (known left rest start out more : Option (List ℕ))
     → HasHeard r old middle speaker known left start out → new ≡ middle → HearsLast left rest out more → HasHeardAll r old new known rest start more
 heard_last {F} r old middle new speaker known left rest start out more heard same last = record {
   then = speaker;
@@ -84,7 +84,7 @@ heard_last {F} r old middle new speaker known left rest start out more heard sam
 }
 
 -- a read failed
-pub heard_failed : {F : Type 0} (r : Cleaner F) (old middle new : Seen F) (speaker : Speaker) (known left rest start out more : Option (List ℕ))
+pub heard_failed : {F : Type 0} (r : Talker F) (old middle new : Seen F) (speaker : Speaker) (known left rest start out more : Option (List ℕ))
     → HasHeard r old middle speaker known left start out → new ≡ middle → FailsHere left rest out more → HasHeardSoFar r old new known rest start more
 heard_failed {F} r old middle new speaker known left rest start out more heard same fails = record {
   then = speaker;
@@ -98,7 +98,7 @@ heard_failed {F} r old middle new speaker known left rest start out more heard s
 }
 
 -- no more lines are read
-pub heard_enough : {F : Type 0} (r : Cleaner F) (old new : Seen F) (speaker : Speaker) (known left start out : Option (List ℕ))
+pub heard_enough : {F : Type 0} (r : Talker F) (old new : Seen F) (speaker : Speaker) (known left start out : Option (List ℕ))
     → HasHeard r old new speaker known left start out → HasHeardSoFar r old new known left start out
 heard_enough r old new speaker known left start out heard = record {
   then = speaker;
@@ -114,7 +114,7 @@ heard_enough r old new speaker known left start out heard = record {
 -- ---- one line
 
 -- a line was read, and is told
-pub next_told : {F : Type 0} (r : Cleaner F) (old new : Seen F) (speaker then : Speaker) (known left start out : Option (List ℕ)) (is_ended : Bool) (kept line : List ℕ)
+pub next_told : {F : Type 0} (r : Talker F) (old new : Seen F) (speaker then : Speaker) (known left start out : Option (List ℕ)) (is_ended : Bool) (kept line : List ℕ)
     → IsPiece known left is_ended kept → is_ended ≡ true → line ≡ kept → IsTold r old new speaker then (heard_of line) start out
     → HearsNext r old new speaker then known left start out
 next_told r old new speaker then known left start out is_ended kept line piece whole same told = record {

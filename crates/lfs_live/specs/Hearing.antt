@@ -11,20 +11,22 @@ use Rattle.lfs_words.specs.declared.fault.FaultKind.{FaultKind}
 use Rattle.lfs_words.specs.declared.fault.FaultKind.TheVariants.{Bytes, Words}
 use Rattle.lfs_live.specs.declared.fault.LineFault.TheVariants.{TooLong, Kind}
 use Rattle.lfs_live.specs.declared.hearing.Dot.{Dot as Word}
-use Rattle.lfs_live.specs.declared.hearing.Dot.TheVariants.{Journal, Report, Help, Quit}
+use Rattle.lfs_live.specs.declared.hearing.Dot.TheVariants.{Journal, Map, Segment, Report, Help, Quit}
 use Rattle.lfs_live.specs.declared.hearing.Heard.{Heard}
 use Rattle.lfs_live.specs.declared.hearing.Heard.TheVariants.{Line, Dot, Fault}
 
 -- a word of the server's own
 abbrev pub dot_word : Word → List ℕ
 dot_word (Journal count) = codes ".journal"
+dot_word Map = codes ".map"
+dot_word (Segment number) = codes ".segment"
 dot_word Report = codes ".report"
 dot_word Help = codes ".help"
 dot_word Quit = codes ".quit"
 
 -- every word of the server's own that may stand alone
 abbrev pub dots : List Word
-dots = Journal None ∷ Report ∷ Help ∷ Quit ∷ []
+dots = Journal None ∷ Map ∷ Report ∷ Help ∷ Quit ∷ []
 
 abbrev pub or_words : Option Word → Result Word FaultKind
 or_words None = Err Words
@@ -38,10 +40,11 @@ dot_alone word = find (λ dot. bytes_eq (dot_word dot) word) dots
 abbrev pub lone_dot : List ℕ → Result Word FaultKind
 lone_dot word = or_words (dot_alone word)
 
--- the same of a word and what it is given: how many entries
+-- the same of a word and what it is given: how many entries, or which segment
 abbrev pub dot_with : List ℕ → List ℕ → Result Word FaultKind
 dot_with word operand =
-    if bytes_eq word (codes ".journal") then long_of operand >>= (λ count. Ok (Journal (Some count))) else Err Words
+    if bytes_eq word (codes ".journal") then long_of operand >>= (λ count. Ok (Journal (Some count))) else
+    if bytes_eq word (codes ".segment") then long_of operand >>= (λ number. Ok (Segment number)) else Err Words
 
 -- the word of the server's own that words are, or their first fault
 abbrev pub dot_of : List (List ℕ) → Result Word FaultKind

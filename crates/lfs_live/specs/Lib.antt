@@ -4,5 +4,6 @@ pub mod JournalText
 pub mod Pieces
 pub mod Scripts
 pub mod Steps
+pub mod Talkers
 pub mod Talking
 pub mod Telling

@@ -12,7 +12,14 @@ use Rattle.lfs_audit.specs.Scripts.{IsFormatFault, log_cleaner}
 use Rattle.lfs_audit.specs.declared.fault.RunFault.{RunFault}
 use Rattle.lfs_audit.specs.declared.fault.RunFault.TheVariants.{Format}
 use Rattle.lfs_live.specs.Faults.{IsTalkFault}
+use Rattle.lfs_live.specs.Talkers.{Talker, talker_of}
 use Rattle.lfs_live.specs.Talking.{HasHeardSoFar, IsTalk}
+use Rattle.lfs_view.specs.MapText.{map_text}
+use Rattle.lfs_view.specs.SegmentText.{segment_text}
+
+-- the log store, as it is talked to
+abbrev pub log_talker : Talker Parts
+log_talker = talker_of log_cleaner map_text segment_text
 
 -- a fresh volume over a log of so many segments and inode numbers, with room for so many entries
 pub record IsFresh (segments inodes limit : ℕ) (volume : Seen Parts) : Type 0 where
@@ -25,14 +32,14 @@ pub record IsLogTalk (segments inodes limit : ℕ) (known left start out : Optio
   pub old : Seen Parts
   pub new : Seen Parts
   pub fresh : IsFresh segments inodes limit old
-  pub talk : IsTalk log_cleaner old new known left start out
+  pub talk : IsTalk log_talker old new known left start out
 
 -- the same up to a read that failed
 pub record HasHeardOfLog (segments inodes limit : ℕ) (known left start out : Option (List ℕ)) : Type 0 where
   pub old : Seen Parts
   pub new : Seen Parts
   pub fresh : IsFresh segments inodes limit old
-  pub so_far : HasHeardSoFar log_cleaner old new known left start out
+  pub so_far : HasHeardSoFar log_talker old new known left start out
 
 -- a talk over a fresh volume may end in this fault
 abbrev pub IsLogFault : ℕ → ℕ → ℕ → RunFault → Type 0
@@ -45,5 +52,5 @@ abbrev pub WritesAsScript : Type 0
 WritesAsScript =
     (old new : Seen Parts) (script : List ℕ) (left start out : Option (List ℕ)) (plan : Planned)
     → old.journal ≡ [] → plan_of script ≡ Ok plan → All (λ line. length line ≤ 65536) (lines_of script)
-    → IsTalk log_cleaner old new (Some script) left start out
+    → IsTalk log_talker old new (Some script) left start out
     → (text : List ℕ) × IsOutput log_cleaner script old.limit old.store text × Appends start out text

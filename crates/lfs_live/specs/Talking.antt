@@ -12,6 +12,7 @@ use Rattle.lfs_volume.specs.Cleanings.{Cleaner}
 use Rattle.lfs_volume.specs.Seen.{Seen}
 use Rattle.lfs_audit.specs.Runs.{Tells}
 use Rattle.lfs_live.specs.Hearing.{heard_of}
+use Rattle.lfs_live.specs.Talkers.{Talker}
 use Rattle.lfs_live.specs.Telling.{cut_text, dot_text, ended_line, fault_line}
 use Rattle.lfs_live.specs.declared.hearing.Dot.TheVariants.{Quit}
 use Rattle.lfs_live.specs.declared.hearing.Heard.{Heard}
@@ -32,14 +33,14 @@ Does r old speaker (Act act) told new then =
     Tells r old new speaker.session speaker.cred act [] told × (then ≡ speaker)
 
 -- the same of each line: a word of the server's own and a fault change nothing
-abbrev pub Hears : {F : Type 0} → Cleaner F → Seen F → Speaker → Heard → List ℕ → Seen F → Speaker → Type 0
-Hears r old speaker (heard.Line line) told new then = Does r old speaker line told new then
+abbrev pub Hears : {F : Type 0} → Talker F → Seen F → Speaker → Heard → List ℕ → Seen F → Speaker → Type 0
+Hears r old speaker (heard.Line line) told new then = Does r.cleaner old speaker line told new then
 Hears r old speaker (heard.Dot dot) told new then =
-    (new ≡ old) × (then ≡ speaker) × (dot_text dot old.journal ≡ Some told)
+    (new ≡ old) × (then ≡ speaker) × (dot_text r.map_text r.segment_text dot old ≡ Some told)
 Hears r old speaker (heard.Fault fault) told new then = (new ≡ old) × (then ≡ speaker) × (told ≡ fault_line fault)
 
 -- the same of lines, one after another
-abbrev pub HearsAll : {F : Type 0} → Cleaner F → Seen F → Speaker → List (List ℕ) → List ℕ → Seen F → Speaker → Type 0
+abbrev pub HearsAll : {F : Type 0} → Talker F → Seen F → Speaker → List (List ℕ) → List ℕ → Seen F → Speaker → Type 0
 HearsAll r old speaker [] told new then = (new ≡ old) × (then ≡ speaker) × (told ≡ [])
 HearsAll {F} r old speaker (line ∷ lines) told new then =
     (first : List ℕ) × (rest : List ℕ) × (middle : Seen F) × (next : Speaker)
@@ -52,7 +53,7 @@ ended lines = flat_map ended_line lines
 
 -- A volume and who speaks became these by lines that were read, one after another, and what is told of them is written,
 -- and nothing else.
-pub record HasHeard {F : Type 0} (r : Cleaner F) (old new : Seen F) (then : Speaker) (known left start out : Option (List ℕ)) : Type 0 where
+pub record HasHeard {F : Type 0} (r : Talker F) (old new : Seen F) (then : Speaker) (known left start out : Option (List ℕ)) : Type 0 where
   pub lines : List (List ℕ)
   pub told : List ℕ
   pub heard : HearsAll r old first_speaker lines told new then
@@ -60,7 +61,7 @@ pub record HasHeard {F : Type 0} (r : Cleaner F) (old new : Seen F) (then : Spea
   pub printed : Appends start out told
 
 -- Lines were read, and what is told of them is written; and a part of a line was read, of which nothing is told.
-pub record HasHeardSoFar {F : Type 0} (r : Cleaner F) (old new : Seen F) (known left start out : Option (List ℕ)) : Type 0 where
+pub record HasHeardSoFar {F : Type 0} (r : Talker F) (old new : Seen F) (known left start out : Option (List ℕ)) : Type 0 where
   pub then : Speaker
   pub lines : List (List ℕ)
   pub part : List ℕ
@@ -78,7 +79,7 @@ IsLast last told left =
 
 -- Lines were read up to one that quits, or to the end of the input, and what is told of each is written, in order, and
 -- nothing else.
-pub record HasHeardAll {F : Type 0} (r : Cleaner F) (old new : Seen F) (known left start out : Option (List ℕ)) : Type 0 where
+pub record HasHeardAll {F : Type 0} (r : Talker F) (old new : Seen F) (known left start out : Option (List ℕ)) : Type 0 where
   pub then : Speaker
   pub lines : List (List ℕ)
   pub last : List ℕ
@@ -90,8 +91,8 @@ pub record HasHeardAll {F : Type 0} (r : Cleaner F) (old new : Seen F) (known le
   pub printed : Appends start out (told ++ told_last)
 
 -- the same, and then the report of the journal, which is legal from the opening tree
-pub record IsTalk {F : Type 0} (r : Cleaner F) (old new : Seen F) (known left start out : Option (List ℕ)) : Type 0 where
+pub record IsTalk {F : Type 0} (r : Talker F) (old new : Seen F) (known left start out : Option (List ℕ)) : Type 0 where
   pub before : Option (List ℕ)
   pub heard : HasHeardAll r old new known left start before
-  pub legal : IsLegal (r.state new.store).shape.numbers (r.state new.store).shape.segments new.journal opening_world
+  pub legal : IsLegal (r.cleaner.state new.store).shape.numbers (r.cleaner.state new.store).shape.segments new.journal opening_world
   pub reported : Appends before out (report_text new.journal)

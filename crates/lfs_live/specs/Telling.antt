@@ -1,15 +1,15 @@
 -- What is told of faults and of the words of the server's own.
 use Rattle.std.specs.Prelude.{ℕ, List, [], ◌∷◌, ◌++◌, codes, Option, None, Some, if◌then◌else◌}
-use Rattle.lfs_model.specs.declared.journal.Entry.{Entry}
 use Rattle.lfs_print.specs.ReportText.{report_text}
 use Rattle.lfs_words.specs.declared.fault.FaultKind.{FaultKind}
 use Rattle.lfs_words.specs.declared.fault.FaultKind.TheVariants.{Cut, Bytes, Words, Many, Number, Range, Path, Hex, Cred, Memory}
+use Rattle.lfs_volume.specs.Seen.{Seen}
 use Rattle.lfs_live.specs.Hearing.{is_long}
 use Rattle.lfs_live.specs.JournalText.{journal_text}
 use Rattle.lfs_live.specs.declared.fault.LineFault.{LineFault}
 use Rattle.lfs_live.specs.declared.fault.LineFault.TheVariants.{TooLong, Kind}
 use Rattle.lfs_live.specs.declared.hearing.Dot.{Dot}
-use Rattle.lfs_live.specs.declared.hearing.Dot.TheVariants.{Journal, Report, Help, Quit}
+use Rattle.lfs_live.specs.declared.hearing.Dot.TheVariants.{Journal, Map, Segment, Report, Help, Quit}
 
 -- the word of what is wrong with a line of a script
 abbrev pub kind_word : FaultKind → List ℕ
@@ -46,13 +46,17 @@ unfoldable pub help_text : List ℕ
 help_text =
     ended_line (codes "A line is that of a script: a call, `as`, `session`, or `#` and a comment.")
     ++ ended_line (codes ".journal [K]  what was asked and answered so far, or the last K of it")
+    ++ ended_line (codes ".map  what stands in each segment of the log")
+    ++ ended_line (codes ".segment N  each block of a segment: whose it is, where that stands now, live or dead")
     ++ ended_line (codes ".report  how many calls were served, denied and refused so far")
     ++ ended_line (codes ".help    these lines")
     ++ ended_line (codes ".quit    ends with the report, as the end of the input does")
 
--- what a word of the server's own tells of a journal; `.quit` tells nothing, but ends
-abbrev pub dot_text : Dot → List Entry → Option (List ℕ)
-dot_text (Journal count) journal = Some (journal_text count journal)
-dot_text Report journal = Some (report_text journal)
-dot_text Help journal = Some help_text
-dot_text Quit journal = None
+-- what a word of the server's own tells of a volume, by the texts that its store shows of its log; `.quit` tells nothing, but ends
+abbrev pub dot_text : {F : Type 0} → (F → List ℕ) → (F → ℕ → List ℕ) → Dot → Seen F → Option (List ℕ)
+dot_text map_text segment_text (Journal count) volume = Some (journal_text count volume.journal)
+dot_text map_text segment_text Map volume = Some (map_text volume.store)
+dot_text map_text segment_text (Segment number) volume = Some (segment_text volume.store number)
+dot_text map_text segment_text Report volume = Some (report_text volume.journal)
+dot_text map_text segment_text Help volume = Some help_text
+dot_text map_text segment_text Quit volume = None

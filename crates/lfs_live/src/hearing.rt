@@ -22,6 +22,10 @@ pub const LINE_MAX: usize = 65_536;
 pub enum Dot {
     /// Tells the journal so far, or so many of its last entries.
     Journal(Option<u64>),
+    /// Tells what stands in each segment of the log.
+    Map,
+    /// Tells each block of a segment.
+    Segment(u64),
     /// Tells the report so far.
     Report,
     /// Tells what may be said.
@@ -42,7 +46,13 @@ pub enum Heard {
 }
 
 /// Every word of the server's own that may stand alone.
-const DOTS: [Dot; 4] = [Dot::Journal(None), Dot::Report, Dot::Help, Dot::Quit];
+const DOTS: [Dot; 5] = [
+    Dot::Journal(None),
+    Dot::Map,
+    Dot::Report,
+    Dot::Help,
+    Dot::Quit,
+];
 
 impl Dot {
     /// The word of the server's own that a lone word is, where it is one.
@@ -58,6 +68,8 @@ impl Dot {
     {
         match self {
             Dot::Journal(_) => ".journal",
+            Dot::Map => ".map",
+            Dot::Segment(_) => ".segment",
             Dot::Report => ".report",
             Dot::Help => ".help",
             Dot::Quit => ".quit",
@@ -151,6 +163,9 @@ fn dot_with(word: &str, operand: &str) -> Result<Dot, FaultKind>
 {
     if word == ".journal" {
         return Ok(Dot::Journal(Some(decimal(operand)?)));
+    }
+    if word == ".segment" {
+        return Ok(Dot::Segment(decimal(operand)?));
     }
     Err(FaultKind::Words)
 }

@@ -18,6 +18,11 @@ pub fn push_help(out: &mut Vec<u8>) -> Result<(), AllocError>
         out,
         ".journal [K]  what was asked and answered so far, or the last K of it",
     )?;
+    push_line(out, ".map  what stands in each segment of the log")?;
+    push_line(
+        out,
+        ".segment N  each block of a segment: whose it is, where that stands now, live or dead",
+    )?;
     push_line(
         out,
         ".report  how many calls were served, denied and refused so far",

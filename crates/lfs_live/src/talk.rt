@@ -5,6 +5,7 @@ ghost use Rattle.std.specs.Io.KnownBytes.{Appends, Keeps};
 ghost use Rattle.lfs_audit.specs.declared.fault.RunFault.TheVariants.{Read};
 ghost use Rattle.lfs_volume.specs.Cleanings.{cleaner_of};
 ghost use Rattle.lfs_live.specs.Steps.{FailsHere, HearsLast, HearsNext, IsTold};
+ghost use Rattle.lfs_live.specs.Talkers.{talker_of};
 ghost use Rattle.lfs_live.specs.Talking.{HasHeardAll, HasHeardSoFar, IsTalk};
 ghost use Rattle.lfs_live.specs.Faults.{IsLateFault, IsTalkFault};
 ghost use Rattle.lfs_live.specs.Hearing.{heard_of};
@@ -17,6 +18,7 @@ use lfs_audit::fault::RunFault;
 use lfs_audit::run::print_report;
 use lfs_io::output::{flush, write_text};
 use lfs_types::cleaned::CleanedStore;
+use lfs_view::shows::ShowsLog;
 use lfs_volume::volume::Volume;
 use std::alloc::Global;
 use std::io::{Read, Write};
@@ -27,18 +29,20 @@ use std::io::{Read, Write};
 /// # Errors
 ///
 /// `Read` where a read fails: what is told of each line that was read by then is written. `Memory` and `Write`.
-pub fn talk<F: CleanedStore + Drop, R: Read, W: Write>(
+pub fn talk<F: CleanedStore + ShowsLog + Drop, R: Read, W: Write>(
     alloc: Global,
     reader: &mut R,
     writer: &mut W,
     volume: &mut Volume<F>,
 ) -> Result<(), RunFault>
     ensures written { OnOk result (IsTalk
-        (cleaner_of F.state F.is_settled F.gives_ifile F.gives_infos F.gives_addresses F.writes_again F.reclaims)
+        (talker_of (cleaner_of F.state F.is_settled F.gives_ifile F.gives_infos F.gives_addresses F.writes_again F.reclaims)
+        F.map_text F.segment_text)
         volume.old volume.new (R.remaining reader.old) (R.remaining reader.new)
         (W.contents writer.old) (W.contents writer.new)) }
     ensures so_far { IfErr result (λ fault. fault ≡ Read → HasHeardSoFar
-        (cleaner_of F.state F.is_settled F.gives_ifile F.gives_infos F.gives_addresses F.writes_again F.reclaims)
+        (talker_of (cleaner_of F.state F.is_settled F.gives_ifile F.gives_infos F.gives_addresses F.writes_again F.reclaims)
+        F.map_text F.segment_text)
         volume.old volume.new (R.remaining reader.old) (R.remaining reader.new)
         (W.contents writer.old) (W.contents writer.new)) }
     ensures fault { IfErr result IsTalkFault }
@@ -49,18 +53,20 @@ pub fn talk<F: CleanedStore + Drop, R: Read, W: Write>(
 }
 
 /// Reads lines up to the end of the input, or to one that quits, and answers each before it reads the next.
-fn hear_all<F: CleanedStore + Drop, R: Read, W: Write>(
+fn hear_all<F: CleanedStore + ShowsLog + Drop, R: Read, W: Write>(
     alloc: Global,
     reader: &mut R,
     writer: &mut W,
     volume: &mut Volume<F>,
 ) -> Result<(), RunFault>
     ensures heard { OnOk result (HasHeardAll
-        (cleaner_of F.state F.is_settled F.gives_ifile F.gives_infos F.gives_addresses F.writes_again F.reclaims)
+        (talker_of (cleaner_of F.state F.is_settled F.gives_ifile F.gives_infos F.gives_addresses F.writes_again F.reclaims)
+        F.map_text F.segment_text)
         volume.old volume.new (R.remaining reader.old) (R.remaining reader.new)
         (W.contents writer.old) (W.contents writer.new)) }
     ensures so_far { IfErr result (λ fault. fault ≡ Read → HasHeardSoFar
-        (cleaner_of F.state F.is_settled F.gives_ifile F.gives_infos F.gives_addresses F.writes_again F.reclaims)
+        (talker_of (cleaner_of F.state F.is_settled F.gives_ifile F.gives_infos F.gives_addresses F.writes_again F.reclaims)
+        F.map_text F.segment_text)
         volume.old volume.new (R.remaining reader.old) (R.remaining reader.new)
         (W.contents writer.old) (W.contents writer.new)) }
     ensures fault { IfErr result IsTalkFault }
@@ -75,7 +81,7 @@ fn hear_all<F: CleanedStore + Drop, R: Read, W: Write>(
 }
 
 /// Reads a line and answers it. Whether more is to be read.
-fn hear_next<F: CleanedStore + Drop, R: Read, W: Write>(
+fn hear_next<F: CleanedStore + ShowsLog + Drop, R: Read, W: Write>(
     alloc: Global,
     reader: &mut R,
     writer: &mut W,
@@ -83,7 +89,8 @@ fn hear_next<F: CleanedStore + Drop, R: Read, W: Write>(
     speaker: &mut Speaker,
 ) -> Result<bool, RunFault>
     ensures next { IfOk result (λ goes_on. goes_on ≡ true → HearsNext
-        (cleaner_of F.state F.is_settled F.gives_ifile F.gives_infos F.gives_addresses F.writes_again F.reclaims)
+        (talker_of (cleaner_of F.state F.is_settled F.gives_ifile F.gives_infos F.gives_addresses F.writes_again F.reclaims)
+        F.map_text F.segment_text)
         volume.old volume.new speaker.old speaker.new (R.remaining reader.old) (R.remaining reader.new)
         (W.contents writer.old) (W.contents writer.new)) }
     ensures last { IfOk result (λ goes_on. goes_on ≡ false → (volume.new ≡ volume.old) × HearsLast
@@ -102,7 +109,7 @@ fn hear_next<F: CleanedStore + Drop, R: Read, W: Write>(
 }
 
 /// Does what a line says, which is given without its line feed, and writes what is told of it. Whether more is to be read.
-fn hear_line<F: CleanedStore + Drop, W: Write>(
+fn hear_line<F: CleanedStore + ShowsLog + Drop, W: Write>(
     alloc: Global,
     writer: &mut W,
     volume: &mut Volume<F>,
@@ -110,7 +117,8 @@ fn hear_line<F: CleanedStore + Drop, W: Write>(
     line: &[u8],
 ) -> Result<bool, RunFault>
     ensures told { IfOk result (λ goes_on. goes_on ≡ true → IsTold
-        (cleaner_of F.state F.is_settled F.gives_ifile F.gives_infos F.gives_addresses F.writes_again F.reclaims)
+        (talker_of (cleaner_of F.state F.is_settled F.gives_ifile F.gives_infos F.gives_addresses F.writes_again F.reclaims)
+        F.map_text F.segment_text)
         volume.old volume.new speaker.old speaker.new (heard_of line.now)
         (W.contents writer.old) (W.contents writer.new)) }
     ensures quits { IfOk result (λ goes_on. goes_on ≡ false → (volume.new ≡ volume.old)

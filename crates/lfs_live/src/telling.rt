@@ -4,6 +4,7 @@ ghost use Rattle.std.specs.Prelude.{◌≡◌, [], Some, IfOk, MatchOption};
 ghost use Rattle.lfs_volume.specs.Cleanings.{cleaner_of};
 ghost use Rattle.lfs_audit.specs.Runs.{Tells};
 ghost use Rattle.lfs_live.specs.Hearing.{heard_of};
+ghost use Rattle.lfs_live.specs.Talkers.{talker_of};
 ghost use Rattle.lfs_live.specs.Talking.{Does, Hears, first_speaker};
 ghost use Rattle.lfs_live.specs.Telling.{cut_text, dot_text, fault_line, help_text};
 ghost use Rattle.lfs_live.specs.declared.hearing.Dot.TheVariants.{Quit};
@@ -19,6 +20,7 @@ use lfs_script::plan::{Act, Line, Step};
 use lfs_types::cleaned::CleanedStore;
 use lfs_types::cred::Cred;
 use lfs_types::store::FileStore;
+use lfs_view::shows::ShowsLog;
 use lfs_volume::volume::Volume;
 use lfs_words::caller::first_caller;
 use lfs_words::fault::FaultKind;
@@ -51,7 +53,7 @@ impl Speaker {
 /// # Errors
 ///
 /// Memory ran out: before the line was read, or behind the calls of which no answer is told then.
-pub fn answer<F: CleanedStore + Drop>(
+pub fn answer<F: CleanedStore + ShowsLog + Drop>(
     alloc: Global,
     volume: &mut Volume<F>,
     speaker: &mut Speaker,
@@ -60,7 +62,8 @@ pub fn answer<F: CleanedStore + Drop>(
     ensures { IfOk result (λ told. MatchOption told
         ((heard_of line.now ≡ heard.Dot Quit) × (volume.new ≡ volume.old))
         (λ text. Hears
-        (cleaner_of F.state F.is_settled F.gives_ifile F.gives_infos F.gives_addresses F.writes_again F.reclaims)
+        (talker_of (cleaner_of F.state F.is_settled F.gives_ifile F.gives_infos F.gives_addresses F.writes_again F.reclaims)
+        F.map_text F.segment_text)
         volume.old speaker.old (heard_of line.now) text.items volume.new speaker.new)) }
 {
     match hear(alloc, line)? {
@@ -108,21 +111,41 @@ fn make<F: CleanedStore + Drop>(
 }
 
 /// The text that a word of the server's own tells, or none where it quits.
-fn tell_dot<F: FileStore + Drop>(
+fn tell_dot<F: FileStore + ShowsLog + Drop>(
     alloc: Global,
     volume: &Volume<F>,
     dot: Dot,
 ) -> Result<Option<Vec<u8>>, AllocError>
     ensures { IfOk result (λ told. MatchOption told
         (dot ≡ Quit)
-        (λ text. dot_text dot volume.now.journal ≡ Some text.items)) }
+        (λ text. dot_text F.map_text F.segment_text dot volume.now ≡ Some text.items)) }
 {
     match dot {
         Dot::Journal(count) => Ok(Some(tell_journal(alloc, volume.journal(), count)?)),
+        Dot::Map => Ok(Some(tell_map(alloc, volume.store())?)),
+        Dot::Segment(number) => Ok(Some(tell_segment(alloc, volume.store(), number)?)),
         Dot::Report => Ok(Some(report_counts(alloc, volume.counts())?)),
         Dot::Help => Ok(Some(tell_help(alloc)?)),
         Dot::Quit => Ok(None),
     }
+}
+
+/// The text of `.map`.
+fn tell_map<F: ShowsLog>(alloc: Global, store: &F) -> Result<Vec<u8>, AllocError>
+    ensures { IfOk result (λ text. text.items ≡ F.map_text store.now) }
+{
+    let mut text = Vec::new(alloc);
+    store.push_map(alloc, &mut text)?;
+    Ok(text)
+}
+
+/// The text of `.segment`.
+fn tell_segment<F: ShowsLog>(alloc: Global, store: &F, number: u64) -> Result<Vec<u8>, AllocError>
+    ensures { IfOk result (λ text. text.items ≡ F.segment_text store.now number) }
+{
+    let mut text = Vec::new(alloc);
+    store.push_segment(alloc, &mut text, number)?;
+    Ok(text)
 }
 
 /// The text of `.help`.
