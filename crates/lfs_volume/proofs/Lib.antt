@@ -1,5 +1,4 @@
 pub mod CallLemmas
 pub mod CleaningLemmas
 pub mod JournalLemmas
-pub mod OpeningLemmas
 pub mod StepLemmas
