@@ -6,7 +6,7 @@ use Rattle.lfs_words.specs.Faults.{Reads}
 use Rattle.lfs_words.specs.Lines.{is_printable}
 use Rattle.lfs_words.specs.Wording.{words_of}
 use Rattle.lfs_words.specs.declared.fault.FaultKind.{FaultKind}
-use Rattle.lfs_live.specs.Hearing.{call_heard, dot_heard, dot_of, dot_said, dot_with, heard_of, is_dotted, lone_dot}
+use Rattle.lfs_live.specs.Hearing.{call_heard, dot_of, dot_said, dot_with, dotted_heard, heard_of, is_dotted, lone_dot}
 use Rattle.lfs_live.specs.declared.fault.LineFault.TheVariants.{TooLong}
 use Rattle.lfs_live.specs.declared.hearing.Dot.{Dot}
 use Rattle.lfs_live.specs.declared.hearing.Heard.TheVariants.{Fault}
@@ -27,7 +27,7 @@ unfolding heard_of
 heard_long line long = rw (lt-ltb 65536 (length line) long) refl
 
 -- a line begins with a dot
-pub heard_dot : (line : List ℕ) → length line ≤ 65536 → is_dotted line ≡ true → dot_heard (dot_said line) ≡ heard_of line
+pub heard_dot : (line : List ℕ) → length line ≤ 65536 → is_dotted line ≡ true → dotted_heard line ≡ heard_of line
 unfolding heard_of
 heard_dot line few dotted = rw (le-ltb 65536 (length line) few, dotted) refl
 

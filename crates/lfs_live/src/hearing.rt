@@ -3,11 +3,12 @@
 ghost use Rattle.std.specs.Prelude.{◌≡◌, map, IfOk};
 ghost use Rattle.lfs_script.specs.Plans.{line_said};
 ghost use Rattle.lfs_words.specs.Faults.{Reads};
-ghost use Rattle.lfs_live.specs.Hearing.{call_heard, dot_alone, dot_heard, dot_of, dot_said, dot_with, dot_word, heard_of, is_dotted, is_long, lone_dot};
+ghost use Rattle.lfs_live.specs.Hearing.{call_heard, dot_alone, dot_heard, dot_of, dot_said, dot_with, dot_word, dotted_heard, heard_of, is_dotted, is_long, lone_dot, why_heard};
 
 use crate::fault::LineFault;
-use lfs_script::plan::Line;
+use lfs_script::plan::{Act, Line};
 use lfs_script::script::parse_line;
+use lfs_types::request::Request;
 use lfs_words::fault::FaultKind;
 use lfs_words::line::text_of;
 use lfs_words::number::decimal;
@@ -16,6 +17,9 @@ use std::alloc::{AllocError, Global};
 
 /// The most bytes of a line.
 pub const LINE_MAX: usize = 65_536;
+
+/// What stands before a call that is to be explained.
+const WHY: &[u8] = b".why ";
 
 /// A word of the server's own. It changes nothing.
 #[derive(Clone, Copy, PartialEq, Eq, Debug)]
@@ -35,6 +39,8 @@ pub enum Dot {
 pub enum Heard {
     /// What a line of a script says.
     Line(Line),
+    /// Tells why a call would be allowed or denied now. It changes nothing.
+    Why(Request),
     /// A word of the server's own.
     Dot(Dot),
     /// Nothing that is done, for this fault.
@@ -77,7 +83,7 @@ pub fn hear(alloc: Global, line: &[u8]) -> Result<Heard, AllocError>
         return Ok(Heard::Fault(LineFault::TooLong));
     }
     if is_dotted(line) {
-        hear_dot(alloc, line)
+        hear_dotted(alloc, line)
     } else {
         hear_call(alloc, line)
     }
@@ -105,6 +111,29 @@ fn hear_call(alloc: Global, line: &[u8]) -> Result<Heard, AllocError>
 }
 
 /// What a line says that begins with a dot.
+fn hear_dotted(alloc: Global, line: &[u8]) -> Result<Heard, AllocError>
+    ensures { IfOk result (λ heard. heard ≡ dotted_heard line.now) }
+{
+    if line.starts_with(WHY) {
+        hear_why(alloc, &line[WHY.len()..])
+    } else {
+        hear_dot(alloc, line)
+    }
+}
+
+/// What a line of a script says that is to be explained: a user's call, and nothing else.
+fn hear_why(alloc: Global, line: &[u8]) -> Result<Heard, AllocError>
+    ensures { IfOk result (λ heard. heard ≡ why_heard (line_said line.now)) }
+{
+    match parse_line(alloc, line) {
+        Ok(Line::Act(Act::User(request))) => Ok(Heard::Why(request)),
+        Ok(_) => Ok(Heard::Fault(LineFault::Kind(FaultKind::Words))),
+        Err(FaultKind::Memory) => Err(AllocError),
+        Err(kind) => Ok(Heard::Fault(LineFault::Kind(kind))),
+    }
+}
+
+/// What a word of the server's own says that stands by itself, or with a number.
 fn hear_dot(alloc: Global, line: &[u8]) -> Result<Heard, AllocError>
     ensures { IfOk result (λ heard. heard ≡ dot_heard (dot_said line.now)) }
 {

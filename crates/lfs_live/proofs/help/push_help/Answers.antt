@@ -1,11 +1,11 @@
 use Rattle.lfs_audit.proofs.RunLemmas.{on_ok}
 use Rattle.lfs_live.specs.Telling.{help_text}
-use Rattle.lfs_live.proofs.HelpLemmas.{five_added}
+use Rattle.lfs_live.proofs.HelpLemmas.{six_added}
 use Rattle.lfs_live.proofs.help.push_help.Goals as goal
 
 pub returns : goal.returns
 unfolding help_text
 returns c =
-    on_ok c.push_line-5.result c.push_line-5.ensures
-    (λ last. five_added c.args.out.now.items _ _ _ _ _ c.push_line.new.out.items c.push_line-2.new.out.items c.push_line-3.new.out.items c.push_line-4.new.out.items
-    c.push_line-5.new.out.items c.in_ok-push_line.ensures c.in_ok-push_line-2.ensures c.in_ok-push_line-3.ensures c.in_ok-push_line-4.ensures last)
+    on_ok c.push_line-6.result c.push_line-6.ensures
+    (λ last. six_added c.args.out.now.items _ _ _ _ _ _ c.push_line.new.out.items c.push_line-2.new.out.items c.push_line-3.new.out.items c.push_line-4.new.out.items
+    c.push_line-5.new.out.items c.push_line-6.new.out.items c.in_ok-push_line.ensures c.in_ok-push_line-2.ensures c.in_ok-push_line-3.ensures c.in_ok-push_line-4.ensures c.in_ok-push_line-5.ensures last)
