@@ -1,12 +1,14 @@
 -- What a line says.
 use Rattle.std.proofs.Common.{◌≡◌, ℕ, ◌<◌, ◌≤◌, true, false, List, [], ◌∷◌, length, map, get_or, Result, Ok, Err, refl, ap, subst, ◌∙◌, arith}
+use Rattle.std.specs.Prelude.{codes, drop, nat_eq}
+use Rattle.std.specs.List.{starts_with}
 use Rattle.std.proofs.lemmas.Bool.{le-ltb, lt-ltb}
 use Rattle.lfs_script.specs.Plans.{line_said}
 use Rattle.lfs_words.specs.Faults.{Reads}
 use Rattle.lfs_words.specs.Lines.{is_printable}
 use Rattle.lfs_words.specs.Wording.{words_of}
 use Rattle.lfs_words.specs.declared.fault.FaultKind.{FaultKind}
-use Rattle.lfs_live.specs.Hearing.{call_heard, dot_of, dot_said, dot_with, dotted_heard, heard_of, is_dotted, lone_dot}
+use Rattle.lfs_live.specs.Hearing.{call_heard, dot_heard, dot_of, dot_said, dot_with, dotted_heard, heard_of, why_heard, is_dotted, lone_dot}
 use Rattle.lfs_live.specs.declared.fault.LineFault.TheVariants.{TooLong}
 use Rattle.lfs_live.specs.declared.hearing.Dot.{Dot}
 use Rattle.lfs_live.specs.declared.hearing.Heard.TheVariants.{Fault}
@@ -50,3 +52,11 @@ pair_there f [] d least most = absurd (omega arith)
 pair_there f (a ∷ []) d least most = absurd (omega arith)
 pair_there f (a ∷ b ∷ []) d least most = refl
 pair_there f (a ∷ b ∷ c ∷ more) d least most = absurd (omega arith)
+
+-- a line begins with `.why `
+pub heard_why : (line : List ℕ) → starts_with nat_eq line (codes ".why ") ≡ true → why_heard (line_said (drop 5 line)) ≡ dotted_heard line
+heard_why line why = rw why refl
+
+-- or with another dot
+pub heard_lone : (line : List ℕ) → starts_with nat_eq line (codes ".why ") ≡ false → dot_heard (dot_said line) ≡ dotted_heard line
+heard_lone line other = rw other refl

@@ -82,11 +82,14 @@ why_act (Cleaner call) = Fault (Kind Words)
 why_act Pass = Fault (Kind Words)
 
 -- what a line of a script says that is to be explained: a user's call, and nothing else
+abbrev pub why_line : Said → Heard
+why_line Nothing = Fault (Kind Words)
+why_line (Session session) = Fault (Kind Words)
+why_line (Caller cred) = Fault (Kind Words)
+why_line (Act act) = why_act act
+
 abbrev pub why_heard : Result Said FaultKind → Heard
-why_heard (Ok Nothing) = Fault (Kind Words)
-why_heard (Ok (Session session)) = Fault (Kind Words)
-why_heard (Ok (Caller cred)) = Fault (Kind Words)
-why_heard (Ok (Act act)) = why_act act
+why_heard (Ok said) = why_line said
 why_heard (Err kind) = Fault (Kind kind)
 
 -- what a line says that begins with a dot: why, of the call behind `.why `, or a word of the server's own

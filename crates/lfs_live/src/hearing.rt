@@ -3,7 +3,7 @@
 ghost use Rattle.std.specs.Prelude.{◌≡◌, map, IfOk};
 ghost use Rattle.lfs_script.specs.Plans.{line_said};
 ghost use Rattle.lfs_words.specs.Faults.{Reads};
-ghost use Rattle.lfs_live.specs.Hearing.{call_heard, dot_alone, dot_heard, dot_of, dot_said, dot_with, dot_word, dotted_heard, heard_of, is_dotted, is_long, lone_dot, why_heard};
+ghost use Rattle.lfs_live.specs.Hearing.{call_heard, dot_alone, dot_heard, dot_of, dot_said, dot_with, dot_word, dotted_heard, heard_of, is_dotted, is_long, lone_dot, why_act, why_heard, why_line};
 
 use crate::fault::LineFault;
 use lfs_script::plan::{Act, Line};
@@ -17,9 +17,6 @@ use std::alloc::{AllocError, Global};
 
 /// The most bytes of a line.
 pub const LINE_MAX: usize = 65_536;
-
-/// What stands before a call that is to be explained.
-const WHY: &[u8] = b".why ";
 
 /// A word of the server's own. It changes nothing.
 #[derive(Clone, Copy, PartialEq, Eq, Debug)]
@@ -114,8 +111,8 @@ fn hear_call(alloc: Global, line: &[u8]) -> Result<Heard, AllocError>
 fn hear_dotted(alloc: Global, line: &[u8]) -> Result<Heard, AllocError>
     ensures { IfOk result (λ heard. heard ≡ dotted_heard line.now) }
 {
-    if line.starts_with(WHY) {
-        hear_why(alloc, &line[WHY.len()..])
+    if line.starts_with(b".why ") {
+        hear_why(alloc, &line[5..])
     } else {
         hear_dot(alloc, line)
     }
@@ -126,10 +123,32 @@ fn hear_why(alloc: Global, line: &[u8]) -> Result<Heard, AllocError>
     ensures { IfOk result (λ heard. heard ≡ why_heard (line_said line.now)) }
 {
     match parse_line(alloc, line) {
-        Ok(Line::Act(Act::User(request))) => Ok(Heard::Why(request)),
-        Ok(_) => Ok(Heard::Fault(LineFault::Kind(FaultKind::Words))),
+        Ok(said) => Ok(why_line(said)),
         Err(FaultKind::Memory) => Err(AllocError),
         Err(kind) => Ok(Heard::Fault(LineFault::Kind(kind))),
+    }
+}
+
+/// A line that is to be explained, if it is a user's call.
+fn why_line(said: Line) -> Heard
+    ensures { result ≡ why_line said }
+{
+    match said {
+        Line::Act(act) => why_act(act),
+        Line::Nothing => Heard::Fault(LineFault::Kind(FaultKind::Words)),
+        Line::Session(_) => Heard::Fault(LineFault::Kind(FaultKind::Words)),
+        Line::Caller(_) => Heard::Fault(LineFault::Kind(FaultKind::Words)),
+    }
+}
+
+/// What is to be explained, if it is a user's call.
+fn why_act(act: Act) -> Heard
+    ensures { result ≡ why_act act }
+{
+    match act {
+        Act::User(request) => Heard::Why(request),
+        Act::Cleaner(_) => Heard::Fault(LineFault::Kind(FaultKind::Words)),
+        Act::Pass => Heard::Fault(LineFault::Kind(FaultKind::Words)),
     }
 }
 

@@ -69,7 +69,11 @@ pub fn answer<F: CleanedStore + Drop>(
 {
     match hear(alloc, line)? {
         Heard::Line(said) => Ok(Some(obey(alloc, volume, speaker, said)?)),
-        Heard::Why(request) => Ok(Some(tell_why(alloc, volume, &speaker.cred, &request)?)),
+        Heard::Why(request) => {
+            let told = tell_why(alloc, volume, &speaker.cred, &request);
+            drop(request);
+            Ok(Some(told?))
+        }
         Heard::Dot(dot) => tell_dot(alloc, volume, dot),
         Heard::Fault(fault) => Ok(Some(tell_fault(alloc, fault)?)),
     }
