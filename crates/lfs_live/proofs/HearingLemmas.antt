@@ -1,6 +1,8 @@
 -- What a line says.
 use Rattle.std.proofs.Common.{◌≡◌, ℕ, ◌<◌, ◌≤◌, true, false, List, [], ◌∷◌, length, map, get_or, Result, Ok, Err, refl, ap, subst, ◌∙◌, arith}
-use Rattle.std.specs.Prelude.{codes, drop, nat_eq}
+use Rattle.std.specs.Prelude.{◌-◌, codes, drop, nat_eq, take}
+use Rattle.std.proofs.Common.{length-drop}
+use Rattle.std.proofs.lemmas.List.{take_all}
 use Rattle.std.specs.List.{starts_with}
 use Rattle.std.proofs.lemmas.Bool.{le-ltb, lt-ltb}
 use Rattle.lfs_script.specs.Plans.{line_said}
@@ -52,6 +54,10 @@ pair_there f [] d least most = absurd (omega arith)
 pair_there f (a ∷ []) d least most = absurd (omega arith)
 pair_there f (a ∷ b ∷ []) d least most = refl
 pair_there f (a ∷ b ∷ c ∷ more) d least most = absurd (omega arith)
+
+-- what stands behind `.why `
+pub rest_of : (line : List ℕ) → take (length line - 5) (drop 5 line) ≡ drop 5 line
+rest_of line = take_all (length line - 5) (drop 5 line) (rw (length-drop 5 line) (omega arith))
 
 -- a line begins with `.why `
 pub heard_why : (line : List ℕ) → starts_with nat_eq line (codes ".why ") ≡ true → why_heard (line_said (drop 5 line)) ≡ dotted_heard line
