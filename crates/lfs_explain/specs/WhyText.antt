@@ -137,7 +137,7 @@ with_head out check =
 -- of what a rule is asked at a component of a path of these names, which lead through these rows
 abbrev pub with_subject : List ℕ → Caller → Rule → ℕ → List (List ℕ) → List Seen → List ℕ
 with_subject out caller rule at names rows =
-    if asks_name rule then with_name out (slice_get names (at - 1)) else
+    if asks_name rule then (if at == 0 then out else with_name out (slice_get names (at - 1))) else
     with_caller (with_directory (with_asked out caller rule (slice_get rows at)) rule (slice_get rows (at - 1))) caller rule
 
 -- the paths of a call: the names of each, and the rows that they lead through

@@ -88,7 +88,11 @@ fn push_subject(
 {
     let before = (at as usize).saturating_sub(1);
     if asks_name(rule) {
-        return push_name_at(out, names, before);
+        return if at == 0 {
+            Ok(())
+        } else {
+            push_name_at(out, names, before)
+        };
     }
     push_asked(out, cred, rule, row_of(rows, at as usize))?;
     push_directory(out, rule, row_of(rows, before))?;

@@ -1,12 +1,16 @@
 -- What a line says.
 use Rattle.std.proofs.Common.{◌≡◌, ℕ, ◌<◌, ◌≤◌, true, false, List, [], ◌∷◌, length, map, get_or, Result, Ok, Err, refl, ap, subst, ◌∙◌, arith}
+use Rattle.std.specs.Prelude.{◌-◌, codes, drop, nat_eq, take}
+use Rattle.std.proofs.Common.{length-drop}
+use Rattle.std.proofs.lemmas.List.{take_all}
+use Rattle.std.specs.List.{starts_with}
 use Rattle.std.proofs.lemmas.Bool.{le-ltb, lt-ltb}
 use Rattle.lfs_script.specs.Plans.{line_said}
 use Rattle.lfs_words.specs.Faults.{Reads}
 use Rattle.lfs_words.specs.Lines.{is_printable}
 use Rattle.lfs_words.specs.Wording.{words_of}
 use Rattle.lfs_words.specs.declared.fault.FaultKind.{FaultKind}
-use Rattle.lfs_live.specs.Hearing.{call_heard, dot_heard, dot_of, dot_said, dot_with, heard_of, is_dotted, lone_dot}
+use Rattle.lfs_live.specs.Hearing.{call_heard, dot_heard, dot_of, dot_said, dot_with, dotted_heard, heard_of, why_heard, is_dotted, lone_dot}
 use Rattle.lfs_live.specs.declared.fault.LineFault.TheVariants.{TooLong}
 use Rattle.lfs_live.specs.declared.hearing.Dot.{Dot}
 use Rattle.lfs_live.specs.declared.hearing.Heard.TheVariants.{Fault}
@@ -27,7 +31,7 @@ unfolding heard_of
 heard_long line long = rw (lt-ltb 65536 (length line) long) refl
 
 -- a line begins with a dot
-pub heard_dot : (line : List ℕ) → length line ≤ 65536 → is_dotted line ≡ true → dot_heard (dot_said line) ≡ heard_of line
+pub heard_dot : (line : List ℕ) → length line ≤ 65536 → is_dotted line ≡ true → dotted_heard line ≡ heard_of line
 unfolding heard_of
 heard_dot line few dotted = rw (le-ltb 65536 (length line) few, dotted) refl
 
@@ -50,3 +54,15 @@ pair_there f [] d least most = absurd (omega arith)
 pair_there f (a ∷ []) d least most = absurd (omega arith)
 pair_there f (a ∷ b ∷ []) d least most = refl
 pair_there f (a ∷ b ∷ c ∷ more) d least most = absurd (omega arith)
+
+-- what stands behind `.why `
+pub rest_of : (line : List ℕ) → take (length line - 5) (drop 5 line) ≡ drop 5 line
+rest_of line = take_all (length line - 5) (drop 5 line) (rw (length-drop 5 line) (omega arith))
+
+-- a line begins with `.why `
+pub heard_why : (line : List ℕ) → starts_with nat_eq line (codes ".why ") ≡ true → why_heard (line_said (drop 5 line)) ≡ dotted_heard line
+heard_why line why = rw why refl
+
+-- or with another dot
+pub heard_lone : (line : List ℕ) → starts_with nat_eq line (codes ".why ") ≡ false → dot_heard (dot_said line) ≡ dotted_heard line
+heard_lone line other = rw other refl

@@ -1,8 +1,12 @@
 -- What a line says.
-use Rattle.std.specs.Prelude.{ℕ, ◌==◌, Bool, false, nat_lt, List, [], ◌∷◌, length, codes, find, Option, None, Some, Result, Ok, Err, if◌then◌else◌}
+use Rattle.std.specs.Prelude.{ℕ, ◌==◌, Bool, false, nat_eq, nat_lt, List, [], ◌∷◌, drop, length, codes, find, Option, None, Some, Result, Ok, Err, if◌then◌else◌}
+use Rattle.std.specs.List.{starts_with}
 use Rattle.std.specs.Str.{bytes_eq}
 use Rattle.lfs_script.specs.Plans.{line_said}
 use Rattle.lfs_script.specs.declared.plan.Line.{Line as Said}
+use Rattle.lfs_script.specs.declared.plan.Line.TheVariants.{Nothing, Session, Caller, Act}
+use Rattle.lfs_script.specs.declared.plan.Act.{Act as Asked}
+use Rattle.lfs_script.specs.declared.plan.Act.TheVariants.{User, Cleaner, Pass}
 use Rattle.lfs_words.specs.Faults.{◌>>=◌}
 use Rattle.lfs_words.specs.Lines.{is_printable}
 use Rattle.lfs_words.specs.Numbers.{long_of}
@@ -13,7 +17,7 @@ use Rattle.lfs_live.specs.declared.fault.LineFault.TheVariants.{TooLong, Kind}
 use Rattle.lfs_live.specs.declared.hearing.Dot.{Dot as Word}
 use Rattle.lfs_live.specs.declared.hearing.Dot.TheVariants.{Journal, Map, Segment, Report, Help, Quit}
 use Rattle.lfs_live.specs.declared.hearing.Heard.{Heard}
-use Rattle.lfs_live.specs.declared.hearing.Heard.TheVariants.{Line, Dot, Fault}
+use Rattle.lfs_live.specs.declared.hearing.Heard.TheVariants.{Line, Why, Dot, Fault}
 
 -- a word of the server's own
 abbrev pub dot_word : Word → List ℕ
@@ -74,9 +78,31 @@ abbrev pub dot_heard : Result Word FaultKind → Heard
 dot_heard (Ok dot) = Dot dot
 dot_heard (Err kind) = Fault (Kind kind)
 
+-- a user's call that is to be explained
+abbrev pub why_act : Asked → Heard
+why_act (User request) = Why request
+why_act (Cleaner call) = Fault (Kind Words)
+why_act Pass = Fault (Kind Words)
+
+-- what a line of a script says that is to be explained: a user's call, and nothing else
+abbrev pub why_line : Said → Heard
+why_line Nothing = Fault (Kind Words)
+why_line (Session session) = Fault (Kind Words)
+why_line (Caller cred) = Fault (Kind Words)
+why_line (Act act) = why_act act
+
+abbrev pub why_heard : Result Said FaultKind → Heard
+why_heard (Ok said) = why_line said
+why_heard (Err kind) = Fault (Kind kind)
+
+-- what a line says that begins with a dot: why, of the call behind `.why `, or a word of the server's own
+abbrev pub dotted_heard : List ℕ → Heard
+dotted_heard line =
+    if starts_with nat_eq line (codes ".why ") then why_heard (line_said (drop 5 line)) else dot_heard (dot_said line)
+
 -- what a line says, which is given without its line feed: one that is too long says nothing, one that begins with a dot
 -- a word of the server's own, each other what a line of a script says
 unfoldable pub heard_of : List ℕ → Heard
 heard_of line =
     if is_long line then Fault TooLong else
-    if is_dotted line then dot_heard (dot_said line) else call_heard (line_said line)
+    if is_dotted line then dotted_heard line else call_heard (line_said line)

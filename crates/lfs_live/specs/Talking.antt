@@ -2,8 +2,9 @@
 use Rattle.std.specs.Prelude.{◌≡◌, ℕ, ◌⊎◌, false, List, [], ◌∷◌, ◌++◌, Option, Some}
 use Rattle.std.specs.Io.KnownBytes.{Appends, Consumes, IsAtEnd}
 use Rattle.std.specs.List.{flat_map}
+use Rattle.lfs_types.specs.StoreStates.{StoreState}
 use Rattle.lfs_types.specs.Tree.{opening_world}
-use Rattle.lfs_model.specs.Steps.{IsLegal}
+use Rattle.lfs_model.specs.Steps.{IsLegal, world_of}
 use Rattle.lfs_print.specs.ReportText.{report_text}
 use Rattle.lfs_script.specs.declared.plan.Line.{Line}
 use Rattle.lfs_script.specs.declared.plan.Line.TheVariants.{Nothing, Session, Caller, Act}
@@ -11,6 +12,7 @@ use Rattle.lfs_words.specs.Lines.{HasNoLineFeed}
 use Rattle.lfs_volume.specs.Cleanings.{Cleaner}
 use Rattle.lfs_volume.specs.Seen.{Seen}
 use Rattle.lfs_audit.specs.Runs.{Tells}
+use Rattle.lfs_explain.specs.WhyText.{why_text}
 use Rattle.lfs_live.specs.Hearing.{heard_of}
 use Rattle.lfs_live.specs.Talkers.{Talker}
 use Rattle.lfs_live.specs.Telling.{cut_text, dot_text, ended_line, fault_line}
@@ -32,9 +34,19 @@ Does r old speaker (Caller cred) told new then = (new ≡ old) × (then ≡ reco
 Does r old speaker (Act act) told new then =
     Tells r old new speaker.session speaker.cred act [] told × (then ≡ speaker)
 
--- the same of each line: a word of the server's own and a fault change nothing
+-- a volume was looked at: its store shows what it showed, and all else is as it was
+pub record LooksOn {F : Type 0} (before after : StoreState) (old new : Seen F) : Type 0 where
+  pub state : after ≡ before
+  pub level : new.level ≡ old.level
+  pub journal : new.journal ≡ old.journal
+  pub limit : new.limit ≡ old.limit
+
+-- the same of each line: a call that is explained is not made, and a word of the server's own and a fault change nothing
 abbrev pub Hears : {F : Type 0} → Talker F → Seen F → Speaker → Heard → List ℕ → Seen F → Speaker → Type 0
 Hears r old speaker (heard.Line line) told new then = Does r.cleaner old speaker line told new then
+Hears r old speaker (heard.Why request) told new then =
+    LooksOn (r.cleaner.state old.store) (r.cleaner.state new.store) old new × (then ≡ speaker)
+    × (told ≡ why_text (world_of (r.cleaner.state old.store).shape.numbers old.journal) speaker.cred request)
 Hears r old speaker (heard.Dot dot) told new then =
     (new ≡ old) × (then ≡ speaker) × (dot_text r.map_text r.segment_text dot old ≡ Some told)
 Hears r old speaker (heard.Fault fault) told new then = (new ≡ old) × (then ≡ speaker) × (told ≡ fault_line fault)

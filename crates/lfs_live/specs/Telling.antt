@@ -45,6 +45,7 @@ cut_text (c ∷ cs) = fault_line (if is_long (c ∷ cs) then TooLong else Kind C
 unfoldable pub help_text : List ℕ
 help_text =
     ended_line (codes "A line is that of a script: a call, `as`, `session`, or `#` and a comment.")
+    ++ ended_line (codes ".why CALL  the checks by which a call would be allowed or denied now, without making it")
     ++ ended_line (codes ".journal [K]  what was asked and answered so far, or the last K of it")
     ++ ended_line (codes ".map  what stands in each segment of the log")
     ++ ended_line (codes ".segment N  each block of a segment: whose it is, where that stands now, live or dead")

@@ -3,11 +3,12 @@
 ghost use Rattle.std.specs.Prelude.{◌≡◌, map, IfOk};
 ghost use Rattle.lfs_script.specs.Plans.{line_said};
 ghost use Rattle.lfs_words.specs.Faults.{Reads};
-ghost use Rattle.lfs_live.specs.Hearing.{call_heard, dot_alone, dot_heard, dot_of, dot_said, dot_with, dot_word, heard_of, is_dotted, is_long, lone_dot};
+ghost use Rattle.lfs_live.specs.Hearing.{call_heard, dot_alone, dot_heard, dot_of, dot_said, dot_with, dot_word, dotted_heard, heard_of, is_dotted, is_long, lone_dot, why_act, why_heard, why_line};
 
 use crate::fault::LineFault;
-use lfs_script::plan::Line;
+use lfs_script::plan::{Act, Line};
 use lfs_script::script::parse_line;
+use lfs_types::request::Request;
 use lfs_words::fault::FaultKind;
 use lfs_words::line::text_of;
 use lfs_words::number::decimal;
@@ -39,6 +40,8 @@ pub enum Dot {
 pub enum Heard {
     /// What a line of a script says.
     Line(Line),
+    /// Tells why a call would be allowed or denied now. It changes nothing.
+    Why(Request),
     /// A word of the server's own.
     Dot(Dot),
     /// Nothing that is done, for this fault.
@@ -89,7 +92,7 @@ pub fn hear(alloc: Global, line: &[u8]) -> Result<Heard, AllocError>
         return Ok(Heard::Fault(LineFault::TooLong));
     }
     if is_dotted(line) {
-        hear_dot(alloc, line)
+        hear_dotted(alloc, line)
     } else {
         hear_call(alloc, line)
     }
@@ -117,6 +120,51 @@ fn hear_call(alloc: Global, line: &[u8]) -> Result<Heard, AllocError>
 }
 
 /// What a line says that begins with a dot.
+fn hear_dotted(alloc: Global, line: &[u8]) -> Result<Heard, AllocError>
+    ensures { IfOk result (λ heard. heard ≡ dotted_heard line.now) }
+{
+    if line.starts_with(b".why ") {
+        hear_why(alloc, &line[5..])
+    } else {
+        hear_dot(alloc, line)
+    }
+}
+
+/// What a line of a script says that is to be explained: a user's call, and nothing else.
+fn hear_why(alloc: Global, line: &[u8]) -> Result<Heard, AllocError>
+    ensures { IfOk result (λ heard. heard ≡ why_heard (line_said line.now)) }
+{
+    match parse_line(alloc, line) {
+        Ok(said) => Ok(why_line(said)),
+        Err(FaultKind::Memory) => Err(AllocError),
+        Err(kind) => Ok(Heard::Fault(LineFault::Kind(kind))),
+    }
+}
+
+/// A line that is to be explained, if it is a user's call.
+fn why_line(said: Line) -> Heard
+    ensures { result ≡ why_line said }
+{
+    match said {
+        Line::Act(act) => why_act(act),
+        Line::Nothing => Heard::Fault(LineFault::Kind(FaultKind::Words)),
+        Line::Session(_) => Heard::Fault(LineFault::Kind(FaultKind::Words)),
+        Line::Caller(_) => Heard::Fault(LineFault::Kind(FaultKind::Words)),
+    }
+}
+
+/// What is to be explained, if it is a user's call.
+fn why_act(act: Act) -> Heard
+    ensures { result ≡ why_act act }
+{
+    match act {
+        Act::User(request) => Heard::Why(request),
+        Act::Cleaner(_) => Heard::Fault(LineFault::Kind(FaultKind::Words)),
+        Act::Pass => Heard::Fault(LineFault::Kind(FaultKind::Words)),
+    }
+}
+
+/// What a word of the server's own says that stands by itself, or with a number.
 fn hear_dot(alloc: Global, line: &[u8]) -> Result<Heard, AllocError>
     ensures { IfOk result (λ heard. heard ≡ dot_heard (dot_said line.now)) }
 {

@@ -16,6 +16,10 @@ pub fn push_help(out: &mut Vec<u8>) -> Result<(), AllocError>
     )?;
     push_line(
         out,
+        ".why CALL  the checks by which a call would be allowed or denied now, without making it",
+    )?;
+    push_line(
+        out,
         ".journal [K]  what was asked and answered so far, or the last K of it",
     )?;
     push_line(out, ".map  what stands in each segment of the log")?;

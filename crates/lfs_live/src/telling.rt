@@ -3,9 +3,11 @@
 ghost use Rattle.std.specs.Prelude.{◌≡◌, [], Some, IfOk, MatchOption};
 ghost use Rattle.lfs_volume.specs.Cleanings.{cleaner_of};
 ghost use Rattle.lfs_audit.specs.Runs.{Tells};
+ghost use Rattle.lfs_explain.specs.WhyText.{why_text};
+ghost use Rattle.lfs_model.specs.Steps.{world_of};
 ghost use Rattle.lfs_live.specs.Hearing.{heard_of};
 ghost use Rattle.lfs_live.specs.Talkers.{talker_of};
-ghost use Rattle.lfs_live.specs.Talking.{Does, Hears, first_speaker};
+ghost use Rattle.lfs_live.specs.Talking.{Does, Hears, LooksOn, first_speaker};
 ghost use Rattle.lfs_live.specs.Telling.{cut_text, dot_text, fault_line, help_text};
 ghost use Rattle.lfs_live.specs.declared.hearing.Dot.TheVariants.{Quit};
 ghost use Rattle.lfs_live.specs.declared.hearing.Heard.TheVariants as heard;
@@ -15,10 +17,12 @@ use crate::hearing::{Dot, Heard, LINE_MAX, hear};
 use crate::help::push_help;
 use crate::journal::tell_journal;
 use lfs_audit::passing::run_step;
+use lfs_explain::lines::tell_explanation;
 use lfs_print::report::report_counts;
 use lfs_script::plan::{Act, Line, Step};
 use lfs_types::cleaned::CleanedStore;
 use lfs_types::cred::Cred;
+use lfs_types::request::Request;
 use lfs_types::store::FileStore;
 use lfs_view::shows::ShowsLog;
 use lfs_volume::volume::Volume;
@@ -68,6 +72,11 @@ pub fn answer<F: CleanedStore + ShowsLog + Drop>(
 {
     match hear(alloc, line)? {
         Heard::Line(said) => Ok(Some(obey(alloc, volume, speaker, said)?)),
+        Heard::Why(request) => {
+            let told = tell_why(alloc, volume, &speaker.cred, &request);
+            drop(request);
+            Ok(Some(told?))
+        }
         Heard::Dot(dot) => tell_dot(alloc, volume, dot),
         Heard::Fault(fault) => Ok(Some(tell_fault(alloc, fault)?)),
     }
@@ -108,6 +117,22 @@ fn make<F: CleanedStore + Drop>(
     let mut text = Vec::new(alloc);
     run_step(volume, Step { session, cred, act }, &mut text)?;
     Ok(text)
+}
+
+/// The lines of why a call would be allowed or denied now. The call is not made.
+fn tell_why<F: FileStore + Drop>(
+    alloc: Global,
+    volume: &mut Volume<F>,
+    cred: &Cred,
+    request: &Request,
+) -> Result<Vec<u8>, AllocError>
+    ensures text { let w = world_of (F.state volume.old.store).shape.numbers volume.old.journal in
+        IfOk result (λ text. text.items ≡ why_text w cred.now request.now) }
+    ensures looks { LooksOn (F.state volume.old.store) (F.state volume.new.store)
+        volume.old volume.new }
+{
+    let explanation = volume.explain(cred, request)?;
+    tell_explanation(alloc, &explanation, cred, request)
 }
 
 /// The text that a word of the server's own tells, or none where it quits.

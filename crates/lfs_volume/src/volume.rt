@@ -6,11 +6,14 @@ ghost use Rattle.lfs_types.specs.StoreStates.{Follows};
 ghost use Rattle.lfs_types.specs.Tree.{opening_content};
 ghost use Rattle.lfs_types.specs.declared.level.Level.TheVariants.{Insecure};
 ghost use Rattle.lfs_model.specs.Counts.{counts_of};
+ghost use Rattle.lfs_model.specs.Rules.{rule_table};
 ghost use Rattle.lfs_model.specs.Runs.{IsUnserved, kept, kept_cleaning, kept_entry, kept_step, kept_steps};
 ghost use Rattle.lfs_model.specs.Steps.{world_of};
 ghost use Rattle.lfs_calls.specs.Entries.{LeavesEntries, OnServed};
 ghost use Rattle.lfs_calls.specs.Outcomes.{IsOutcome};
 ghost use Rattle.lfs_calls.specs.Volumes.{HasWorld, IsVolume};
+ghost use Rattle.lfs_explain.specs.Asked.{asked};
+ghost use Rattle.lfs_explain.specs.Ways.{IsTrail, first_names, second_names};
 ghost use Rattle.lfs_volume.specs.CallRuns.{AreAnswers};
 ghost use Rattle.lfs_volume.specs.Cleanings.{CleansOnly, IsCleanerAnswer, cleaner_of};
 ghost use Rattle.lfs_volume.specs.Copies.{is_lack_of_memory};
@@ -21,6 +24,7 @@ use crate::cleaning::{cleaned, outcome};
 use lfs_calls::not_served::answered;
 use lfs_calls::serving::serve;
 use lfs_calls::tree::Tree;
+use lfs_explain::explain::{Explanation, explain};
 use lfs_model::counts::Counts;
 use lfs_model::journal::{Call, CleanerAnswer, CleanerKind, Entry, Event};
 use lfs_model::steps::{Act, Step, StepAnswer};
@@ -175,6 +179,27 @@ impl<F: FileStore + Drop> Volume<F> {
             push_within(&mut answers, answer);
         }
         Ok(answers)
+    }
+
+    /// Why a call would be allowed or denied now, on the tree that the journal leads to, without making it: nothing is
+    /// entered. An error where memory runs out.
+    pub fn explain(&mut self, cred: &Cred, request: &Request) -> Result<Explanation, AllocError>
+        ensures checks { let w = world_of (F.state self.old.store).shape.numbers self.old.journal in
+            IfOk result (λ explanation. explanation.checks.items
+            ≡ asked (rule_table w cred.now request.now)) }
+        ensures first { let w = world_of (F.state self.old.store).shape.numbers self.old.journal in
+            IfOk result (λ explanation.
+            IsTrail w.rows (first_names request.now) explanation.first) }
+        ensures second { let w = world_of (F.state self.old.store).shape.numbers self.old.journal in
+            IfOk result (λ explanation.
+            IsTrail w.rows (second_names request.now) explanation.second) }
+        ensures state { F.state self.new.store ≡ F.state self.old.store }
+        ensures level { self.new.level ≡ self.old.level }
+        ensures journal { self.new.journal ≡ self.old.journal }
+        ensures limit { self.new.limit ≡ self.old.limit }
+    {
+        let alloc = *self.journal.allocator();
+        explain(alloc, &mut self.store, self.level, cred, request)
     }
 
     /// What was called and answered, in order.
