@@ -29,7 +29,8 @@ ROUNDS = 12
 FEW_ROUNDS = 3
 BLOCK = 512
 # As many blocks as a file here has: those of its record and of the single indirect block.
-FILE_BLOCKS = 140
+# The most blocks of a file of a run: those that need no double indirect block.
+MOST_BLOCKS = 140
 DIRECT = 12
 # The most bytes of the lines of a round.
 ROUND_BYTES = 40_000
@@ -100,7 +101,7 @@ class Run:
 
 
 def first_block(rng, past):
-    return rng.randrange(DIRECT, FILE_BLOCKS) if past else rng.randrange(DIRECT)
+    return rng.randrange(DIRECT, MOST_BLOCKS) if past else rng.randrange(DIRECT)
 
 
 def filled(run, past, name_length, blocks, sync, passes):
@@ -130,7 +131,7 @@ def worn(run, count, kinds, sync, passes):
         elif kind == "direct":
             run.write(path, run.rng.randrange(DIRECT))
         elif kind == "past":
-            run.write(path, run.rng.randrange(DIRECT, FILE_BLOCKS))
+            run.write(path, run.rng.randrange(DIRECT, MOST_BLOCKS))
         run.sometimes("sync", sync)
         run.sometimes("pass", passes)
 
@@ -284,7 +285,7 @@ def spread_files(run):
         run.file(f"/b{i}")
     often = rng.choice([0, 0.05, 0.5])
     for _ in range(1500):
-        run.write(run.any(), rng.randrange(FILE_BLOCKS))
+        run.write(run.any(), rng.randrange(MOST_BLOCKS))
         run.sometimes("sync", often)
         run.sometimes("pass", 0.005)
     worn(run, 300, ["cut", "chmod", "direct", "past"], rng.choice([0.2, 1]), rng.choice([0.01, 0.1]))
@@ -316,9 +317,9 @@ def emptying(run):
 def filling(run):
     """Blocks are written until they are refused."""
     lines = ["pass"] * 4
-    for i in range(1 + run.segments * SEGMENT // FILE_BLOCKS):
+    for i in range(1 + run.segments * SEGMENT // MOST_BLOCKS):
         lines.append(f"create /fill{i} 0644")
-        lines += [f"write /fill{i} at {block * BLOCK} 61" for block in range(FILE_BLOCKS)]
+        lines += [f"write /fill{i} at {block * BLOCK} 61" for block in range(MOST_BLOCKS)]
     return lines
 
 
