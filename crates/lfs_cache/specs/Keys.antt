@@ -1,5 +1,5 @@
 -- Keys, and where the search for one starts.
-use Rattle.std.specs.Prelude.{ℕ, ◌+◌, ◌*◌, ◌%◌, Bool, ◌&&◌, ◌==◌}
+use Rattle.std.specs.Prelude.{ℕ, ◌+◌, ◌*◌, ◌/◌, ◌%◌, Bool, ◌&&◌, ◌==◌}
 use Rattle.lfs_cache.specs.declared.key.Key.{Key}
 
 abbrev pub same_key : Key → Key → Bool
@@ -7,4 +7,4 @@ same_key a b = a.ino == b.ino && (a.version == b.version && a.lbn == b.lbn)
 
 -- the place where the search for a key starts, of so many
 abbrev pub start_of : Key → ℕ → ℕ
-start_of k span = (k.ino * 40503 + k.version * 30011 + k.lbn) % span
+start_of k span = (k.ino * 668265263 + k.version * 374761393 + k.lbn * 2654435761) / 65536 % span

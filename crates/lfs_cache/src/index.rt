@@ -30,13 +30,17 @@ impl Model for Index {
     ghost invariant = { λ i. IsIndex i.keys.items i.places.items i.taken };
 }
 
-// Where the search for a key starts.
+// Where the search for a key starts. Keys of blocks side by side start far apart, so that the search for a key that isn't held
+// soon meets a free place.
 fn start(key: Key, span: usize) -> usize
     requires { 0 < span }
     ensures start { result ≡ start_of key span }
     ensures below { result < span }
 {
-    ((key.ino as u64 * 40503 + key.version as u64 * 30011 + key.lbn as u64) % span as u64) as usize
+    let spread = key.ino as u64 * 668265263
+        + key.version as u64 * 374761393
+        + key.lbn as u64 * 2654435761;
+    (spread / 65536 % span as u64) as usize
 }
 
 // The first free place from `start` on.

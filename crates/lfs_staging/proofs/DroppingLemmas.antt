@@ -22,7 +22,7 @@ use Rattle.lfs_bmap.proofs.HolderLemmas.{code_cases, codes_on-block, data_table,
 use Rattle.lfs_bmap.proofs.PlaceLemmas.{data_block-same}
 use Rattle.lfs_bmap.proofs.TableLemmas.{codes_on-above, codes_on-two, codes_on-within, first_under-least, first_under-past, table_of-later, table_of-less, under_table}
 use Rattle.lfs_staging.specs.declared.parts.Parts.{Parts}
-use Rattle.lfs_staging.specs.Cutting.{ClearsBlock, ClearsBlocks, DropsBlocks, DropsDown, DropsTable, GoneDown, IsGone, KeepsRest, MayClear, MayClearBetween, MayDrop, MayDropAll, cut_codes, down_codes, last_table}
+use Rattle.lfs_staging.specs.Cutting.{ClearsBlock, ClearsBlocks, DropsBlocks, DropsDown, DropsTable, GoneDown, IsGone, KeepsRest, MayClear, MayClearBetween, MayClearTable, MayDrop, MayDropAll, cut_codes, down_codes, last_table}
 use Rattle.lfs_staging.specs.Staging.{IsStaged, MayStage, StagesTable, TakesOnly}
 use Rattle.lfs_staging.specs.Store.{HolderWaits}
 use Rattle.lfs_staging.specs.View.{key_of, record_of, tree_from, tree_of, version_of, waiting_in}
@@ -285,6 +285,20 @@ module _ (a b : Parts) (v : Inode) (t : FileBlock) (left blocks : ℕ) (may : Ma
       }) (λ _. cleared_gone c d v.number t q) (λ k low held past. gone_still c d v.number t (Data k) q may.can low (under k low held past));
       data_same = λ n k apart. q.data_same n k (inr (λ e. let holds = may.holds in omega arith)) ∙ same_before n k apart;
     }
+
+  -- the block goes with the data blocks whose addresses stand in it
+  pub may_table : (end : ℕ) → end ≤ blocks → left ≤ first_under t
+      → ((k : ℕ) → k < FILE_BLOCKS → first_under t ≤ k → k < end → table_of (Data k) ≡ t)
+      → ((k : ℕ) → k < FILE_BLOCKS → table_of (Data k) ≡ t → k < blocks → (first_under t ≤ k) × (k < end)) → MayClearTable b v.number t end
+  may_table end few whole held all = record {
+    blocks = may_between (first_under t) end few held;
+    can = may.can;
+    other = may.other;
+    holds = may.holds;
+    under = λ k from low. held k (let bounded = few_blocks end few in omega arith) from low;
+    waits = h.takes.block_waits;
+    last = λ c p. may_clear_table c (first_under t) end p (λ k low own past inside. all k low own inside) whole whole;
+  }
 
 -- ---- what waits more between two turns
 down_cases : (left turn c : ℕ) → Contains (down_codes left turn) c → ((c ≡ 2) × (2 < turn)) ⊎ Contains (codes_on (way_to (last_table left))) c

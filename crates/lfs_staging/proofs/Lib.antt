@@ -34,3 +34,6 @@ pub mod ForgettingLemmas
 pub mod CleanLemmas
 pub mod FilledLemmas
 pub mod HeldLemmas
+pub mod OtherBytesLemmas
+pub mod GivenBackLemmas
+pub mod EmptiedLemmas

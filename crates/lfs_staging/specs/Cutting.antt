@@ -97,6 +97,23 @@ pub record ClearsBlocks (number first end : ℕ) (old new : Parts) : Type 0 wher
       → IsLocked (key_of number (version_of old number) code) new.cache
   pub data_same : (n index : ℕ) → (n ≢ number) ⊎ ((index < first) ⊎ (end ≤ index)) → data_block (tree_of new n) index ≡ data_block (tree_of old n) index
 
+-- An indirect block that waits may be given back, with the data blocks up to before one whose addresses stand in it: these may
+-- be given back, and then the block itself.
+pub record MayClearTable (p : Parts) (number : ℕ) (table : FileBlock) (end : ℕ) : Type 0 where
+  pub blocks : MayClearBetween p number (first_under table) end
+  pub can : IsFileBlock table
+  pub other : code_of table ≢ 0
+  pub holds : code_of table < FIRST_DATA_CODE
+  pub under : (index : ℕ) → first_under table ≤ index → index < end → table_of (Data index) ≡ table
+  pub waits : IsLocked (key_of number (version_of p number) (code_of table)) p.cache
+  pub last : (q : Parts) → ClearsBlocks number (first_under table) end p q → MayClear q number table
+
+-- They were given back, as one after another would be, the block itself last.
+pub record ClearsTable (number : ℕ) (table : FileBlock) (end : ℕ) (old new : Parts) : Type 0 where
+  pub between : Parts
+  pub blocks : ClearsBlocks number (first_under table) end old between
+  pub last : ClearsBlock number table between new
+
 -- Of the blocks of a file that lead only to data blocks from one on those are gone that hold addresses and have a code from
 -- `turn` on, and the data blocks whose addresses stand in a block with such a code.
 pub record GoneDown (p : Parts) (number left turn : ℕ) : Type 0 where

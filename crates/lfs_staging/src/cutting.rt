@@ -7,10 +7,10 @@ ghost use Rattle.lfs_types.specs.declared.block.TheConstants.{BLOCK_SIZE};
 ghost use Rattle.lfs_ifile.specs.Tables.{row_of};
 ghost use Rattle.lfs_inodes.specs.Facts.{IsSizeOf, block_count};
 ghost use Rattle.lfs_inodes.specs.Reading.{Fields};
-ghost use Rattle.lfs_bmap.specs.Blocks.{IsFileBlock, way_to};
+ghost use Rattle.lfs_bmap.specs.Blocks.{IsFileBlock, first_under, way_to};
 ghost use Rattle.lfs_bmap.specs.Ways.{codes_on, data_way};
 ghost use Rattle.lfs_staging.specs.Changing.{StaysInLog, frames_of_length};
-ghost use Rattle.lfs_staging.specs.Cutting.{ClearsBlock, ClearsBlocks, CutsBlock, CutsFile, CutsLast, DropsBlocks, DropsDown, DropsTable, IsGone, MayClear, MayClearBetween, MayDrop, MayDropAll, MayShorten, Shortens, with_length};
+ghost use Rattle.lfs_staging.specs.Cutting.{ClearsBlock, ClearsBlocks, ClearsTable, CutsBlock, CutsFile, CutsLast, DropsBlocks, DropsDown, DropsTable, IsGone, MayClear, MayClearBetween, MayClearTable, MayDrop, MayDropAll, MayShorten, Shortens, with_length};
 ghost use Rattle.lfs_staging.specs.Files.{content_of};
 ghost use Rattle.lfs_staging.specs.Addressing.{IsWaiting};
 ghost use Rattle.lfs_staging.specs.Staging.{HasFrames, IsStaged, MayStage};
@@ -18,10 +18,11 @@ ghost use Rattle.lfs_staging.specs.View.{record_of};
 ghost use Rattle.lfs_staging.specs.Waiting.{without};
 ghost use Rattle.lfs_staging.specs.declared.records.TheConstants.{WAITING_LIMIT};
 
-use crate::parts::Parts;
+use crate::parts::{Parts, key_of};
 use lfs_bmap::blocks::FileBlock;
 use lfs_bmap::pieces::cut_piece;
 use lfs_cache::Key;
+use lfs_inodes::addresses::entry;
 use lfs_inodes::inode::Inode;
 use lfs_types::block::BLOCK_SIZE;
 
@@ -98,6 +99,41 @@ impl Parts {
         }
     }
 
+    /// Gives back an indirect block of a file that waits, whose record waits too, and the data blocks to
+    /// before `end` whose addresses stand in it. It is read once, and stays as it is until it goes.
+    fn clear_whole(&mut self, inode: &Inode, table: FileBlock, end: u32)
+        requires is { IsWaiting self.old inode.now }
+        requires may { MayClearTable self.old inode.now.number table end }
+        requires ordered { first_under table ≤ end }
+        ensures { ClearsTable inode.now.number table end self.old self.new }
+    {
+        let place = self.address_of(inode, table);
+        let held = *self.block_of(inode, table);
+        let start = table.data_run().start;
+        for index in start..end {
+            let block = FileBlock::Data(index);
+            let from = entry(&held, (index - start) as usize);
+            self.log.move_live(block, from, 0);
+            self.cache.forget(key_of(inode, block));
+        }
+        self.set_address(inode, table, 0);
+        self.log.move_live(table, place, 0);
+        self.cache.forget(key_of(inode, table));
+    }
+
+    /// Gives back an indirect block that waits of a file in use, and the data blocks to before `end`
+    /// whose addresses stand in it.
+    fn clear_table(&mut self, ino: u32, table: FileBlock, end: u32)
+        requires may { MayClearTable self.old ino table end }
+        requires ordered { first_under table ≤ end }
+        ensures { ClearsTable ino table end self.old self.new }
+    {
+        let Some(inode) = self.waiting(ino) else {
+            unreachable!()
+        };
+        self.clear_whole(&inode, table, end);
+    }
+
     /// Whether a block of a file has no address and doesn't wait.
     fn is_gone(&self, inode: &Inode, block: FileBlock) -> bool
         requires may { MayStage self.now inode.now }
@@ -125,9 +161,11 @@ impl Parts {
             return;
         }
         self.stage_with_parents(&inode, table);
-        self.clear_blocks(ino, left.max(run.start), blocks.min(run.end));
+        let end = blocks.min(run.end);
         if left <= run.start {
-            self.clear_block(ino, table);
+            self.clear_table(ino, table, end);
+        } else {
+            self.clear_blocks(ino, left, end);
         }
     }
 
