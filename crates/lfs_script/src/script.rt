@@ -78,10 +78,10 @@ fn parse_text(alloc: Global, text: &str) -> Result<Line, FaultKind>
     if is_skipped(text) {
         return Ok(Line::Nothing);
     }
-    if has_bare_word(text) {
+    let words = pieces(alloc, text, ' ')?;
+    if has_bare_word(words.as_slice()) {
         return Err(FaultKind::Words);
     }
-    let words = pieces(alloc, text, ' ')?;
     parse_words(alloc, words.as_slice())
 }
 

@@ -3,7 +3,8 @@ use Rattle.std.proofs.Common.{◌≡◌, ℕ, ◌≤◌, Ok, false, ◌+◌, ◌
 use Rattle.std.specs.Prelude.{◌&&◌}
 use Rattle.std.specs.Char.{digit_char, digit_value}
 use Rattle.std.specs.List.{list_all}
-use Rattle.std.proofs.lemmas.List.{take_more}
+use Rattle.std.specs.Prelude.{slice_set}
+use Rattle.std.proofs.lemmas.List.{length-set, take_more, take_more_set}
 use Rattle.std.proofs.lemmas.Str.{digit_value-digit_char}
 use Rattle.std.proofs.lemmas.Bool.{ltb-true, le-ltb, eqb-true, and_parts}
 use Rattle.lfs_words.specs.BytesText.{hex_text, hex_bytes, bytes_of, is_dash, is_hex, is_hex_digit}
@@ -69,7 +70,17 @@ length-hex_text (b ∷ bs) = omega (arith, length-hex_text bs)
 pub hex_text_more : (bytes : List ℕ) (i d : ℕ) → i < length bytes → hex_text (take (i + 1) bytes) ≡ hex_text (take i bytes) ++ (digit_char (get_or bytes i d / 16) ∷ digit_char (get_or bytes i d % 16) ∷ [])
 hex_text_more bytes i d lt = rw (take_more bytes i d lt) (hex_text-push (take i bytes) (get_or bytes i d))
 
--- a text to which one more byte is appended
-pub hex_pushed : (out done bytes : List ℕ) (i high low : ℕ) → i < length bytes → done ≡ out ++ hex_text (take i bytes) → high ≡ digit_char (get_or bytes i 0 / 16) → low ≡ digit_char (get_or bytes i 0 % 16) → done ++ (high ∷ low ∷ []) ≡ out ++ hex_text (take (i + 1) bytes)
-hex_pushed out done bytes i high low lt so_far first second =
-    rw (so_far, first, second, append_assoc, hex_text_more bytes i 0 lt) refl
+set_two : (xs : List ℕ) (j h l : ℕ) → j + 1 < length xs → take (j + 2) (slice_set (slice_set xs j h) (j + 1) l) ≡ take j xs ++ (h ∷ l ∷ [])
+set_two xs j h l lt =
+    let first = take_more_set xs j h (omega arith) in
+    let second = take_more_set (slice_set xs j h) (j + 1) l (rw (length-set xs j h) lt) in
+    let both : j + 2 ≡ j + 1 + 1 = omega arith in
+    rw (both, second, first, append_assoc) refl
+
+-- one more byte has its two digits written at their place
+pub hex_written : (digits bytes : List ℕ) (k high low : ℕ) → k < length bytes → length digits ≡ 2 * length bytes → take (2 * k) digits ≡ hex_text (take k bytes) → high ≡ digit_char (get_or bytes k 0 / 16) → low ≡ digit_char (get_or bytes k 0 % 16) → take (2 * (k + 1)) (slice_set (slice_set digits (2 * k) high) (2 * k + 1) low) ≡ hex_text (take (k + 1) bytes)
+hex_written digits bytes k high low lt room so_far first second =
+    let there : 2 * (k + 1) ≡ 2 * k + 2 = omega arith in
+    ap (λ n. take n (slice_set (slice_set digits (2 * k) high) (2 * k + 1) low)) there
+    ∙ set_two digits (2 * k) high low (omega arith)
+    ∙ rw (so_far, first, second, hex_text_more bytes k 0 lt) refl

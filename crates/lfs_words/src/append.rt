@@ -1,6 +1,6 @@
 //! Words that are appended to a text, each behind a space.
 
-ghost use Rattle.std.specs.Prelude.{◌≡◌, ◌^◌, ◌<◌, ◌∷◌, ◌++◌, [], decimal, OnOk};
+ghost use Rattle.std.specs.Prelude.{◌≡◌, ◌*◌, ◌^◌, ◌<◌, ◌∷◌, ◌++◌, [], decimal, length, OnOk};
 ghost use Rattle.std.specs.Char.{digit_char};
 ghost use Rattle.std.specs.List.{flat_map};
 ghost use Rattle.lfs_types.specs.FlagNumbers.{IsKnown};
@@ -13,15 +13,16 @@ use lfs_types::mode::Mode;
 use lfs_types::name::Name;
 use std::alloc::AllocError;
 
-/// The digits of numbers.
-const DIGITS: [u8; 16] = *b"0123456789abcdef";
-
 /// The digit of a number below 16.
 fn digit(value: u8) -> u8
     requires { value < 16 }
     ensures { result ≡ digit_char value }
 {
-    DIGITS[value as usize]
+    if value < 10 {
+        b'0' + value
+    } else {
+        b'a' - 10 + value
+    }
 }
 
 /// Appends a number in decimal, without a space.
@@ -52,10 +53,25 @@ pub fn push_number(out: &mut Vec<u8>, number: u64) -> Result<(), AllocError>
 fn push_hex(out: &mut Vec<u8>, bytes: &[u8]) -> Result<(), AllocError>
     ensures { OnOk result (out.new.items ≡ out.old.items ++ hex_text bytes.now) }
 {
-    for byte in bytes {
-        out.extend_from_slice(&[digit(byte / 16), digit(byte % 16)])?;
-    }
+    let from = out.len();
+    let Some(to) = from.checked_add(2 * bytes.len()) else {
+        return Err(AllocError);
+    };
+    out.resize(to, 0)?;
+    write_hex(&mut out.as_mut_slice()[from..], bytes);
     Ok(())
+}
+
+/// Writes two digits for each byte, each at its own place, so that it is compiled to steps of many bytes.
+fn write_hex(digits: &mut [u8], bytes: &[u8])
+    requires { length digits.old ≡ 2 * length bytes.now }
+    ensures { digits.new ≡ hex_text bytes.now }
+{
+    for place in 0..bytes.len() {
+        let byte = bytes[place];
+        digits[2 * place] = digit(byte / 16);
+        digits[2 * place + 1] = digit(byte % 16);
+    }
 }
 
 /// Appends bytes, two digits each, or `-` for none.

@@ -1,6 +1,6 @@
 //! Bytes and file flags in scripts.
 
-ghost use Rattle.std.specs.Prelude.{◌≡◌, ◌<◌, ◌≤◌, [], ◌∷◌, length, true, IfOk};
+ghost use Rattle.std.specs.Prelude.{◌≡◌, ◌<◌, ◌≤◌, ◌*◌, [], ◌∷◌, length, true, IfOk};
 ghost use Rattle.lfs_words.specs.Faults.{Reads};
 ghost use Rattle.lfs_words.specs.BytesText.{is_dash, is_hex_digit, is_hex, hex_text, hex_bytes, bytes_of};
 ghost use Rattle.lfs_words.specs.FlagText.{is_flags, flags_of};
@@ -59,10 +59,7 @@ fn is_dash(word: &[u8]) -> bool
 fn is_hex_digit(byte: u8) -> bool
     ensures { result ≡ is_hex_digit byte }
 {
-    match byte {
-        b'0'..=b'9' | b'a'..=b'f' => true,
-        _ => false,
-    }
+    (byte >= b'0' && byte <= b'9') || (byte >= b'a' && byte <= b'f')
 }
 
 /// Whether these are an even, positive number of digits.
@@ -72,11 +69,15 @@ fn is_hex(digits: &[u8]) -> bool
     !digits.is_empty() && digits.len() % 2 == 0 && has_hex_alone(digits)
 }
 
-/// Whether every byte is a digit.
+/// Whether every byte is a digit. It looks at each, so that it is compiled to steps of many bytes.
 fn has_hex_alone(bytes: &[u8]) -> bool
     ensures { result ≡ list_all is_hex_digit bytes.now }
 {
-    bytes.iter().all(|byte| is_hex_digit(*byte))
+    let mut alone = true;
+    for byte in bytes {
+        alone &= is_hex_digit(*byte);
+    }
+    alone
 }
 
 /// The value of a digit.
@@ -107,12 +108,22 @@ fn decoded(alloc: Global, digits: &[u8]) -> Result<Vec<u8>, AllocError>
     ensures spelled { IfOk result (λ bytes. hex_text bytes.items ≡ digits.now) }
     ensures read { IfOk result (λ bytes. hex_bytes digits.now ≡ bytes.items) }
 {
-    let half = digits.len() / 2;
-    let mut bytes = Vec::with_capacity(alloc, half)?;
-    for k in 0..half {
-        bytes.push(byte_of(digits[2 * k], digits[2 * k + 1]))?;
-    }
+    let mut bytes = Vec::new(alloc);
+    bytes.resize(digits.len() / 2, 0)?;
+    decode(bytes.as_mut_slice(), digits);
     Ok(bytes)
+}
+
+/// Writes the bytes that these digits spell, each at its own place.
+fn decode(bytes: &mut [u8], digits: &[u8])
+    requires hex { is_hex digits.now ≡ true }
+    requires room { 2 * length bytes.old ≡ length digits.now }
+    ensures spelled { hex_text bytes.new ≡ digits.now }
+    ensures read { hex_bytes digits.now ≡ bytes.new }
+{
+    for place in 0..bytes.len() {
+        bytes[place] = byte_of(digits[2 * place], digits[2 * place + 1]);
+    }
 }
 
 /// Whether a word is 1 to 8 digits of 0-9 a-f.

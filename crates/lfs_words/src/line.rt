@@ -1,9 +1,9 @@
 //! Lines: where one ends, whether its bytes are text, and whether it says something.
 
-ghost use Rattle.std.specs.Prelude.{◌≡◌, ◌==◌, true, false, position, MatchOption, MatchResult};
+ghost use Rattle.std.specs.Prelude.{◌≡◌, ◌==◌, true, false, map, position, MatchOption, MatchResult};
 ghost use Rattle.std.specs.List.{list_any};
 ghost use Rattle.lfs_words.specs.Lines.{HasNoLineFeed, IsFirstLine, is_printable, is_skipped};
-ghost use Rattle.lfs_words.specs.Wording.{is_bare, words_of};
+ghost use Rattle.lfs_words.specs.Wording.{is_bare};
 ghost use Rattle.lfs_words.specs.declared.fault.FaultKind.TheVariants.{Bytes};
 
 use crate::fault::FaultKind;
@@ -41,11 +41,15 @@ pub fn text_of(line: &[u8]) -> Result<&str, FaultKind>
     }
 }
 
-/// Whether every byte is from 0x20 to 0x7E.
+/// Whether every byte is from 0x20 to 0x7E. It looks at each, so that it is compiled to steps of many bytes.
 fn is_printable(line: &[u8]) -> bool
     ensures { result ≡ is_printable line.now }
 {
-    line.iter().all(|byte| *byte >= 0x20 && *byte <= 0x7e)
+    let mut printable = true;
+    for byte in line {
+        printable &= *byte >= 0x20 && *byte <= 0x7e;
+    }
+    printable
 }
 
 /// Whether a line says nothing.
@@ -58,9 +62,9 @@ pub fn is_skipped(line: &str) -> bool
     }
 }
 
-/// Whether a word of a line has no bytes.
-pub fn has_bare_word(line: &str) -> bool
-    ensures { result ≡ list_any is_bare (words_of line.now) }
+/// Whether one of these words has no bytes.
+pub fn has_bare_word(words: &[&str]) -> bool
+    ensures { result ≡ list_any is_bare (map (λ x. x.now) words.now) }
 {
-    line.split(' ').any(|word| word.is_empty())
+    words.iter().any(|word| word.is_empty())
 }
