@@ -2,29 +2,34 @@
 use Rattle.std.proofs.Common.{◌≡◌, ℕ, List, Option, None, Some, Result, Ok, Err, IfErr, IfOk, IfSome, sym, subst}
 use Rattle.std.specs.Io.KnownBytes.{Appends}
 use Rattle.lfs_staging.specs.declared.parts.Parts.{Parts}
+use Rattle.lfs_staging.specs.Opening.{IsOpening}
 use Rattle.lfs_logstore.specs.States.{opening_state, state_of}
 use Rattle.lfs_script.specs.PlanTypes.{Planned}
 use Rattle.lfs_script.specs.declared.plan.Step.{Step}
 use Rattle.lfs_audit.specs.Faults.{IsRead, MayHaveWritten}
 use Rattle.lfs_audit.specs.Output.{IsRun}
-use Rattle.lfs_audit.specs.Scripts.{IsLogOutput, log_cleaner}
+use Rattle.lfs_audit.specs.Scripts.{IsFreshLog, IsLogOutput, log_cleaner}
 use Rattle.lfs_audit.specs.declared.fault.RunFault.{RunFault}
 
 -- a result that is Ok is no fault
 pub no_fault : {A E : Type 0} (a : A) (e : E) → Ok a ≡ Err e → ⊥
 no_fault {A} {E} a e eq = subst (λ (r : Result A E). IfOk r (λ _. ⊥)) (sym eq) tt
 
+-- a log that was just laid out is fresh
+pub fresh_log : (segments inodes frames : ℕ) (store : Parts) → state_of store ≡ opening_state segments inodes → IsOpening segments inodes frames store → IsFreshLog segments inodes frames store
+fresh_log segments inodes frames store opening laid_out = record { opening = opening; laid_out = laid_out }
+
 -- what a run of the steps of a plan printed, a run of its script prints
-pub log_run : (script : Option (List ℕ)) (plan : Planned) (steps : List Step) (most : ℕ) (store : Parts) (segments inodes limit : ℕ) (old new : Option (List ℕ))
-    → IfSome script (λ s. IsRead s plan) → steps ≡ plan.steps → most ≡ limit → state_of store ≡ opening_state segments inodes
+pub log_run : (script : Option (List ℕ)) (plan : Planned) (steps : List Step) (most : ℕ) (store : Parts) (segments inodes frames limit : ℕ) (old new : Option (List ℕ))
+    → IfSome script (λ s. IsRead s plan) → steps ≡ plan.steps → most ≡ limit → IsFreshLog segments inodes frames store
     → (text : List ℕ) × IsRun log_cleaner most store steps text × Appends old new text
-    → IfSome script (λ s. (text : List ℕ) × IsLogOutput s segments inodes limit text × Appends old new text)
-log_run None plan steps most store segments inodes limit old new read asked limits opening run = tt
-log_run (Some s) plan steps most store segments inodes limit old new read asked limits opening (text, run, written) =
+    → IfSome script (λ s. (text : List ℕ) × IsLogOutput s segments inodes frames limit text × Appends old new text)
+log_run None plan steps most store segments inodes frames limit old new read asked limits fresh run = tt
+log_run (Some s) plan steps most store segments inodes frames limit old new read asked limits fresh (text, run, written) =
     let of_plan : IsRun log_cleaner most store plan.steps text = subst (λ (asks : List Step). IsRun log_cleaner most store asks text) asked run in
     let limited : IsRun log_cleaner limit store plan.steps text = subst (λ (l : ℕ). IsRun log_cleaner l store plan.steps text) limits of_plan in (
       text,
-      record { store = store; opening = opening; output = record { plan = plan; parsed = read.parsed; run = limited } },
+      record { store = store; fresh = fresh; output = record { plan = plan; parsed = read.parsed; run = limited } },
       written,
     )
 

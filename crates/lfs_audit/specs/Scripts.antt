@@ -2,7 +2,7 @@
 use Rattle.std.specs.Prelude.{◌≡◌, ℕ, List, Option}
 use Rattle.lfs_types.specs.declared.fault.FormatFault.{FormatFault}
 use Rattle.lfs_types.specs.declared.fault.FormatFault.TheVariants as faults
-use Rattle.lfs_staging.specs.Opening.{IsTooFew, IsTooMany}
+use Rattle.lfs_staging.specs.Opening.{IsOpening, IsTooFew, IsTooMany}
 use Rattle.lfs_staging.specs.Store.{IsSettled}
 use Rattle.lfs_staging.specs.declared.parts.Parts.{Parts}
 use Rattle.lfs_logstore.specs.Cleaning.{GivesAddresses, GivesIfile, GivesInfos, Reclaims}
@@ -19,10 +19,16 @@ use Rattle.lfs_audit.specs.declared.fault.RunFault.TheVariants.{Format, Memory, 
 abbrev pub log_cleaner : Cleaner Parts
 log_cleaner = cleaner_of state_of IsSettled GivesIfile GivesInfos GivesAddresses WritesAgain Reclaims
 
--- a text is that of a run of the plan of a script, on a fresh volume over a log of so many segments and inode numbers
-pub record IsLogOutput (script : List ℕ) (segments inodes limit : ℕ) (text : List ℕ) : Type 0 where
-  pub store : Parts
+-- A log store of so many segments, inode numbers and frames was just laid out: it shows the opening tree; a summary and the
+-- block with the root's record are written and nothing else, no frame is taken, and nothing waits.
+pub record IsFreshLog (segments inodes frames : ℕ) (store : Parts) : Type 0 where
   pub opening : state_of store ≡ opening_state segments inodes
+  pub laid_out : IsOpening segments inodes frames store
+
+-- a text is that of a run of the plan of a script, on a fresh volume over a log of so many segments, inode numbers and frames
+pub record IsLogOutput (script : List ℕ) (segments inodes frames limit : ℕ) (text : List ℕ) : Type 0 where
+  pub store : Parts
+  pub fresh : IsFreshLog segments inodes frames store
   pub output : IsOutput log_cleaner script limit store text
 
 -- a log of so many segments, inode numbers and frames may not be laid out for this fault

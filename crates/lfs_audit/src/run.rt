@@ -4,14 +4,13 @@ ghost use Rattle.std.specs.Prelude.{◌≡◌, ◌<◌, ◌^◌, ℕ, List, [], 
 ghost use Rattle.std.specs.Io.KnownBytes.{Appends, Keeps, append_known};
 ghost use Rattle.lfs_types.specs.Tree.{opening_world};
 ghost use Rattle.lfs_model.specs.Steps.{IsLegal};
-ghost use Rattle.lfs_logstore.specs.States.{opening_state, state_of};
 ghost use Rattle.lfs_server.specs.Serving.{IsInRange};
 ghost use Rattle.lfs_print.specs.ReportText.{report_text};
 ghost use Rattle.lfs_volume.specs.Cleanings.{cleaner_of};
 ghost use Rattle.lfs_audit.specs.Faults.{IsFaultOf, IsRead, IsReadingFault, MayHaveWritten};
 ghost use Rattle.lfs_audit.specs.Output.{IsOutput, IsRun};
 ghost use Rattle.lfs_audit.specs.Runs.{Writes};
-ghost use Rattle.lfs_audit.specs.Scripts.{IsLayoutFault, IsLogOutput, IsScriptFault};
+ghost use Rattle.lfs_audit.specs.Scripts.{IsFreshLog, IsLayoutFault, IsLogOutput, IsScriptFault};
 
 use crate::fault::RunFault;
 use crate::passing::run_step;
@@ -37,7 +36,7 @@ pub fn run_script<R: Read, W: Write>(
     params: Params,
 ) -> Result<(), RunFault>
     ensures written { OnOk result (IfSome (R.remaining reader.old) (λ script. (text : List ℕ)
-        × IsLogOutput script params.segments params.inodes params.journal text
+        × IsLogOutput script params.segments params.inodes params.frames params.journal text
         × Appends (W.contents writer.old) (W.contents writer.new) text)) }
     ensures ranges { OnOk result (IsInRange params.segments params.inodes params.frames) }
     ensures fault { IfErr result
@@ -53,7 +52,7 @@ pub fn run_script<R: Read, W: Write>(
 /// A fresh volume over the log store.
 pub fn fresh_volume(alloc: Global, params: Params) -> Result<Volume<LogStore>, RunFault>
     ensures fresh { IfOk result (λ volume. (volume.journal ≡ []) × (volume.limit ≡ params.journal)
-        × (state_of volume.store ≡ opening_state params.segments params.inodes)) }
+        × IsFreshLog params.segments params.inodes params.frames volume.store) }
     ensures ranges { OnOk result (IsInRange params.segments params.inodes params.frames) }
     ensures fault { IfErr result (IsLayoutFault params.segments params.inodes params.frames) }
 {

@@ -1,13 +1,11 @@
 -- Journals: the opening one, and one with an entry more.
-use Rattle.std.proofs.Common.{◌≡◌, ℕ, ◌+◌, ◌<◌, ◌≤◌, List, [], ◌∷◌, ◌++◌, length, None, inr, true, false, refl, sym, ap, subst, ◌∙◌, ⊎_elim, arith, length-append}
-use Rattle.std.proofs.lemmas.Bool.{cases_eq}
-use Rattle.std.specs.Prelude.{option_map, Result, Ok, Err, OnErr, OnOk}
+use Rattle.std.proofs.Common.{◌≡◌, ℕ, ◌+◌, ◌<◌, ◌≤◌, List, [], ◌∷◌, ◌++◌, length, inr, true, false, refl, sym, ap, subst, ◌∙◌, arith, length-append}
+use Rattle.std.specs.Prelude.{Result, Ok, Err, OnErr, OnOk}
 use Rattle.std.specs.FinMap as map
 use Rattle.lfs_types.specs.Caller.{Caller}
-use Rattle.lfs_types.specs.Changes.{IsLength}
 use Rattle.lfs_types.specs.Shown.{IsList, ServesList}
 use Rattle.lfs_types.specs.StoreStates.{Follows, Shape, StoreState}
-use Rattle.lfs_types.specs.Tree.{File, Row, World, root, fresh_root, opening_content, opening_world}
+use Rattle.lfs_types.specs.Tree.{World, opening_world}
 use Rattle.lfs_types.specs.declared.answer.Answer.{Answer}
 use Rattle.lfs_types.specs.declared.answer.Answer.TheVariants.{Served, Denied, Refused}
 use Rattle.lfs_types.specs.declared.answer.Resource.TheVariants.{NoMemory, NoSpace, NoInodes, DirectoryFull, JournalFull}
@@ -17,17 +15,14 @@ use Rattle.lfs_types.specs.declared.level.Level.{Level}
 use Rattle.lfs_types.specs.declared.level.Level.TheVariants.{Insecure}
 use Rattle.lfs_types.specs.declared.request.Request.{Request}
 use Rattle.lfs_types.specs.declared.request.Request.TheVariants.{Stat, Read, Write, List as Names, SetLength, Create, Mkdir, Unlink, Rmdir, Rename, Chmod, Chown, Chflags, SetLevel, Sync}
-use Rattle.lfs_dirs.specs.Changes.{number_in-nil}
 use Rattle.lfs_model.specs.declared.journal.Entry.{Entry}
 use Rattle.lfs_model.specs.declared.journal.Event.{Event}
 use Rattle.lfs_model.specs.declared.journal.Event.TheVariants.{User, Cleaner}
 use Rattle.lfs_model.specs.Runs.{IsNoSpace, IsShort, IsUnserved, cleaned, cleans}
 use Rattle.lfs_model.specs.Steps.{IsAnswer, IsLegal, after_answer, world_of}
-use Rattle.lfs_model.proofs.Children.{child-answer}
 use Rattle.lfs_model.proofs.LevelLemmas.{level_after}
-use Rattle.lfs_model.proofs.RunLemmas.{root_row, only_fresh, no_child, opening_rows, opening_tree, world_after-append, IsLegal-append, list_copies}
-use Rattle.lfs_types.proofs.Maps.{get-insert_same, get-insert_other}
-use Rattle.lfs_calls.specs.Content.{visible, Shows, IsListing, entries_below}
+use Rattle.lfs_model.proofs.RunLemmas.{opening_tree, world_after-append, IsLegal-append, list_copies}
+use Rattle.lfs_calls.specs.Content.{Shows}
 use Rattle.lfs_calls.specs.Entries.{OnServed}
 use Rattle.lfs_calls.specs.Outcomes.{IsOutcome}
 use Rattle.lfs_calls.specs.Volumes.{HasWorld, InWorld, IsVolume}
@@ -37,32 +32,11 @@ use Rattle.lfs_calls.specs.declared.not_served.NotServed.TheVariants as reasons
 use Rattle.lfs_volume.specs.Copies.{is_lack_of_memory}
 use Rattle.lfs_volume.specs.Journals.{IsAnswered, IsJournal, IsStep, Stays, level_left, level_set}
 
-nothing_listed : IsListing opening_rows root []
-unfolding entries_below
-nothing_listed = record {
-  blocks = λ k h. absurd (omega arith);
-  distinct = tt;
-  names = λ name. number_in-nil name ∙ sym (child-answer opening_rows opening_tree.unique root name None (no_child root name));
-}
-
-opening_shows : Shows opening_content opening_world
-opening_shows = record {
-  files = λ n. ⊎_elim
-      (λ same. subst (λ k. option_map visible (map.get opening_content k) ≡ option_map (λ (r : Row). r.file) (map.get opening_rows k)) (sym same)
-      (ap (option_map visible) (get-insert_same map.empty root fresh_root) ∙ sym (ap (option_map (λ (r : Row). r.file)) (get-insert_same map.empty root root_row))))
-      (λ other. ap (option_map visible) (get-insert_other map.empty root fresh_root n other ∙ map.get-empty _ n)
-      ∙ sym (ap (option_map (λ (r : Row). r.file)) (get-insert_other map.empty root root_row n other ∙ map.get-empty _ n)))
-      (cases_eq n root);
-  sizes = λ n f e. let is = only_fresh n f e in subst (λ (x : File). IsLength x.kind (length x.bytes)) is.1 (omega arith, omega arith);
-  listings = λ n f e k. let is = only_fresh n f e in
-      subst (λ m. IsListing opening_rows m f.bytes) (sym is.0) (subst (λ (x : File). IsListing opening_rows root x.bytes) is.1 nothing_listed);
-}
-
 -- the empty journal is that of the opening
-pub opening_journal : (s : StoreState) (limit : ℕ) → s.content ≡ opening_content → IsJournal s Insecure [] limit
-opening_journal s limit same = record {
+pub opening_journal : (s : StoreState) (limit : ℕ) → Shows s.content opening_world → IsJournal s Insecure [] limit
+opening_journal s limit shown = record {
   legal = tt;
-  shown = record { shows = subst (λ c. Shows c opening_world) (sym same) opening_shows; tree = opening_tree };
+  shown = record { shows = shown; tree = opening_tree };
   at_level = refl;
   within = omega arith;
   space = tt;

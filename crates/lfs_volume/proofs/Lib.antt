@@ -1,4 +1,5 @@
 pub mod CallLemmas
 pub mod CleaningLemmas
 pub mod JournalLemmas
+pub mod OpeningLemmas
 pub mod StepLemmas

@@ -3,12 +3,13 @@
 ghost use Rattle.std.specs.Prelude.{◌≡◌, ◌↔◌, ◌-◌, ◌^◌, ◌<◌, ◌≤◌, [], ◌∷◌, ◌++◌, length, vec_len, false, ⊤, IfOk, IfErr, MatchOption};
 ghost use Rattle.std.specs.Vec.{vec_capacity};
 ghost use Rattle.lfs_types.specs.StoreStates.{Follows};
-ghost use Rattle.lfs_types.specs.Tree.{opening_content};
+ghost use Rattle.lfs_types.specs.Tree.{opening_world};
 ghost use Rattle.lfs_types.specs.declared.level.Level.TheVariants.{Insecure};
 ghost use Rattle.lfs_model.specs.Counts.{counts_of};
 ghost use Rattle.lfs_model.specs.Rules.{rule_table};
 ghost use Rattle.lfs_model.specs.Runs.{IsUnserved, kept, kept_cleaning, kept_entry, kept_step, kept_steps};
 ghost use Rattle.lfs_model.specs.Steps.{world_of};
+ghost use Rattle.lfs_calls.specs.Content.{Shows};
 ghost use Rattle.lfs_calls.specs.Entries.{LeavesEntries, OnServed};
 ghost use Rattle.lfs_calls.specs.Outcomes.{IsOutcome};
 ghost use Rattle.lfs_calls.specs.Volumes.{HasWorld, IsVolume};
@@ -69,10 +70,10 @@ impl<F: FileStore + Drop> Model for Volume<F> {
 }
 
 impl<F: FileStore + Drop> Volume<F> {
-    /// A volume over a store that holds the tree of a fresh volume, with room for `journal_limit` entries and for the names
-    /// that it will know.
+    /// A volume over a store that shows the tree of a fresh volume, in whatever blocks, with room for `journal_limit` entries
+    /// and for the names that it will know.
     pub fn new(alloc: Global, store: F, journal_limit: u32) -> Result<Volume<F>, AllocError>
-        requires { (F.state store).content ≡ opening_content }
+        requires { Shows (F.state store).content opening_world }
         ensures { IfOk result (λ v. v ≡ record
             { store = store; level = Insecure; journal = []; limit = journal_limit }) }
     {

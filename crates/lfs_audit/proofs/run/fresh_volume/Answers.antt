@@ -1,6 +1,10 @@
-use Rattle.std.proofs.Common.{rules}
-use Rattle.lfs_audit.proofs.ScriptLemmas.{no_fault}
+use Rattle.std.proofs.Common.{refl, rules}
+use Rattle.lfs_volume.proofs.OpeningLemmas.{shows_opening_state}
+use Rattle.lfs_audit.proofs.ScriptLemmas.{fresh_log, no_fault}
 use Rattle.lfs_audit.proofs.run.fresh_volume.Goals as goal
+
+pub new-requires : goal.new-requires
+new-requires c = shows_opening_state _ _ c.in-Ok.ensures.opening refl
 
 pub returns-clause-ranges : goal.returns-clause-ranges
 returns-clause-ranges c = record {
@@ -9,4 +13,4 @@ returns-clause-ranges c = record {
 }
 
 pub returns-clause-fresh : goal.returns-clause-fresh
-returns-clause-fresh c = search rules
+returns-clause-fresh c = let log = fresh_log _ _ _ _ c.in-Ok.ensures.opening c.in-Ok.ensures.laid_out in search rules

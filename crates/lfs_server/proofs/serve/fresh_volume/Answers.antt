@@ -1,3 +1,5 @@
+use Rattle.std.proofs.Common.{refl}
+use Rattle.lfs_volume.proofs.OpeningLemmas.{shows_opening_state}
 use Rattle.lfs_server.proofs.ServeLemmas.{no_fault}
 use Rattle.lfs_server.proofs.serve.fresh_volume.Goals as goal
 
@@ -6,3 +8,6 @@ returns-clause-ranges c = record {
   enough = λ few. no_fault _ _ (c.in-Ok.ensures.too_few.1 few);
   not_more = λ many. no_fault _ _ (c.in-Ok.ensures.too_many.1 many);
 }
+
+pub new-requires : goal.new-requires
+new-requires c = shows_opening_state _ _ c.in-Ok.ensures.opening refl
