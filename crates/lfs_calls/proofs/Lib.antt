@@ -28,6 +28,7 @@ pub mod PathLemmas
 pub mod PlacedBlocks
 pub mod ReadLemmas
 pub mod RemoveLemmas
+pub mod RemoveOutcomes
 pub mod RenameEffects
 pub mod RenameLemmas
 pub mod RenameOutcomes

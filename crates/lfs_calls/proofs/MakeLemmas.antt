@@ -14,7 +14,6 @@ use Rattle.lfs_types.specs.declared.attrs.Attrs.{Attrs}
 use Rattle.lfs_types.specs.declared.attrs.Kind.{Kind}
 use Rattle.lfs_types.specs.declared.attrs.Kind.TheVariants.{Directory}
 use Rattle.lfs_types.specs.declared.rule.Denial.{Denial}
-use Rattle.lfs_types.specs.declared.rule.Rule.{Rule}
 use Rattle.lfs_types.specs.declared.rule.Rule.TheVariants.{NameFree}
 use Rattle.lfs_types.specs.declared.store.Change.TheVariants.{Make, Put}
 use Rattle.lfs_model.specs.World.{Rows, child}

@@ -3,7 +3,7 @@ use Rattle.std.proofs.Common.{◌≡◌, ◌≢◌, ℕ, List, None, Some, sym, 
 use Rattle.std.proofs.lemmas.Bool.{cases_eq}
 use Rattle.std.specs.Prelude.{option_map}
 use Rattle.std.specs.FinMap as map
-use Rattle.lfs_types.specs.Stored.{bytes_of, bytes_of_file}
+use Rattle.lfs_types.specs.Stored.{bytes_of_file}
 use Rattle.lfs_types.specs.Tree.{Row, World, Content}
 use Rattle.lfs_calls.specs.declared.renaming.Move.{Move}
 use Rattle.lfs_calls.specs.declared.renaming.Places.{Places}

@@ -3,7 +3,7 @@ use Rattle.std.proofs.Common.{◌≡◌, ◌≢◌, ℕ, ◌≤◌, ◌==◌, co
 use Rattle.std.specs.Prelude.{if◌then◌else◌}
 use Rattle.std.specs.FinMap as map
 use Rattle.lfs_types.specs.Caller.{Caller}
-use Rattle.lfs_types.specs.Stored.{bytes_of, bytes_of_file}
+use Rattle.lfs_types.specs.Stored.{bytes_of}
 use Rattle.lfs_types.specs.Tree.{Row, World, Content, root}
 use Rattle.lfs_types.specs.declared.request.Request.TheVariants.{Rename}
 use Rattle.lfs_calls.specs.declared.renaming.Move.{Move}
@@ -19,7 +19,7 @@ use Rattle.lfs_calls.specs.Renames.{ArePlaces, AreSwapped, HasNoRoom, IsMove, Is
 use Rattle.lfs_model.proofs.Children.{child-is}
 use Rattle.lfs_calls.proofs.Crowded.{crowded}
 use Rattle.lfs_calls.proofs.Directories.{bytes_listing}
-use Rattle.lfs_calls.proofs.MovedPlaces.{above, at_file, f, g, hung, kind_old, small, somewhere}
+use Rattle.lfs_calls.proofs.MovedPlaces.{hung, somewhere}
 use Rattle.lfs_calls.proofs.MovedNames as names
 use Rattle.lfs_calls.proofs.SwappedRows.{swapped}
 use Rattle.lfs_types.specs.declared.limits.TheConstants.{FILE_BLOCKS}

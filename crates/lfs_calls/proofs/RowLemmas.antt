@@ -1,5 +1,5 @@
 -- What a call that removes a file or an empty directory may be answered.
-use Rattle.std.proofs.Common.{◌≡◌, ℕ, ◌<◌, ◌==◌, Bool, true, false, List, [], ◌∷◌, length, None, Some, refl, sym, ap, subst, ◌∙◌, arith}
+use Rattle.std.proofs.Common.{◌≡◌, ℕ, ◌<◌, ◌==◌, Bool, true, false, List, [], ◌∷◌, ◌++◌, length, None, Some, refl, sym, ap, subst, ◌∙◌, arith}
 use Rattle.std.specs.Prelude.{Contains, IsTrue, ◌↔◌}
 use Rattle.std.proofs.lemmas.Bool.{ne_eqb, not-true}
 use Rattle.std.specs.FinMap as map
@@ -8,7 +8,8 @@ use Rattle.lfs_types.specs.Kinds.{is_directory_kind}
 use Rattle.lfs_types.specs.Stored.{bytes_of, shown_attrs}
 use Rattle.lfs_types.specs.Tree.{World, Content, root}
 use Rattle.lfs_types.specs.declared.attrs.Attrs.{Attrs}
-use Rattle.lfs_types.specs.declared.request.Request.TheVariants.{Unlink, Rmdir}
+use Rattle.lfs_types.specs.declared.attrs.Kind.{Kind}
+use Rattle.lfs_types.specs.declared.attrs.Kind.TheVariants.{File as Regular, Directory}
 use Rattle.lfs_types.specs.declared.rule.Denial.{Denial}
 use Rattle.lfs_dirs.specs.Changes.{number_in-nil}
 use Rattle.lfs_dirs.specs.Directory.{Entry, number_in}
@@ -16,13 +17,13 @@ use Rattle.lfs_calls.specs.declared.making.Room.{Room}
 use Rattle.lfs_calls.specs.declared.removing.Removal.{Removal}
 use Rattle.lfs_calls.specs.declared.walking.Reached.{Reached}
 use Rattle.lfs_model.specs.World.{Rows, child, children, IsTree}
-use Rattle.lfs_model.specs.Rules.{Check, attrs_at, first_failing, decide, last, reached, removing, rmdir_tests, unlink_tests}
+use Rattle.lfs_model.specs.Rules.{Check, attrs_at, first_failing, decide, last, reached, removing, rmdir_tests, rule_table, unlink_tests}
 use Rattle.lfs_model.specs.Effects.{without_row}
 use Rattle.lfs_calls.specs.Content.{Shows, listed, visible}
 use Rattle.lfs_types.specs.StoreStates.{StoreState}
 use Rattle.lfs_calls.specs.Volumes.{InWorld, IsVolume}
 use Rattle.lfs_calls.proofs.StateLemmas.{same_content}
-use Rattle.lfs_calls.specs.Removes.{TakesRow, IsRemoval, IsRemovable, HangsAs, IsTaking, TakesFile}
+use Rattle.lfs_calls.specs.Removes.{removal_request, removed_tests, TakesRow, IsRemoval, IsRemovable, HangsAs, IsTaking, TakesFile}
 use Rattle.lfs_model.proofs.Children.{child-is, child-none, child-answer}
 use Rattle.lfs_calls.proofs.Crowded.{listed-le-children}
 use Rattle.lfs_model.proofs.Deciding.{failing-front, failing-behind, met_first}
@@ -68,22 +69,26 @@ module _ (c : Content) (w : World) (shows : Shows c w) (n : ℕ) (a : Attrs) (sh
 
 -- ---- the rules behind those that files and directories share
 
--- the tests of an Unlink's and of a Rmdir's own
-abbrev own_unlink : Rows → List (List ℕ) → List Check
-own_unlink rows names = unlink_tests (attrs_at rows (reached rows root names)) (length names)
+-- the tests of the call's own
+abbrev own_tests : Kind → Rows → List (List ℕ) → List Check
+own_tests kind rows names =
+    let row = reached rows root names in
+    removed_tests kind (length (children rows row) == 0) (attrs_at rows row) (length names)
 
-abbrev own_rmdir : Rows → List (List ℕ) → List Check
-own_rmdir rows names =
-    let dir = reached rows root names in
-    rmdir_tests (length (children rows dir) == 0) (attrs_at rows dir) (length names)
+-- the table of a removal is that of both kinds, and the call's own
+table_is : (w : World) (caller : Caller) (names : List (List ℕ)) (kind : Kind) → rule_table w caller (removal_request kind names) ≡ removing w.rows caller names ++ own_tests kind w.rows names
+table_is w caller names Regular = refl
+table_is w caller names Directory = refl
+
+-- they ask nothing of a size
+sizeless : (kind : Kind) (empty : Bool) (file : Attrs) (size k : ℕ) → first_failing (removed_tests kind empty (record file { size = size }) k) ≡ first_failing (removed_tests kind empty file k)
+sizeless Regular empty file size k = refl
+sizeless Directory empty file size k = refl
 
 -- where the shared tests deny, the call is denied
-pub unlink_denied : (w : World) (caller : Caller) (names : List (List ℕ)) (denial : Denial) → first_failing (removing w.rows caller names) ≡ Some denial → decide w caller (Unlink names) ≡ Some denial
-unlink_denied w caller names denial h = failing-front (removing w.rows caller names) (own_unlink w.rows names) denial h
-
--- and so for a Rmdir
-pub rmdir_denied : (w : World) (caller : Caller) (names : List (List ℕ)) (denial : Denial) → first_failing (removing w.rows caller names) ≡ Some denial → decide w caller (Rmdir names) ≡ Some denial
-rmdir_denied w caller names denial h = failing-front (removing w.rows caller names) (own_rmdir w.rows names) denial h
+pub removal_denied : (w : World) (caller : Caller) (names : List (List ℕ)) (kind : Kind) (denial : Denial) → first_failing (removing w.rows caller names) ≡ Some denial
+    → decide w caller (removal_request kind names) ≡ Some denial
+removal_denied w caller names kind denial h = ap first_failing (table_is w caller names kind) ∙ failing-front (removing w.rows caller names) (own_tests kind w.rows names) denial h
 
 module _ (c : Content) (w : World) (shows : Shows c w) (caller : Caller) (names : List (List ℕ)) (removal : Removal) (allowed : first_failing (removing w.rows caller names) ≡ None)
     (is : IsRemoval c w.rows names removal) (at : ℕ) (same : at ≡ length names) where
@@ -94,31 +99,32 @@ module _ (c : Content) (w : World) (shows : Shows c w) (caller : Caller) (names 
   seen = attrs_reads c w shows file.number file.attrs is.shown_file
 
   -- where the shared tests are met, the call's own decide
-  pub to_unlink : decide w caller (Unlink names) ≡ first_failing (unlink_tests file.attrs at)
-  to_unlink =
-      failing-behind (removing w.rows caller names) (own_unlink w.rows names) allowed
-      ∙ ap (λ m. first_failing (unlink_tests (attrs_at w.rows m) (length names))) is.row
-      ∙ ap (λ x. first_failing (unlink_tests x (length names))) seen
-      ∙ ap (λ k. first_failing (unlink_tests file.attrs k)) (sym same)
-
-  pub to_rmdir : decide w caller (Rmdir names) ≡ first_failing (rmdir_tests (length (children w.rows file.number) == 0) file.attrs at)
-  to_rmdir =
-      failing-behind (removing w.rows caller names) (own_rmdir w.rows names) allowed
-      ∙ ap (λ m. first_failing (rmdir_tests (length (children w.rows m) == 0) (attrs_at w.rows m) (length names))) is.row
-      ∙ ap (λ x. first_failing (rmdir_tests (length (children w.rows file.number) == 0) x (length names))) seen
-      ∙ ap (λ k. first_failing (rmdir_tests (length (children w.rows file.number) == 0) file.attrs k)) (sym same)
+  pub to_removal : (kind : Kind) → decide w caller (removal_request kind names) ≡ first_failing (removed_tests kind (length (children w.rows file.number) == 0) file.attrs at)
+  to_removal kind =
+      ap first_failing (table_is w caller names kind)
+      ∙ failing-behind (removing w.rows caller names) (own_tests kind w.rows names) allowed
+      ∙ ap (λ m. first_failing (removed_tests kind (length (children w.rows m) == 0) (attrs_at w.rows m) (length names))) is.row
+      ∙ ap (λ x. first_failing (removed_tests kind (length (children w.rows file.number) == 0) x (length names))) seen
+      ∙ sizeless kind (length (children w.rows file.number) == 0) file.attrs (length (visible (shown_file c file.number file.attrs is.shown_file).file).bytes) (length names)
+      ∙ ap (λ k. first_failing (removed_tests kind (length (children w.rows file.number) == 0) file.attrs k)) (sym same)
 
 -- what may be unlinked is a file
-pub unlinks_file : (file : Attrs) (k : ℕ) → first_failing (unlink_tests file k) ≡ None → is_directory_kind file.kind ≡ false
+unlinks_file : (file : Attrs) (k : ℕ) → first_failing (unlink_tests file k) ≡ None → is_directory_kind file.kind ≡ false
 unlinks_file attrs k h = not-true _ (met_first _ _ _ h).0
 
 -- what may be removed as a directory is empty
-pub rmdir_childless : (rows : Rows) → IsTree rows → (n : ℕ) (file : Attrs) (k : ℕ) → first_failing (rmdir_tests (length (children rows n) == 0) file k) ≡ None
+rmdir_childless : (rows : Rows) → IsTree rows → (n : ℕ) (file : Attrs) (k : ℕ) → first_failing (rmdir_tests (length (children rows n) == 0) file k) ≡ None
     → (name : List ℕ) → child rows n name ≡ None
 rmdir_childless rows tree n attrs k h name =
     let one = met_first _ _ _ h in
     let two = met_first _ _ _ one.1 in
     child-answer rows tree.unique n name None (childless rows n two.0 name)
+
+-- nothing hangs in what may be removed
+pub removed_childless : (c : Content) (w : World) → Shows c w → IsTree w.rows → (n : ℕ) (a : Attrs) → Some a ≡ shown_attrs c n → (kind : Kind) (k : ℕ)
+    → first_failing (removed_tests kind (length (children w.rows n) == 0) a k) ≡ None → (name : List ℕ) → child w.rows n name ≡ None
+removed_childless c w shows tree n a shown Regular k h = file_childless c w shows n a shown tree (unlinks_file a k h)
+removed_childless c w shows tree n a shown Directory k h = rmdir_childless w.rows tree n a k h
 
 -- ---- the world after it
 

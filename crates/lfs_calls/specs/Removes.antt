@@ -1,5 +1,5 @@
 -- What judging and taking away a name come to, over a store.
-use Rattle.std.specs.Prelude.{◌≡◌, ◌≢◌, ℕ, ◌*◌, ◌/◌, ◌<◌, ◌≤◌, true, List, length, None, Some, IsSome}
+use Rattle.std.specs.Prelude.{◌≡◌, ◌≢◌, ℕ, ◌*◌, ◌/◌, ◌<◌, ◌≤◌, Bool, true, List, length, None, Some, IsSome}
 use Rattle.std.specs.FinMap as map
 use Rattle.lfs_types.specs.declared.block.TheConstants.{BLOCK_SIZE}
 use Rattle.lfs_types.specs.declared.limits.TheConstants.{FILE_BYTES}
@@ -7,13 +7,28 @@ use Rattle.lfs_types.specs.Kinds.{is_directory_kind}
 use Rattle.lfs_types.specs.Splicing.{splice}
 use Rattle.lfs_types.specs.Stored.{shown_attrs, bytes_of}
 use Rattle.lfs_types.specs.Tree.{File, Content, root}
+use Rattle.lfs_types.specs.declared.attrs.Attrs.{Attrs}
+use Rattle.lfs_types.specs.declared.attrs.Kind.{Kind}
+use Rattle.lfs_types.specs.declared.attrs.Kind.TheVariants.{File as Regular, Directory}
+use Rattle.lfs_types.specs.declared.request.Request.{Request}
+use Rattle.lfs_types.specs.declared.request.Request.TheVariants.{Unlink, Rmdir}
 use Rattle.lfs_dirs.specs.Directory.{IsDirectoryBlock, number_in, without}
 use Rattle.lfs_dirs.specs.Reading.{entries_of}
 use Rattle.lfs_calls.specs.declared.making.Room.{Room}
 use Rattle.lfs_calls.specs.declared.removing.Removal.{Removal}
 use Rattle.lfs_model.specs.World.{Rows, child}
-use Rattle.lfs_model.specs.Rules.{front, last, reached}
+use Rattle.lfs_model.specs.Rules.{Check, front, last, reached, rmdir_tests, unlink_tests}
 use Rattle.lfs_calls.specs.Content.{AreBlocks, HasBlocks, KeepsOthers, block_at, listed}
+
+-- the request that removes a file, or an empty directory, as the kind says
+abbrev pub removal_request : Kind → List (List ℕ) → Request
+removal_request Regular path = Unlink path
+removal_request Directory path = Rmdir path
+
+-- the tests of what is removed as one of this kind, which may be empty, at component k
+abbrev pub removed_tests : Kind → Bool → Attrs → ℕ → List Check
+removed_tests Regular empty file k = unlink_tests file k
+removed_tests Directory empty dir k = rmdir_tests empty dir k
 
 -- the row that a path leads to, and its directory, as the store shows them
 pub record IsRemoval (c : Content) (rows : Rows) (path : List (List ℕ)) (removal : Removal) : Type 0 where

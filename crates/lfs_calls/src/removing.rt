@@ -9,7 +9,7 @@ ghost use Rattle.lfs_model.specs.World.{children};
 ghost use Rattle.lfs_calls.specs.Calls.{ChangesTo, IsCall};
 ghost use Rattle.lfs_calls.specs.Volumes.{HasWorld, InWorld, IsVolume};
 ghost use Rattle.lfs_calls.specs.Content.{HasBlocks, listed};
-ghost use Rattle.lfs_calls.specs.Removes.{HangsAs, IsChildless, IsRemovable, IsRemoval, IsTaking, ListsName, TakesRow};
+ghost use Rattle.lfs_calls.specs.Removes.{HangsAs, IsChildless, IsRemovable, IsRemoval, IsTaking, ListsName, TakesRow, removal_request, removed_tests};
 
 use crate::directory::read_block;
 use crate::making::Room;
@@ -20,6 +20,7 @@ use lfs_checks::asking::ask;
 use lfs_checks::names::{may_remove, may_unlink};
 use lfs_dirs::{entries, find, removed};
 use lfs_types::answer::Served;
+use lfs_types::attrs::Kind;
 use lfs_types::block::BLOCK_SIZE;
 use lfs_types::cred::Cred;
 use lfs_types::name::Name;
@@ -119,28 +120,7 @@ pub fn unlink<F: FileStore>(
     ensures { IsCall (F.state store.old) (F.state store.new) cred.now (Request.Unlink path.now)
         result }
 {
-    let names = path.names();
-    let removal = judge_unlink(store, cred, names)?;
-    take_row(store, &removal, last_name(names))?;
-    Ok(Served::Done)
-}
-
-/// The file that may be unlinked, or the first rule that fails.
-fn judge_unlink<F: FileStore>(
-    store: &mut Tree<F>,
-    cred: &Cred,
-    names: &[Name],
-) -> Result<Removal, Denial>
-    requires world { HasWorld (F.state store.old) }
-    requires short { length names.now ≤ PATH_MAX }
-    ensures judge { InWorld (F.state store.old) (λ w.
-        Judges (rule_table w cred.now (Request.Unlink names.now))
-        (IsRemovable (F.state store.old).content w.rows names.now) result) }
-    ensures state { F.state store.new ≡ F.state store.old }
-{
-    let removal = judge_remove(store, cred, names)?;
-    may_unlink(&removal.file.attrs, component(names))?;
-    Ok(removal)
+    remove(store, cred, path, Kind::File)
 }
 
 /// Removes an empty directory.
@@ -153,28 +133,63 @@ pub fn rmdir<F: FileStore>(
     ensures { IsCall (F.state store.old) (F.state store.new) cred.now (Request.Rmdir path.now)
         result }
 {
+    remove(store, cred, path, Kind::Directory)
+}
+
+/// Removes a file, or an empty directory, as the kind says.
+fn remove<F: FileStore>(
+    store: &mut Tree<F>,
+    cred: &Cred,
+    path: &Path,
+    kind: Kind,
+) -> Result<Served, NotServed>
+    requires { HasWorld (F.state store.old) }
+    ensures { IsCall (F.state store.old) (F.state store.new) cred.now (removal_request kind path.now)
+        result }
+{
     let names = path.names();
-    let removal = judge_rmdir(store, cred, names)?;
+    let removal = judge_removal(store, cred, names, kind)?;
     take_row(store, &removal, last_name(names))?;
     Ok(Served::Done)
 }
 
-/// The directory that may be removed, or the first rule that fails.
-fn judge_rmdir<F: FileStore>(
+/// The row that may be removed as one of this kind, or the first rule that fails.
+fn judge_removal<F: FileStore>(
     store: &mut Tree<F>,
     cred: &Cred,
     names: &[Name],
+    kind: Kind,
 ) -> Result<Removal, Denial>
     requires world { HasWorld (F.state store.old) }
     requires short { length names.now ≤ PATH_MAX }
     ensures judge { InWorld (F.state store.old) (λ w.
-        Judges (rule_table w cred.now (Request.Rmdir names.now))
+        Judges (rule_table w cred.now (removal_request kind names.now))
         (IsRemovable (F.state store.old).content w.rows names.now) result) }
     ensures state { F.state store.new ≡ F.state store.old }
 {
     let removal = judge_remove(store, cred, names)?;
-    may_rmdir(store, &removal.file, component(names))?;
+    may_be_removed(store, &removal.file, kind, component(names))?;
     Ok(removal)
+}
+
+/// Whether a row, which stands at component `at`, may be removed as one of this kind, or the first rule that fails.
+fn may_be_removed<F: FileStore>(
+    store: &mut Tree<F>,
+    row: &Reached,
+    kind: Kind,
+    at: u32,
+) -> Result<(), Denial>
+    requires world { HasWorld (F.state store.old) }
+    requires shown { Some row.now.attrs ≡ shown_attrs (F.state store.old).content row.now.number }
+    ensures judge { InWorld (F.state store.old) (λ w. result
+        ≡ judged (removed_tests kind (length (children w.rows row.now.number) == 0)
+        row.now.attrs at)) }
+    ensures state { F.state store.new ≡ F.state store.old }
+{
+    match kind {
+        Kind::File => may_unlink(&row.attrs, at),
+        Kind::Directory => may_rmdir(store, row, at),
+    }
 }
 
 /// Whether what a Rmdir names, which stands at component `at`, may be removed, or the first rule that fails. Only a

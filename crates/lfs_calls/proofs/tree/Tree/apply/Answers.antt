@@ -1,6 +1,5 @@
-use Rattle.std.proofs.Common.{sym, subst, ◌∙◌}
+use Rattle.std.proofs.Common.{sym, subst}
 use Rattle.lfs_types.specs.Changes.{applied}
-use Rattle.lfs_types.specs.Tree.{Content}
 use Rattle.lfs_calls.specs.Names.{AreTrue, KeepsNames}
 use Rattle.lfs_calls.proofs.NameLemmas.{after_changes, true_kept}
 use Rattle.lfs_calls.proofs.tree.Tree.apply.Goals as goal

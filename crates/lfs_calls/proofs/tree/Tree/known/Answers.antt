@@ -1,6 +1,5 @@
-use Rattle.std.proofs.Common.{◌≡◌, ℕ, Option, None, Some, refl, sym, ap, subst, ◌∙◌}
+use Rattle.std.proofs.Common.{◌≡◌, ℕ, Option, None, Some, refl, sym, subst, ◌∙◌}
 use Rattle.std.specs.Prelude.{IfSome}
-use Rattle.lfs_calls.specs.Content.{IsDirectoryAt}
 use Rattle.lfs_calls.specs.Names.{IsFound}
 use Rattle.lfs_calls.proofs.ListedNames.{is_found, number-child}
 use Rattle.lfs_calls.proofs.tree.Tree.known.Goals as goal
