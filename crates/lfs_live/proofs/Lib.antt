@@ -3,4 +3,5 @@ pub mod HelpLemmas
 pub mod JournalLemmas
 pub mod LineLemmas
 pub mod SameLemmas
+pub mod StartLemmas
 pub mod TalkLemmas

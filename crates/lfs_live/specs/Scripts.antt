@@ -3,12 +3,11 @@ use Rattle.std.specs.Prelude.{◌≡◌, ℕ, ◌≤◌, List, [], length, Optio
 use Rattle.std.specs.Io.KnownBytes.{Appends}
 use Rattle.std.specs.List.{All}
 use Rattle.lfs_staging.specs.declared.parts.Parts.{Parts}
-use Rattle.lfs_logstore.specs.States.{opening_state, state_of}
 use Rattle.lfs_script.specs.PlanTypes.{Planned}
 use Rattle.lfs_script.specs.Plans.{lines_of, plan_of}
 use Rattle.lfs_volume.specs.Seen.{Seen}
 use Rattle.lfs_audit.specs.Output.{IsOutput}
-use Rattle.lfs_audit.specs.Scripts.{IsFormatFault, log_cleaner}
+use Rattle.lfs_audit.specs.Scripts.{IsFormatFault, IsFreshLog, log_cleaner}
 use Rattle.lfs_audit.specs.declared.fault.RunFault.{RunFault}
 use Rattle.lfs_audit.specs.declared.fault.RunFault.TheVariants.{Format}
 use Rattle.lfs_live.specs.Faults.{IsTalkFault}
@@ -21,24 +20,24 @@ use Rattle.lfs_view.specs.SegmentText.{segment_text}
 abbrev pub log_talker : Talker Parts
 log_talker = talker_of log_cleaner map_text segment_text
 
--- a fresh volume over a log of so many segments and inode numbers, with room for so many entries
-pub record IsFresh (segments inodes limit : ℕ) (volume : Seen Parts) : Type 0 where
-  pub opening : state_of volume.store ≡ opening_state segments inodes
+-- a fresh volume over a log of so many segments, inode numbers and frames, with room for so many entries
+pub record IsFresh (segments inodes frames limit : ℕ) (volume : Seen Parts) : Type 0 where
+  pub log : IsFreshLog segments inodes frames volume.store
   pub empty : volume.journal ≡ []
   pub room : volume.limit ≡ limit
 
 -- a talk over a fresh volume
-pub record IsLogTalk (segments inodes limit : ℕ) (known left start out : Option (List ℕ)) : Type 0 where
+pub record IsLogTalk (segments inodes frames limit : ℕ) (known left start out : Option (List ℕ)) : Type 0 where
   pub old : Seen Parts
   pub new : Seen Parts
-  pub fresh : IsFresh segments inodes limit old
+  pub fresh : IsFresh segments inodes frames limit old
   pub talk : IsTalk log_talker old new known left start out
 
 -- the same up to a read that failed
-pub record HasHeardOfLog (segments inodes limit : ℕ) (known left start out : Option (List ℕ)) : Type 0 where
+pub record HasHeardOfLog (segments inodes frames limit : ℕ) (known left start out : Option (List ℕ)) : Type 0 where
   pub old : Seen Parts
   pub new : Seen Parts
-  pub fresh : IsFresh segments inodes limit old
+  pub fresh : IsFresh segments inodes frames limit old
   pub so_far : HasHeardSoFar log_talker old new known left start out
 
 -- a talk over a fresh volume may end in this fault

@@ -10,3 +10,4 @@ pub mod same;
 pub mod start;
 pub mod talk;
 pub mod telling;
+pub mod watch;

@@ -2,14 +2,17 @@
 
 ghost use Rattle.std.specs.Prelude.{◌≡◌, IfErr, OnOk};
 ghost use Rattle.lfs_server.specs.Serving.{IsInRange};
-ghost use Rattle.lfs_audit.specs.declared.fault.RunFault.TheVariants.{Read as Failed};
+ghost use Rattle.lfs_audit.specs.declared.fault.RunFault.TheVariants.{Memory, Read as Failed};
 ghost use Rattle.lfs_live.specs.Scripts.{HasHeardOfLog, IsLogFault, IsLogTalk};
 
 use crate::talk::talk;
+use crate::watch::{Nobody, Watch};
 use lfs_audit::fault::RunFault;
 use lfs_audit::run::fresh_volume;
+use lfs_logstore::LogStore;
 use lfs_types::store::Params;
-use std::alloc::Global;
+use lfs_volume::volume::Volume;
+use std::alloc::{AllocError, Global};
 use std::io::{Read, Write};
 
 /// Reads lines up to the end of the input, or to one that quits; does what each says on a fresh volume over the log store,
@@ -24,6 +27,32 @@ pub fn run_lines<R: Read, W: Write>(
     writer: &mut W,
     params: Params,
 ) -> Result<(), RunFault>
+    ensures written { OnOk result (IsLogTalk params.segments params.inodes params.frames params.journal
+        (R.remaining reader.old) (R.remaining reader.new)
+        (W.contents writer.old) (W.contents writer.new)) }
+    ensures so_far { IfErr result (λ fault. fault ≡ Failed → HasHeardOfLog
+        params.segments params.inodes params.frames params.journal
+        (R.remaining reader.old) (R.remaining reader.new)
+        (W.contents writer.old) (W.contents writer.new)) }
+    ensures ranges { OnOk result (IsInRange params.segments params.inodes params.frames) }
+    ensures fault { IfErr result (IsLogFault params.segments params.inodes params.frames) }
+{
+    run_watched(alloc, reader, writer, &mut Nobody, params)
+}
+
+/// The same, and one who watches is shown the fresh store, with an empty line of which nothing is told, and then each line
+/// that was answered.
+///
+/// # Errors
+///
+/// Those of `run_lines`; `Memory` where the one who watches finds none.
+pub fn run_watched<V: Watch<LogStore>, R: Read, W: Write>(
+    alloc: Global,
+    reader: &mut R,
+    writer: &mut W,
+    watch: &mut V,
+    params: Params,
+) -> Result<(), RunFault>
     ensures written { OnOk result (IsLogTalk params.segments params.inodes params.journal
         (R.remaining reader.old) (R.remaining reader.new)
         (W.contents writer.old) (W.contents writer.new)) }
@@ -35,5 +64,20 @@ pub fn run_lines<R: Read, W: Write>(
     ensures fault { IfErr result (IsLogFault params.segments params.inodes params.frames) }
 {
     let mut volume = fresh_volume(alloc, params)?;
-    talk(alloc, reader, writer, &mut volume)
+    show_first(alloc, &volume, watch)?;
+    talk(alloc, reader, writer, &mut volume, watch)
+}
+
+/// Shows a volume that no line has touched, with an empty line of which nothing is told.
+fn show_first<V: Watch<LogStore>>(
+    alloc: Global,
+    volume: &Volume<LogStore>,
+    watch: &mut V,
+) -> Result<(), RunFault>
+    ensures { IfErr result (λ fault. fault ≡ Memory) }
+{
+    match watch.watch(alloc, &[], &[], volume.store()) {
+        Ok(()) => Ok(()),
+        Err(AllocError) => Err(RunFault::Memory),
+    }
 }

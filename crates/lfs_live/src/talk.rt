@@ -14,6 +14,7 @@ ghost use Rattle.lfs_live.specs.declared.hearing.Heard.TheVariants as heard;
 
 use crate::line::read_line;
 use crate::telling::{Speaker, answer, tell_cut};
+use crate::watch::Watch;
 use lfs_audit::fault::RunFault;
 use lfs_audit::run::print_report;
 use lfs_io::output::{flush, write_text};
@@ -24,16 +25,17 @@ use std::alloc::Global;
 use std::io::{Read, Write};
 
 /// Reads lines up to the end of the input, or to one that quits; does what each says on a volume, and writes what is told
-/// of it, before it reads the next; and then writes the report.
+/// of it, before it reads the next; and then writes the report. One who watches is shown each line that was answered.
 ///
 /// # Errors
 ///
 /// `Read` where a read fails: what is told of each line that was read by then is written. `Memory` and `Write`.
-pub fn talk<F: CleanedStore + ShowsLog + Drop, R: Read, W: Write>(
+pub fn talk<F: CleanedStore + ShowsLog + Drop, V: Watch<F>, R: Read, W: Write>(
     alloc: Global,
     reader: &mut R,
     writer: &mut W,
     volume: &mut Volume<F>,
+    watch: &mut V,
 ) -> Result<(), RunFault>
     ensures written { OnOk result (IsTalk
         (talker_of (cleaner_of F.state F.is_settled F.gives_ifile F.gives_infos F.gives_addresses F.writes_again F.reclaims)
@@ -47,17 +49,18 @@ pub fn talk<F: CleanedStore + ShowsLog + Drop, R: Read, W: Write>(
         (W.contents writer.old) (W.contents writer.new)) }
     ensures fault { IfErr result IsTalkFault }
 {
-    hear_all(alloc, reader, writer, volume)?;
+    hear_all(alloc, reader, writer, volume, watch)?;
     let mut text = Vec::new(alloc);
     print_report(volume, &mut text, writer)
 }
 
 /// Reads lines up to the end of the input, or to one that quits, and answers each before it reads the next.
-fn hear_all<F: CleanedStore + ShowsLog + Drop, R: Read, W: Write>(
+fn hear_all<F: CleanedStore + ShowsLog + Drop, V: Watch<F>, R: Read, W: Write>(
     alloc: Global,
     reader: &mut R,
     writer: &mut W,
     volume: &mut Volume<F>,
+    watch: &mut V,
 ) -> Result<(), RunFault>
     ensures heard { OnOk result (HasHeardAll
         (talker_of (cleaner_of F.state F.is_settled F.gives_ifile F.gives_infos F.gives_addresses F.writes_again F.reclaims)
@@ -73,7 +76,7 @@ fn hear_all<F: CleanedStore + ShowsLog + Drop, R: Read, W: Write>(
 {
     let mut speaker = Speaker::first();
     for _ in 0..u64::MAX {
-        if !hear_next(alloc, reader, writer, volume, &mut speaker)? {
+        if !hear_next(alloc, reader, writer, volume, watch, &mut speaker)? {
             return Ok(());
         }
     }
@@ -81,11 +84,12 @@ fn hear_all<F: CleanedStore + ShowsLog + Drop, R: Read, W: Write>(
 }
 
 /// Reads a line and answers it. Whether more is to be read.
-fn hear_next<F: CleanedStore + ShowsLog + Drop, R: Read, W: Write>(
+fn hear_next<F: CleanedStore + ShowsLog + Drop, V: Watch<F>, R: Read, W: Write>(
     alloc: Global,
     reader: &mut R,
     writer: &mut W,
     volume: &mut Volume<F>,
+    watch: &mut V,
     speaker: &mut Speaker,
 ) -> Result<bool, RunFault>
     ensures next { IfOk result (λ goes_on. goes_on ≡ true → HearsNext
@@ -101,7 +105,14 @@ fn hear_next<F: CleanedStore + ShowsLog + Drop, R: Read, W: Write>(
 {
     let piece = read_line(alloc, reader)?;
     if piece.is_ended {
-        return hear_line(alloc, writer, volume, speaker, piece.bytes.as_slice());
+        return hear_line(
+            alloc,
+            writer,
+            volume,
+            watch,
+            speaker,
+            piece.bytes.as_slice(),
+        );
     }
     let told = tell_cut(alloc, piece.bytes.as_slice())?;
     say(writer, told.as_slice())?;
@@ -109,10 +120,11 @@ fn hear_next<F: CleanedStore + ShowsLog + Drop, R: Read, W: Write>(
 }
 
 /// Does what a line says, which is given without its line feed, and writes what is told of it. Whether more is to be read.
-fn hear_line<F: CleanedStore + ShowsLog + Drop, W: Write>(
+fn hear_line<F: CleanedStore + ShowsLog + Drop, V: Watch<F>, W: Write>(
     alloc: Global,
     writer: &mut W,
     volume: &mut Volume<F>,
+    watch: &mut V,
     speaker: &mut Speaker,
     line: &[u8],
 ) -> Result<bool, RunFault>
@@ -128,6 +140,7 @@ fn hear_line<F: CleanedStore + ShowsLog + Drop, W: Write>(
     match answer(alloc, volume, speaker, line)? {
         Some(text) => {
             say(writer, text.as_slice())?;
+            watch.watch(alloc, line, text.as_slice(), volume.store())?;
             Ok(true)
         }
         None => Ok(false),
