@@ -1,3 +1,4 @@
 pub mod Cells
 pub mod MapText
 pub mod SegmentText
+pub mod Rows

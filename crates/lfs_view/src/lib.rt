@@ -6,6 +6,7 @@ pub mod life;
 mod map;
 mod padding;
 pub mod records;
+pub mod rows;
 mod segment;
 pub mod shows;
 pub mod walk;

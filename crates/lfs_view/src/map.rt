@@ -26,7 +26,7 @@ pub(crate) fn push_map(alloc: Global, out: &mut Vec<u8>, parts: &Parts) -> Resul
 }
 
 /// Appends how many blocks and how many records wait to be written.
-fn push_waiting(out: &mut Vec<u8>, parts: &Parts) -> Result<(), AllocError>
+pub(crate) fn push_waiting(out: &mut Vec<u8>, parts: &Parts) -> Result<(), AllocError>
     ensures { OnOk result (out.new.items ≡ out.old.items ++ waiting_text parts.now) }
 {
     out.extend_from_slice(b"waiting")?;
@@ -49,7 +49,12 @@ fn push_legend(out: &mut Vec<u8>) -> Result<(), AllocError>
 }
 
 /// Appends the line of a segment.
-fn push_row(alloc: Global, out: &mut Vec<u8>, parts: &Parts, segment: u32) -> Result<(), AllocError>
+pub(crate) fn push_row(
+    alloc: Global,
+    out: &mut Vec<u8>,
+    parts: &Parts,
+    segment: u32,
+) -> Result<(), AllocError>
     requires store { IsStore parts.now }
     requires inside { segment < parts.now.log.memory.segments }
     ensures { OnOk result (out.new.items ≡ out.old.items ++ row_text parts.now segment) }
