@@ -2,5 +2,6 @@
 #![tactic(auto)]
 
 mod cache;
+mod following;
 
 pub use cache::AttrCache;
