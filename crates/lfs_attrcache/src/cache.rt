@@ -39,11 +39,11 @@ impl AttrCache {
     }
 
     /// Enters the attributes of a number; of one that no volume has it keeps nothing.
-    pub fn enter(&mut self, ino: u32, attrs: Attrs)
-        ensures entered { says self.new ino ≡ kept_of ino (Some attrs) }
+    pub fn enter(&mut self, ino: u32, attrs: &Attrs)
+        ensures entered { says self.new ino ≡ kept_of ino (Some attrs.now) }
         ensures others { SaysTheSame self.old self.new ino }
     {
-        self.put(ino, Some(attrs));
+        self.put(ino, Some(*attrs));
     }
 
     /// Forgets what is known of a number.

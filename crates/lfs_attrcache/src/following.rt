@@ -25,7 +25,7 @@ impl AttrCache {
         ensures { (c : Content) → AreShown self.old c → AreShown self.new (changed change.now c) }
     {
         match *change {
-            Change::Make { ino, attrs } => self.enter(ino, Attrs { size: 0, ..attrs }),
+            Change::Make { ino, attrs } => self.enter(ino, &Attrs { size: 0, ..attrs }),
             Change::Remove { ino } => self.forget(ino),
             Change::SetAttrs { ino, attrs } => self.set_attrs(ino, attrs),
             Change::Put { ino, off, bytes } => self.put_bytes(ino, off, bytes.len() as u64),
@@ -40,7 +40,7 @@ impl AttrCache {
         ensures others { SaysTheSame self.old self.new ino }
     {
         if let Some(Attrs { size, .. }) = self.look(ino) {
-            self.enter(ino, Attrs { size, ..attrs });
+            self.enter(ino, &Attrs { size, ..attrs });
         }
     }
 
@@ -51,7 +51,7 @@ impl AttrCache {
         ensures others { SaysTheSame self.old self.new ino }
     {
         if let Some(attrs) = self.look(ino) {
-            self.enter(ino, Attrs { size, ..attrs });
+            self.enter(ino, &Attrs { size, ..attrs });
         }
     }
 

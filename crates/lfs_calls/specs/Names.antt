@@ -2,6 +2,8 @@
 use Rattle.std.specs.Prelude.{◌≡◌, ℕ, List, Option, None, Some}
 use Rattle.lfs_types.specs.Stored.{bytes_of}
 use Rattle.lfs_types.specs.Tree.{Content}
+use Rattle.lfs_attrcache.specs.Says.{AreShown}
+use Rattle.lfs_attrcache.specs.declared.cache.AttrCache.{AttrCache}
 use Rattle.lfs_dirs.specs.Directory.{number_in}
 use Rattle.lfs_namecache.specs.Says.{says}
 use Rattle.lfs_namecache.specs.declared.cache.NameCache.{NameCache}
@@ -20,6 +22,11 @@ IsFound c dir name (Some number) = Lists c dir name number
 -- what a cache says of names is what is found
 abbrev pub AreTrue : NameCache → Content → Type 0
 AreTrue names c = (dir : ℕ) (name : List ℕ) (found : Option ℕ) → says names dir name ≡ Some found → IsFound c dir name found
+
+-- what is known: what caches say of names and of attributes is what a content has
+pub record AreKnown (names : NameCache) (attributes : AttrCache) (c : Content) : Type 0 where
+  pub listed : AreTrue names c
+  pub shown : AreShown attributes c
 
 -- what was found is found still
 abbrev pub KeepsNames : Content → Content → Type 0

@@ -77,7 +77,7 @@ pub(crate) fn judge_there<F: FileStore>(
         may_enter(&arrival.dir.attrs, cred, 1, at)?;
         return Ok(None);
     };
-    let Some(attrs) = store.attrs(number) else {
+    let Some(attrs) = store.learn_attrs(number) else {
         unreachable!()
     };
     may_remove(&arrival.dir.attrs, &attrs, cred, 1, at)?;

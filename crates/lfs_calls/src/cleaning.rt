@@ -1,4 +1,4 @@
-//! The calls of a store's cleaner, over a store with a cache of names. None of them changes what a directory lists.
+//! The calls of a store's cleaner, over a store with caches of names and attributes. None of them changes the content.
 
 ghost use Rattle.std.specs.Prelude.{◌≡◌, ◌≤◌, length, IfErr, IfOk, OnErr, OnOk};
 ghost use Rattle.lfs_types.specs.Cleaned.{IsListingFault, IsMarkingFault, IsReclaimFault, ifile_size, with_clean_segment};

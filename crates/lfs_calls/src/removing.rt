@@ -56,7 +56,7 @@ pub(crate) fn judge_remove<F: FileStore>(
     let at = component(parents);
     let dir = reach(store, cred, 0, parents)?;
     let number = step(store, cred, 0, at, dir.number, name)?;
-    let Some(attrs) = store.attrs(number) else {
+    let Some(attrs) = store.learn_attrs(number) else {
         unreachable!()
     };
     may_remove(&dir.attrs, &attrs, cred, 0, at)?;

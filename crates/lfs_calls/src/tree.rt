@@ -1,16 +1,18 @@
-//! A store with a cache of the names that its directories list.
+//! A store with a cache of the names that its directories list, and one of the attributes that its files show.
 
 ghost use Rattle.std.specs.Prelude.{◌≡◌, [], length, IsSome, IfOk, IfSome, OnOk};
 ghost use Rattle.std.specs.FinMap.{get};
 ghost use Rattle.lfs_types.specs.Changes.{CanApply, applied};
 ghost use Rattle.lfs_types.specs.StoreStates.{Applies};
 ghost use Rattle.lfs_types.specs.Stored.{shown_attrs, bytes_of, slice_of, Reads, IsLeastFree};
+ghost use Rattle.lfs_attrcache.specs.Says.{AreShown};
 ghost use Rattle.lfs_model.specs.World.{child};
 ghost use Rattle.lfs_dirs.specs.Directory.{number_in};
 ghost use Rattle.lfs_calls.specs.Content.{IsDirectoryAt, listed};
 ghost use Rattle.lfs_calls.specs.Names.{FindsNew, IsFound, KeepsNames, MovesName};
 ghost use Rattle.lfs_calls.specs.Volumes.{InWorld};
 
+use lfs_attrcache::AttrCache;
 use lfs_namecache::NameCache;
 use lfs_types::attrs::Attrs;
 use lfs_types::name::Name;
@@ -18,31 +20,38 @@ use lfs_types::store::{Change, FileStore, StoreRefusal};
 use std::alloc::{AllocError, Global};
 use std::marker::Model;
 
-/// A store, and a cache of names. Contracts see the store alone. The type keeps that what the cache says of a name of a
-/// directory is what the directory lists, and so, in each world that the store shows, the row that hangs there.
+/// A store, and caches of names and of attributes. Contracts see the store alone. The type keeps that what is said of a name
+/// of a directory is what the directory lists, and so, in each world that the store shows, the row that hangs there; and that
+/// what is said of a number is what the store shows.
 #[derive(Drop)]
 pub struct Tree<F: FileStore> {
     pub(crate) store: F,
     names: NameCache,
+    attributes: AttrCache,
 }
 
 impl<F: FileStore> Model for Tree<F> {
-    ghost use Rattle.lfs_calls.specs.Names.{AreTrue};
+    ghost use Rattle.lfs_calls.specs.Names.{AreKnown};
 
     ghost Value = { F };
 
     ghost view = { λ t. t.store };
 
-    ghost invariant = { λ t. AreTrue t.names (F.state t.store).content };
+    ghost invariant = { λ t. AreKnown t.names t.attributes (F.state t.store).content };
 }
 
 impl<F: FileStore + Drop> Tree<F> {
-    /// A store of whose names nothing is known yet. The room for names is taken here.
+    /// A store of which nothing is known yet. The room for what will be is taken here.
     pub fn new(alloc: Global, store: F) -> Result<Tree<F>, AllocError>
         ensures { IfOk result (λ tree. tree ≡ store) }
     {
         let names = NameCache::new(alloc)?;
-        Ok(Tree { store, names })
+        let attributes = AttrCache::new(alloc)?;
+        Ok(Tree {
+            store,
+            names,
+            attributes,
+        })
     }
 }
 
@@ -51,7 +60,23 @@ impl<F: FileStore> Tree<F> {
     pub fn attrs(&self, ino: u32) -> Option<Attrs>
         ensures { result ≡ shown_attrs (F.state self.now).content ino }
     {
-        self.store.attrs(ino)
+        match self.attributes.look(ino) {
+            Some(attrs) => Some(attrs),
+            None => self.store.attrs(ino),
+        }
+    }
+
+    /// The attributes of a number, if it is in use, which are known from now on.
+    pub(crate) fn learn_attrs(&mut self, ino: u32) -> Option<Attrs>
+        ensures attrs { result ≡ shown_attrs (F.state self.old).content ino }
+        ensures same { self.new ≡ self.old }
+    {
+        if let Some(attrs) = self.attributes.look(ino) {
+            return Some(attrs);
+        }
+        let attrs = self.store.attrs(ino)?;
+        self.attributes.enter(ino, &attrs);
+        Some(attrs)
     }
 
     /// Reads a file's bytes from `off` on, as many as there are and the buffer takes, and says how many.
@@ -121,7 +146,7 @@ impl<F: FileStore> Tree<F> {
             (applied changes.now (F.state self.old).content) }
         ensures { Applies (F.state self.old) changes.now result (F.state self.new) }
     {
-        self.store.apply(changes)
+        apply_followed(&mut self.store, &mut self.attributes, changes)
     }
 
     /// Makes changes as `apply` does, after which something else is found under a name of a directory.
@@ -138,7 +163,7 @@ impl<F: FileStore> Tree<F> {
             (applied changes.now (F.state self.old).content) dir name.now found }
         ensures { Applies (F.state self.old) changes.now result (F.state self.new) }
     {
-        self.store.apply(changes)?;
+        apply_followed(&mut self.store, &mut self.attributes, changes)?;
         self.names.enter(dir, name, found);
         Ok(())
     }
@@ -159,9 +184,26 @@ impl<F: FileStore> Tree<F> {
             from.0 from.1.now to.0 to.1.now number }
         ensures { Applies (F.state self.old) changes.now result (F.state self.new) }
     {
-        self.store.apply(changes)?;
+        apply_followed(&mut self.store, &mut self.attributes, changes)?;
         self.names.enter(from.0, from.1, None);
         self.names.enter(to.0, to.1, Some(number));
         Ok(())
     }
+}
+
+/// Makes changes as a store does, and follows them where they were made: what was known of attributes is so still.
+fn apply_followed<F: FileStore>(
+    store: &mut F,
+    attributes: &mut AttrCache,
+    changes: &[Change<'_>],
+) -> Result<(), StoreRefusal>
+    requires { CanApply (F.state store.old).shape.numbers changes.now
+        (F.state store.old).content }
+    ensures applies { Applies (F.state store.old) changes.now result (F.state store.new) }
+    ensures shown { AreShown attributes.old (F.state store.old).content
+        → AreShown attributes.new (F.state store.new).content }
+{
+    store.apply(changes)?;
+    attributes.follow(changes);
+    Ok(())
 }

@@ -36,7 +36,7 @@ pub(crate) fn step<F: FileStore>(
         (λ w. result ≡ stepped w.rows cred.now path at dir name.now) }
     ensures state { F.state store.new ≡ F.state store.old }
 {
-    let Some(attrs) = store.attrs(dir) else {
+    let Some(attrs) = store.learn_attrs(dir) else {
         unreachable!()
     };
     may_search(&attrs, cred, path, at)?;
@@ -86,7 +86,7 @@ pub(crate) fn reach<F: FileStore>(
     ensures state { F.state store.new ≡ F.state store.old }
 {
     let number = walk(store, cred, path, names)?;
-    match store.attrs(number) {
+    match store.learn_attrs(number) {
         Some(attrs) => Ok(Reached { number, attrs }),
         None => unreachable!(),
     }

@@ -12,7 +12,7 @@ if_some P (Some found) h = h found refl
 -- what is known is found
 known : (g : _) (c : After-look g) (found : Option ℕ) → c.look.result ≡ Some found → IsFound (g.F.FileStore.state c.args.self.now).content c.args.dir c.args.name.now found
 known g c found e = subst (λ x. IsFound (g.F.FileStore.state x).content c.args.dir c.args.name.now found) c.self.view_is
-    (c.self.invariant c.args.dir c.args.name.now found (sym c.look.ensures ∙ e))
+    (c.self.invariant.listed c.args.dir c.args.name.now found (sym c.look.ensures ∙ e))
 
 pub returns-clause-found : goal.returns-clause-found
 returns-clause-found g c =
