@@ -52,28 +52,28 @@ unreachable-requires g c =
     not_shown (g.F.FileStore.state c.step.new.store).content c.in_ok-number.number
     (child-stored (g.F.FileStore.state c.step.new.store).content t.0 after.shows c.in_ok-dir.dir.number c.in-Some.name.now c.in_ok-number.number
     (stepped-child t.0.rows c.args.cred.now 0 c.component-at.result c.in_ok-dir.dir.number c.in-Some.name.now c.in_ok-number.number (c.in_ok-number.ensures.step t.0 here)))
-    c.in_default-attrs.ensures
+    c.in_default-learn_attrs.ensures.attrs
 
 pub returns-in_err-may_remove-clause-judge : goal.returns-in_err-may_remove-clause-judge
 returns-in_err-may_remove-clause-judge g c w v =
     let k = (goal.at.returns-in_err-may_remove-clause-judge g c).In_ok-dir in
     let p = err_from_is_err_and c.from_residual-in_err-may_remove.result c.from_residual-in_err-may_remove.ensures.1 in
     let here = still c.reach.ensures.state v in
-    let shown = c.in-Some-attrs.ensures ∙ ap (λ x. shown_attrs x c.in_ok-number.number) ((same_content c.step.ensures.state) ∙ (same_content c.reach.ensures.state)) in
-    let tests = removing_tests c.args.cred.now 0 c.in_ok-dir.dir.attrs c.in-Some-attrs.attrs c.component-at.result in
+    let shown = c.in-Some-learn_attrs.ensures.attrs ∙ ap (λ x. shown_attrs x c.in_ok-number.number) ((same_content c.step.ensures.state) ∙ (same_content c.reach.ensures.state)) in
+    let tests = removing_tests c.args.cred.now 0 c.in_ok-dir.dir.attrs c.in-Some-learn_attrs.attrs c.component-at.result in
     denies (removing w.rows c.args.cred.now c.args.names.now) (IsRemoval (g.F.FileStore.state c.args.store.now).content w.rows c.args.names.now) (p.1 ∙ ap Err p.2)
-    (remove_decided (way g k w v) c.component-at.result c.component-at.ensures c.in_ok-number.number c.in-Some-attrs.attrs (c.in_ok-number.ensures.step w here) shown
+    (remove_decided (way g k w v) c.component-at.result c.component-at.ensures c.in_ok-number.number c.in-Some-learn_attrs.attrs (c.in_ok-number.ensures.step w here) shown
     ∙ judged_none tests c.in_err-may_remove.field-0.0 (sym c.in_err-may_remove.ensures))
 
 pub returns-clause-judge : goal.returns-clause-judge
 returns-clause-judge g c w v =
     let k = (goal.at.returns-clause-judge g c).In_ok-dir in
     let here = still c.reach.ensures.state v in
-    let shown = c.in-Some-attrs.ensures ∙ ap (λ x. shown_attrs x c.in_ok-number.number) ((same_content c.step.ensures.state) ∙ (same_content c.reach.ensures.state)) in
-    let tests = removing_tests c.args.cred.now 0 c.in_ok-dir.dir.attrs c.in-Some-attrs.attrs c.component-at.result in (
-      remove_decided (way g k w v) c.component-at.result c.component-at.ensures c.in_ok-number.number c.in-Some-attrs.attrs (c.in_ok-number.ensures.step w here) shown
+    let shown = c.in-Some-learn_attrs.ensures.attrs ∙ ap (λ x. shown_attrs x c.in_ok-number.number) ((same_content c.step.ensures.state) ∙ (same_content c.reach.ensures.state)) in
+    let tests = removing_tests c.args.cred.now 0 c.in_ok-dir.dir.attrs c.in-Some-learn_attrs.attrs c.component-at.result in (
+      remove_decided (way g k w v) c.component-at.result c.component-at.ensures c.in_ok-number.number c.in-Some-learn_attrs.attrs (c.in_ok-number.ensures.step w here) shown
           ∙ judged_all tests (sym c.in_ok-may_remove.ensures),
-      removal_is (way g k w v) c.component-at.result c.component-at.ensures c.in_ok-number.number c.in-Some-attrs.attrs (c.in_ok-number.ensures.step w here) shown,
+      removal_is (way g k w v) c.component-at.result c.component-at.ensures c.in_ok-number.number c.in-Some-learn_attrs.attrs (c.in_ok-number.ensures.step w here) shown,
     )
 
 pub returns-in_default-clause-judge : goal.returns-in_default-clause-judge

@@ -20,8 +20,8 @@ unreachable-requires g c =
     not_shown (g.F.FileStore.state c.walk.new.store).content c.in_ok-number.number
     (walked-stored (g.F.FileStore.state c.walk.new.store).content t.0 here.shows c.args.cred.now c.args.path 0 root c.args.names.now c.in_ok-number.number
     (root_stored (g.F.FileStore.state c.walk.new.store).content t.0 here.shows here.tree) (sym (c.in_ok-number.ensures.walk t.0 t.1)))
-    c.in-None.ensures
+    c.in-None.ensures.attrs
 
 pub returns-clause-reach : goal.returns-clause-reach
 returns-clause-reach g c w v =
-    (sym (c.in_ok-number.ensures.walk w v), c.in-Some.ensures ∙ ap (λ x. shown_attrs x c.in_ok-number.number) (same_content c.walk.ensures.state))
+    (sym (c.in_ok-number.ensures.walk w v), c.in-Some.ensures.attrs ∙ ap (λ x. shown_attrs x c.in_ok-number.number) (same_content c.walk.ensures.state))
