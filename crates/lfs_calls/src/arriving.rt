@@ -11,9 +11,10 @@ ghost use Rattle.lfs_calls.specs.Volumes.{HasWorld, InWorld};
 use crate::directory::look_up;
 use crate::removing::is_empty_directory;
 use crate::tree::Tree;
-use crate::walking::{Reached, component, denial, reach};
+use crate::walking::{Reached, component, reach};
 use lfs_checks::asking::ask;
 use lfs_checks::names::{may_enter, may_remove, may_replace, may_search};
+use lfs_checks::site::Site;
 use lfs_types::cred::Cred;
 use lfs_types::name::Name;
 use lfs_types::rule::{Denial, Rule};
@@ -41,11 +42,11 @@ pub(crate) fn judge_arrival<F: FileStore>(
     ensures state { F.state store.new ≡ F.state store.old }
 {
     let Some((name, parents)) = names.split_last() else {
-        return Err(denial(Rule::IsNotRoot, 1, 0));
+        return Err(Site { path: 1, at: 0 }.denial(Rule::IsNotRoot));
     };
     let at = component(parents);
     let dir = reach(store, cred, 1, parents)?;
-    may_search(&dir.attrs, cred, 1, at)?;
+    may_search(&dir.attrs, cred, Site { path: 1, at })?;
     let there = look_up(store, dir.number, dir.attrs.size, name);
     Ok(Arrival { dir, there })
 }
@@ -73,16 +74,18 @@ pub(crate) fn judge_there<F: FileStore>(
         × (Some row.attrs ≡ shown_attrs (F.state store.old).content row.number))) result) }
     ensures state { F.state store.new ≡ F.state store.old }
 {
+    let site = Site { path: 1, at };
     let Some(number) = arrival.there else {
-        may_enter(&arrival.dir.attrs, cred, 1, at)?;
+        may_enter(&arrival.dir.attrs, cred, site)?;
         return Ok(None);
     };
     let Some(attrs) = store.learn_attrs(number) else {
         unreachable!()
     };
-    may_remove(&arrival.dir.attrs, &attrs, cred, 1, at)?;
+    may_remove(&arrival.dir.attrs, &attrs, cred, site)?;
     may_replace(&moved.attrs, &attrs, at + 1)?;
     let empty = !attrs.kind.is_directory() || is_empty_directory(store, number, attrs.size);
-    ask(empty, Rule::IsEmpty, 1, at + 1)?;
+    let below = Site { at: at + 1, ..site };
+    ask(empty, Rule::IsEmpty, below)?;
     Ok(Some(Reached { number, attrs }))
 }

@@ -19,9 +19,10 @@ ghost use Rattle.lfs_calls.specs.Makes.{CanEnter, CanMake, IsParent, request_for
 use crate::directory::{look_up, read_block};
 use crate::not_served::NotServed;
 use crate::tree::Tree;
-use crate::walking::{Reached, component, denial, last_name, reach};
+use crate::walking::{Reached, component, last_name, reach};
 use lfs_checks::asking::ask;
 use lfs_checks::names::{may_enter, may_search};
+use lfs_checks::site::Site;
 use lfs_dirs::added;
 use lfs_types::answer::{Resource, Served};
 use lfs_types::attrs::{Attrs, Kind};
@@ -58,7 +59,7 @@ pub(crate) fn judge_make<F: FileStore>(
     ensures state { F.state store.new ≡ F.state store.old }
 {
     let Some((name, parents)) = names.split_last() else {
-        return Err(denial(Rule::NameFree, 0, 0));
+        return Err(Site { path: 0, at: 0 }.denial(Rule::NameFree));
     };
     let at = component(parents);
     let dir = reach(store, cred, 0, parents)?;
@@ -84,10 +85,12 @@ fn may_make<F: FileStore>(
     ensures state { F.state store.new ≡ F.state store.old }
 {
     let Reached { number, attrs } = *dir;
-    may_search(&attrs, cred, 0, at)?;
+    let site = Site { path: 0, at };
+    may_search(&attrs, cred, site)?;
     let free = look_up(store, number, attrs.size, name).is_none();
-    ask(free, Rule::NameFree, 0, at + 1)?;
-    may_enter(&attrs, cred, 0, at)
+    let below = Site { at: at + 1, ..site };
+    ask(free, Rule::NameFree, below)?;
+    may_enter(&attrs, cred, site)
 }
 
 /// The first block of a directory that has room for a new entry, with that entry, else a new block at the end; None

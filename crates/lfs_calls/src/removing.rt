@@ -15,9 +15,10 @@ use crate::directory::read_block;
 use crate::making::Room;
 use crate::not_served::NotServed;
 use crate::tree::Tree;
-use crate::walking::{Reached, component, denial, last_name, reach, step};
+use crate::walking::{Reached, component, last_name, reach, step};
 use lfs_checks::asking::ask;
 use lfs_checks::names::{may_remove, may_unlink};
+use lfs_checks::site::Site;
 use lfs_dirs::{entries, find, removed};
 use lfs_types::answer::Served;
 use lfs_types::attrs::Kind;
@@ -51,15 +52,16 @@ pub(crate) fn judge_remove<F: FileStore>(
     ensures state { F.state store.new ≡ F.state store.old }
 {
     let Some((name, parents)) = names.split_last() else {
-        return Err(denial(Rule::IsNotRoot, 0, 0));
+        return Err(Site { path: 0, at: 0 }.denial(Rule::IsNotRoot));
     };
     let at = component(parents);
     let dir = reach(store, cred, 0, parents)?;
-    let number = step(store, cred, 0, at, dir.number, name)?;
+    let site = Site { path: 0, at };
+    let number = step(store, cred, site, dir.number, name)?;
     let Some(attrs) = store.learn_attrs(number) else {
         unreachable!()
     };
-    may_remove(&dir.attrs, &attrs, cred, 0, at)?;
+    may_remove(&dir.attrs, &attrs, cred, site)?;
     let file = Reached { number, attrs };
     Ok(Removal { dir, file })
 }
@@ -201,9 +203,10 @@ fn may_rmdir<F: FileStore>(store: &mut Tree<F>, row: &Reached, at: u32) -> Resul
         ≡ judged (rmdir_tests (length (children w.rows row.now.number) == 0) row.now.attrs at)) }
     ensures state { F.state store.new ≡ F.state store.old }
 {
-    ask(row.attrs.kind.is_directory(), Rule::IsDirectory, 0, at)?;
+    let site = Site { path: 0, at };
+    ask(row.attrs.kind.is_directory(), Rule::IsDirectory, site)?;
     let empty = is_empty_directory(store, row.number, row.attrs.size);
-    ask(empty, Rule::IsEmpty, 0, at)
+    ask(empty, Rule::IsEmpty, site)
 }
 
 /// Whether a directory of this size lists no name.

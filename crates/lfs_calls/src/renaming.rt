@@ -25,8 +25,9 @@ use crate::making::{Room, find_room, seen_block};
 use crate::not_served::NotServed;
 use crate::removing::{Removal, judge_remove, take_name};
 use crate::tree::Tree;
-use crate::walking::{Reached, component, denial, last_name, parents_of, step};
+use crate::walking::{Reached, component, last_name, parents_of, step};
 use lfs_checks::names::may_move;
+use lfs_checks::site::Site;
 use lfs_dirs::{find, replaced};
 use lfs_types::answer::{Resource, Served};
 use lfs_types::block::BLOCK_SIZE;
@@ -190,13 +191,21 @@ fn judge_way<F: FileStore>(
 {
     let mut dir = ROOT_INODE;
     for (at, name) in names.iter().enumerate() {
+        let site = Site {
+            path: 1,
+            at: at as u32,
+        };
         if dir == number {
-            return Err(denial(Rule::IsNotBeneathItself, 1, at as u32));
+            return Err(site.denial(Rule::IsNotBeneathItself));
         }
-        dir = step(store, cred, 1, at as u32, dir, name)?;
+        dir = step(store, cred, site, dir, name)?;
     }
     if dir == number {
-        return Err(denial(Rule::IsNotBeneathItself, 1, component(names)));
+        let site = Site {
+            path: 1,
+            at: component(names),
+        };
+        return Err(site.denial(Rule::IsNotBeneathItself));
     }
     Ok(())
 }

@@ -12,6 +12,7 @@ ghost use Rattle.lfs_calls.specs.Volumes.{HasWorld, InWorld};
 use crate::directory::look_up;
 use crate::tree::Tree;
 use lfs_checks::names::may_search;
+use lfs_checks::site::Site;
 use lfs_types::attrs::Attrs;
 use lfs_types::cred::Cred;
 use lfs_types::limits::ROOT_INODE;
@@ -20,27 +21,30 @@ use lfs_types::path::Path;
 use lfs_types::rule::{Denial, Rule};
 use lfs_types::store::FileStore;
 
-/// One step of a walk: from the row at component `at` to a name, or the first rule that fails.
+/// One step of a walk: from the row at a component to a name, or the first rule that fails.
 pub(crate) fn step<F: FileStore>(
     store: &mut Tree<F>,
     cred: &Cred,
-    path: u8,
-    at: u32,
+    site: Site,
     dir: u32,
     name: &Name,
 ) -> Result<u32, Denial>
     requires world { HasWorld (F.state store.old) }
     requires used { IsSome (get (F.state store.old).content dir) }
-    requires short { at < PATH_MAX }
+    requires short { site.at < PATH_MAX }
     ensures step { InWorld (F.state store.old)
-        (λ w. result ≡ stepped w.rows cred.now path at dir name.now) }
+        (λ w. result ≡ stepped w.rows cred.now site.path site.at dir name.now) }
     ensures state { F.state store.new ≡ F.state store.old }
 {
     let Some(attrs) = store.learn_attrs(dir) else {
         unreachable!()
     };
-    may_search(&attrs, cred, path, at)?;
-    look_up(store, dir, attrs.size, name).ok_or(denial(Rule::NameThere, path, at + 1))
+    may_search(&attrs, cred, site)?;
+    let below = Site {
+        at: site.at + 1,
+        ..site
+    };
+    look_up(store, dir, attrs.size, name).ok_or(below.denial(Rule::NameThere))
 }
 
 /// Where a walk from the root along names ends, or the first rule that fails on the way.
@@ -58,7 +62,11 @@ pub(crate) fn walk<F: FileStore>(
 {
     let mut dir = ROOT_INODE;
     for (at, name) in names.iter().enumerate() {
-        dir = step(store, cred, path, at as u32, dir, name)?;
+        let site = Site {
+            path,
+            at: at as u32,
+        };
+        dir = step(store, cred, site, dir, name)?;
     }
     Ok(dir)
 }
@@ -135,11 +143,4 @@ pub(crate) fn last_name(names: &[Name]) -> &Name
     ensures name { result.now ≡ last names.now }
 {
     &names[names.len() - 1]
-}
-
-/// A rule that fails at a component of the path of this index.
-pub(crate) fn denial(rule: Rule, path: u8, at: u32) -> Denial
-    ensures { result ≡ record { rule = rule; path = path; at = at } }
-{
-    Denial { rule, path, at }
 }

@@ -7,6 +7,7 @@ ghost use Rattle.lfs_model.specs.Effects.{mode_after};
 ghost use Rattle.lfs_model.specs.Rules.{chflags_tests, chmod_tests, chown_tests, judged};
 
 use crate::asking::ask;
+use crate::site::Site;
 use lfs_rules::access::clear_set_id;
 use lfs_rules::flags::{append_only, flag_change, immutable};
 use lfs_rules::owner::{is_owner, owner_change};
@@ -22,9 +23,10 @@ use lfs_types::rule::{Denial, Rule};
 pub fn may_chmod(file: &Attrs, cred: &Cred, at: u32) -> Result<(), Denial>
     ensures { result ≡ judged (chmod_tests cred.now file.now at) }
 {
-    ask(!immutable(file), Rule::IsMutable, 0, at)?;
-    ask(!append_only(file), Rule::IsNotAppendOnly, 0, at)?;
-    ask(is_owner(file, cred), Rule::IsOwner, 0, at)
+    let site = Site { path: 0, at };
+    ask(!immutable(file), Rule::IsMutable, site)?;
+    ask(!append_only(file), Rule::IsNotAppendOnly, site)?;
+    ask(is_owner(file, cred), Rule::IsOwner, site)
 }
 
 /// Whether a caller may give a file, which stands at component `at` of a call's path, this owner and this group, or the
@@ -32,8 +34,9 @@ pub fn may_chmod(file: &Attrs, cred: &Cred, at: u32) -> Result<(), Denial>
 pub fn may_chown(attrs: &Attrs, cred: &Cred, uid: u32, gid: u32, at: u32) -> Result<(), Denial>
     ensures { result ≡ judged (chown_tests cred.now uid gid attrs.now at) }
 {
-    ask(!immutable(attrs), Rule::IsMutable, 0, at)?;
-    ask(!append_only(attrs), Rule::IsNotAppendOnly, 0, at)?;
+    let site = Site { path: 0, at };
+    ask(!immutable(attrs), Rule::IsMutable, site)?;
+    ask(!append_only(attrs), Rule::IsNotAppendOnly, site)?;
     match owner_change(attrs, cred, uid, gid) {
         None => Ok(()),
         Some(rule) => Err(Denial { rule, path: 0, at }),

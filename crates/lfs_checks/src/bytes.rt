@@ -5,6 +5,7 @@ ghost use Rattle.lfs_types.specs.declared.limits.TheConstants.{FILE_BYTES};
 ghost use Rattle.lfs_model.specs.Rules.{change_tests, is_end, judged, length_tests, read_tests, start_of, write_tests};
 
 use crate::asking::ask;
+use crate::site::Site;
 use lfs_rules::access::grants;
 use lfs_rules::flags::{append_only, immutable};
 use lfs_types::attrs::{Attrs, Bit};
@@ -18,8 +19,9 @@ use lfs_types::rule::{Denial, Rule};
 pub fn may_read(file: &Attrs, cred: &Cred, at: u32) -> Result<(), Denial>
     ensures { result ≡ judged (read_tests cred.now file.now at) }
 {
-    ask(!file.kind.is_directory(), Rule::IsNoDirectory, 0, at)?;
-    ask(grants(file, cred, Bit::Read), Rule::GrantsRead, 0, at)
+    let site = Site { path: 0, at };
+    ask(!file.kind.is_directory(), Rule::IsNoDirectory, site)?;
+    ask(grants(file, cred, Bit::Read), Rule::GrantsRead, site)
 }
 
 /// Whether a caller may put so many bytes at a place into a file, which stands at component `at` of a call's path, or
@@ -35,7 +37,7 @@ pub fn may_write(
 {
     may_change(file, cred, is_end(place), at)?;
     let fits = fits_file(start_in(place, file.size), count);
-    ask(fits, Rule::FitsFile, 0, at)
+    ask(fits, Rule::FitsFile, Site { path: 0, at })
 }
 
 /// Whether a caller may give a file, which stands at component `at` of a call's path, so many bytes, or the first rule
@@ -44,7 +46,7 @@ pub fn may_set_length(file: &Attrs, cred: &Cred, len: u64, at: u32) -> Result<()
     ensures { result ≡ judged (length_tests cred.now len file.now at) }
 {
     may_change(file, cred, false, at)?;
-    ask(len <= FILE_BYTES, Rule::FitsFile, 0, at)
+    ask(len <= FILE_BYTES, Rule::FitsFile, Site { path: 0, at })
 }
 
 /// Whether a caller may change the bytes or the length of a file, which stands at component `at`, or the first rule
@@ -52,10 +54,11 @@ pub fn may_set_length(file: &Attrs, cred: &Cred, len: u64, at: u32) -> Result<()
 fn may_change(file: &Attrs, cred: &Cred, appends: bool, at: u32) -> Result<(), Denial>
     ensures { result ≡ judged (change_tests cred.now appends file.now at) }
 {
-    ask(!file.kind.is_directory(), Rule::IsNoDirectory, 0, at)?;
-    ask(!immutable(file), Rule::IsMutable, 0, at)?;
-    ask(grants(file, cred, Bit::Write), Rule::GrantsWrite, 0, at)?;
-    ask(appends || !append_only(file), Rule::IsNotAppendOnly, 0, at)
+    let site = Site { path: 0, at };
+    ask(!file.kind.is_directory(), Rule::IsNoDirectory, site)?;
+    ask(!immutable(file), Rule::IsMutable, site)?;
+    ask(grants(file, cred, Bit::Write), Rule::GrantsWrite, site)?;
+    ask(appends || !append_only(file), Rule::IsNotAppendOnly, site)
 }
 
 /// Whether bytes go to the end of a file.

@@ -7,3 +7,4 @@ pub mod attributes;
 pub mod bytes;
 pub mod level;
 pub mod names;
+pub mod site;

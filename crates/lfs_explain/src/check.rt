@@ -3,6 +3,7 @@
 ghost use Rattle.std.specs.Prelude.{◌≡◌};
 ghost use Rattle.lfs_model.specs.Rules.{asks};
 
+use lfs_checks::site::Site;
 use lfs_types::rule::{Denial, Rule};
 use std::marker::Model;
 
@@ -24,11 +25,11 @@ impl Model for Check {
 }
 
 impl Check {
-    /// A rule asked at component `at`, from 0 at the root, of the path of this index, 0 for a call's first.
-    pub fn new(met: bool, rule: Rule, path: u8, at: u32) -> Check
-        ensures { result ≡ asks met rule path at }
+    /// A rule asked at a component of a path.
+    pub fn new(met: bool, rule: Rule, site: Site) -> Check
+        ensures { result ≡ asks met rule site.path site.at }
     {
-        let denial = Denial { rule, path, at };
+        let denial = site.denial(rule);
         Check { met, denial }
     }
 

@@ -12,6 +12,7 @@ use crate::looking::row_of;
 use crate::telling::{dir_of, end_of, push, push_way};
 use crate::testing;
 use crate::trail::{Seen, Trail};
+use lfs_checks::site::Site;
 use lfs_rules::access::grants;
 use lfs_types::attrs::{Attrs, Bit};
 use lfs_types::cred::Cred;
@@ -29,9 +30,11 @@ pub(crate) fn push_arriving(
         ++ arriving_by cred.now (path_of to.now)) }
 {
     let at = to.names.saturating_sub(1);
-    push(checks, &[Check::new(to.names != 0, Rule::IsNotRoot, 1, 0)])?;
+    let root = Site { path: 1, at: 0 };
+    push(checks, &[Check::new(to.names != 0, Rule::IsNotRoot, root)])?;
     push_way(checks, cred, 1, at, &to.rows)?;
-    push(checks, &testing::search(&dir_of(to).attrs, cred, 1, at))
+    let site = Site { path: 1, at };
+    push(checks, &testing::search(&dir_of(to).attrs, cred, site))
 }
 
 /// Puts those of a row that gets the place; none where it has that place already.
@@ -78,13 +81,11 @@ fn push_placing(
 {
     let at = to.names.saturating_sub(1);
     let dir = dir_of(to);
+    let site = Site { path: 1, at };
     let Some(row) = row_of(&to.rows, to.names as usize) else {
-        return push(checks, &testing::enter(&dir.attrs, cred, 1, at));
+        return push(checks, &testing::enter(&dir.attrs, cred, site));
     };
-    push(
-        checks,
-        &testing::remove(&dir.attrs, &row.attrs, cred, 1, at),
-    )?;
+    push(checks, &testing::remove(&dir.attrs, &row.attrs, cred, site))?;
     push(
         checks,
         &testing::replace(moved, &row.attrs, to.is_childless, at + 1),
@@ -105,10 +106,11 @@ fn push_last(
     let moved = end_of(from);
     let stays = dir_of(from).number == dir_of(to).number;
     let (is_on_way, place) = place_on(way_to(to), moved.number);
+    let site = Site { path: 1, at: place };
     push(
         checks,
         &[
-            Check::new(!is_on_way, Rule::IsNotBeneathItself, 1, place),
+            Check::new(!is_on_way, Rule::IsNotBeneathItself, site),
             leaves(&moved.attrs, cred, stays, from.names),
         ],
     )
@@ -142,5 +144,5 @@ fn leaves(file: &Attrs, cred: &Cred, stays: bool, at: u32) -> Check
     ensures { result ≡ leaves_test cred.now stays file.now at }
 {
     let may = !file.kind.is_directory() || stays || grants(file, cred, Bit::Write);
-    Check::new(may, Rule::GrantsWrite, 0, at)
+    Check::new(may, Rule::GrantsWrite, Site { path: 0, at })
 }

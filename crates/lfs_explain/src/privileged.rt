@@ -6,6 +6,7 @@ ghost use Rattle.lfs_model.specs.Rules.{asks, chflags_tests, level_tests};
 ghost use Rattle.lfs_explain.specs.Asked.{asked};
 
 use crate::check::Check;
+use lfs_checks::site::Site;
 use lfs_rules::flags::flag_change;
 use lfs_rules::level::level_change;
 use lfs_types::attrs::Attrs;
@@ -39,10 +40,11 @@ fn flag_checks(owner: bool, flags: bool, locks: bool, at: u32) -> [Check; 3]
     ensures { result ≡ asks owner IsOwner 0 at ∷ asks flags MaySetFlags 0 at
         ∷ asks locks KeepsSystemLocks 0 at ∷ [] }
 {
+    let site = Site { path: 0, at };
     [
-        Check::new(owner, Rule::IsOwner, 0, at),
-        Check::new(flags, Rule::MaySetFlags, 0, at),
-        Check::new(locks, Rule::KeepsSystemLocks, 0, at),
+        Check::new(owner, Rule::IsOwner, site),
+        Check::new(flags, Rule::MaySetFlags, site),
+        Check::new(locks, Rule::KeepsSystemLocks, site),
     ]
 }
 
@@ -61,8 +63,9 @@ pub(crate) fn set_level(cred: &Cred, old: Level, new: Level) -> [Check; 2]
 fn level_checks(superuser: bool, may_set: bool) -> [Check; 2]
     ensures { result ≡ asks superuser IsSuperuser 0 0 ∷ asks may_set MaySetLevel 0 0 ∷ [] }
 {
+    let site = Site { path: 0, at: 0 };
     [
-        Check::new(superuser, Rule::IsSuperuser, 0, 0),
-        Check::new(may_set, Rule::MaySetLevel, 0, 0),
+        Check::new(superuser, Rule::IsSuperuser, site),
+        Check::new(may_set, Rule::MaySetLevel, site),
     ]
 }

@@ -11,6 +11,7 @@ use crate::moving::{push_arriving, push_moving};
 use crate::privileged::{chflags, set_level};
 use crate::testing;
 use crate::trail::{Seen, Trail};
+use lfs_checks::site::Site;
 use lfs_types::attrs::{Attrs, Kind};
 use lfs_types::cred::Cred;
 use lfs_types::file_flags::FileFlags;
@@ -81,10 +82,11 @@ pub(crate) fn push_way(
     let steps = rows.len().min(count as usize);
     for at in 0..steps {
         let there = row_of(rows, at + 1).is_some();
-        push(
-            checks,
-            &testing::step(&rows[at].attrs, cred, path, at as u32, there),
-        )?;
+        let site = Site {
+            path,
+            at: at as u32,
+        };
+        push(checks, &testing::step(&rows[at].attrs, cred, site, there))?;
     }
     Ok(())
 }
@@ -195,7 +197,8 @@ fn push_making(checks: &mut Vec<Check>, cred: &Cred, path: &Trail) -> Result<(),
 {
     let at = path.names.saturating_sub(1);
     let free = row_of(&path.rows, path.names as usize).is_none();
-    push(checks, &[Check::new(path.names != 0, Rule::NameFree, 0, 0)])?;
+    let root = Site { path: 0, at: 0 };
+    push(checks, &[Check::new(path.names != 0, Rule::NameFree, root)])?;
     push_way(checks, cred, 0, at, &path.rows)?;
     push(checks, &testing::make(&dir_of(path).attrs, cred, free, at))
 }
@@ -208,13 +211,15 @@ fn push_removing(checks: &mut Vec<Check>, cred: &Cred, path: &Trail) -> Result<(
 {
     let at = path.names.saturating_sub(1);
     let (dir, file) = (dir_of(path), end_of(path));
+    let root = Site { path: 0, at: 0 };
     push(
         checks,
-        &[Check::new(path.names != 0, Rule::IsNotRoot, 0, 0)],
+        &[Check::new(path.names != 0, Rule::IsNotRoot, root)],
     )?;
     push_way(checks, cred, 0, path.names, &path.rows)?;
+    let site = Site { path: 0, at };
     push(
         checks,
-        &testing::remove(&dir.attrs, &file.attrs, cred, 0, at),
+        &testing::remove(&dir.attrs, &file.attrs, cred, site),
     )
 }

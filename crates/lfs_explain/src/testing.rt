@@ -7,6 +7,7 @@ ghost use Rattle.lfs_explain.specs.Tables.{fits_test, length_test, step_tests};
 
 use crate::check::Check;
 use lfs_checks::bytes::start_in;
+use lfs_checks::site::Site;
 use lfs_rules::access::{grants, sticky_bars};
 use lfs_rules::flags::{append_only, immutable};
 use lfs_rules::owner::{is_owner, owner_change};
@@ -17,14 +18,18 @@ use lfs_types::request::Place;
 use lfs_types::rule::Rule;
 
 /// Those of a step from a directory, which stands at component `at`, to a name that may be there.
-pub(crate) fn step(dir: &Attrs, cred: &Cred, path: u8, at: u32, there: bool) -> [Check; 3]
-    requires { at < PATH_MAX }
-    ensures { result ≡ step_tests cred.now path at dir.now there }
+pub(crate) fn step(dir: &Attrs, cred: &Cred, site: Site, there: bool) -> [Check; 3]
+    requires { site.at < PATH_MAX }
+    ensures { result ≡ step_tests cred.now site.path site.at dir.now there }
 {
+    let next = Site {
+        at: site.at + 1,
+        ..site
+    };
     [
-        Check::new(dir.kind.is_directory(), Rule::IsDirectory, path, at),
-        Check::new(grants(dir, cred, Bit::Search), Rule::GrantsSearch, path, at),
-        Check::new(there, Rule::NameThere, path, at + 1),
+        Check::new(dir.kind.is_directory(), Rule::IsDirectory, site),
+        Check::new(grants(dir, cred, Bit::Search), Rule::GrantsSearch, site),
+        Check::new(there, Rule::NameThere, next),
     ]
 }
 
@@ -32,9 +37,10 @@ pub(crate) fn step(dir: &Attrs, cred: &Cred, path: u8, at: u32, there: bool) -> 
 pub(crate) fn read(file: &Attrs, cred: &Cred, at: u32) -> [Check; 2]
     ensures { result ≡ read_tests cred.now file.now at }
 {
+    let site = Site { path: 0, at };
     [
-        Check::new(!file.kind.is_directory(), Rule::IsNoDirectory, 0, at),
-        Check::new(grants(file, cred, Bit::Read), Rule::GrantsRead, 0, at),
+        Check::new(!file.kind.is_directory(), Rule::IsNoDirectory, site),
+        Check::new(grants(file, cred, Bit::Read), Rule::GrantsRead, site),
     ]
 }
 
@@ -42,9 +48,10 @@ pub(crate) fn read(file: &Attrs, cred: &Cred, at: u32) -> [Check; 2]
 pub(crate) fn list(dir: &Attrs, cred: &Cred, at: u32) -> [Check; 2]
     ensures { result ≡ list_tests cred.now dir.now at }
 {
+    let site = Site { path: 0, at };
     [
-        Check::new(dir.kind.is_directory(), Rule::IsDirectory, 0, at),
-        Check::new(grants(dir, cred, Bit::Read), Rule::GrantsRead, 0, at),
+        Check::new(dir.kind.is_directory(), Rule::IsDirectory, site),
+        Check::new(grants(dir, cred, Bit::Read), Rule::GrantsRead, site),
     ]
 }
 
@@ -52,11 +59,12 @@ pub(crate) fn list(dir: &Attrs, cred: &Cred, at: u32) -> [Check; 2]
 pub(crate) fn change(file: &Attrs, cred: &Cred, appends: bool, at: u32) -> [Check; 4]
     ensures { result ≡ change_tests cred.now appends file.now at }
 {
+    let site = Site { path: 0, at };
     [
-        Check::new(!file.kind.is_directory(), Rule::IsNoDirectory, 0, at),
-        Check::new(!immutable(file), Rule::IsMutable, 0, at),
-        Check::new(grants(file, cred, Bit::Write), Rule::GrantsWrite, 0, at),
-        Check::new(appends || !append_only(file), Rule::IsNotAppendOnly, 0, at),
+        Check::new(!file.kind.is_directory(), Rule::IsNoDirectory, site),
+        Check::new(!immutable(file), Rule::IsMutable, site),
+        Check::new(grants(file, cred, Bit::Write), Rule::GrantsWrite, site),
+        Check::new(appends || !append_only(file), Rule::IsNotAppendOnly, site),
     ]
 }
 
@@ -64,16 +72,18 @@ pub(crate) fn change(file: &Attrs, cred: &Cred, appends: bool, at: u32) -> [Chec
 pub(crate) fn fits(file: &Attrs, place: Place, count: usize, at: u32) -> [Check; 1]
     ensures { result ≡ fits_test place count file.now at }
 {
+    let site = Site { path: 0, at };
     let start = start_in(place, file.size);
     let fits = start <= FILE_BYTES && count as u64 <= FILE_BYTES - start;
-    [Check::new(fits, Rule::FitsFile, 0, at)]
+    [Check::new(fits, Rule::FitsFile, site)]
 }
 
 /// That of a file of this length.
 pub(crate) fn fits_length(len: u64, at: u32) -> [Check; 1]
     ensures { result ≡ length_test len at }
 {
-    [Check::new(len <= FILE_BYTES, Rule::FitsFile, 0, at)]
+    let site = Site { path: 0, at };
+    [Check::new(len <= FILE_BYTES, Rule::FitsFile, site)]
 }
 
 /// Whether bytes go to the end of a file.
@@ -90,10 +100,11 @@ pub(crate) fn is_end(place: Place) -> bool
 pub(crate) fn chmod(file: &Attrs, cred: &Cred, at: u32) -> [Check; 3]
     ensures { result ≡ chmod_tests cred.now file.now at }
 {
+    let site = Site { path: 0, at };
     [
-        Check::new(!immutable(file), Rule::IsMutable, 0, at),
-        Check::new(!append_only(file), Rule::IsNotAppendOnly, 0, at),
-        Check::new(is_owner(file, cred), Rule::IsOwner, 0, at),
+        Check::new(!immutable(file), Rule::IsMutable, site),
+        Check::new(!append_only(file), Rule::IsNotAppendOnly, site),
+        Check::new(is_owner(file, cred), Rule::IsOwner, site),
     ]
 }
 
@@ -101,31 +112,32 @@ pub(crate) fn chmod(file: &Attrs, cred: &Cred, at: u32) -> [Check; 3]
 pub(crate) fn chown(file: &Attrs, cred: &Cred, uid: u32, gid: u32, at: u32) -> [Check; 3]
     ensures { result ≡ chown_tests cred.now uid gid file.now at }
 {
+    let site = Site { path: 0, at };
     let may_set = owner_change(file, cred, uid, gid).is_none();
     [
-        Check::new(!immutable(file), Rule::IsMutable, 0, at),
-        Check::new(!append_only(file), Rule::IsNotAppendOnly, 0, at),
-        Check::new(may_set, Rule::MaySetOwner, 0, at),
+        Check::new(!immutable(file), Rule::IsMutable, site),
+        Check::new(!append_only(file), Rule::IsNotAppendOnly, site),
+        Check::new(may_set, Rule::MaySetOwner, site),
     ]
 }
 
 /// Those of a directory in which a name is looked for.
-pub(crate) fn search(dir: &Attrs, cred: &Cred, path: u8, at: u32) -> [Check; 2]
-    ensures { result ≡ searching_tests cred.now path dir.now at }
+pub(crate) fn search(dir: &Attrs, cred: &Cred, site: Site) -> [Check; 2]
+    ensures { result ≡ searching_tests cred.now site.path dir.now site.at }
 {
     [
-        Check::new(dir.kind.is_directory(), Rule::IsDirectory, path, at),
-        Check::new(grants(dir, cred, Bit::Search), Rule::GrantsSearch, path, at),
+        Check::new(dir.kind.is_directory(), Rule::IsDirectory, site),
+        Check::new(grants(dir, cred, Bit::Search), Rule::GrantsSearch, site),
     ]
 }
 
 /// Those of a directory that gets a name, which is free.
-pub(crate) fn enter(dir: &Attrs, cred: &Cred, path: u8, at: u32) -> [Check; 2]
-    ensures { result ≡ entering_tests cred.now path dir.now at }
+pub(crate) fn enter(dir: &Attrs, cred: &Cred, site: Site) -> [Check; 2]
+    ensures { result ≡ entering_tests cred.now site.path dir.now site.at }
 {
     [
-        Check::new(!immutable(dir), Rule::IsMutable, path, at),
-        Check::new(grants(dir, cred, Bit::Write), Rule::GrantsWrite, path, at),
+        Check::new(!immutable(dir), Rule::IsMutable, site),
+        Check::new(grants(dir, cred, Bit::Write), Rule::GrantsWrite, site),
     ]
 }
 
@@ -134,32 +146,39 @@ pub(crate) fn make(dir: &Attrs, cred: &Cred, free: bool, at: u32) -> [Check; 5]
     requires { at < PATH_MAX }
     ensures { result ≡ making_tests cred.now free dir.now at }
 {
+    let site = Site { path: 0, at };
     [
-        Check::new(dir.kind.is_directory(), Rule::IsDirectory, 0, at),
-        Check::new(grants(dir, cred, Bit::Search), Rule::GrantsSearch, 0, at),
-        Check::new(free, Rule::NameFree, 0, at + 1),
-        Check::new(!immutable(dir), Rule::IsMutable, 0, at),
-        Check::new(grants(dir, cred, Bit::Write), Rule::GrantsWrite, 0, at),
+        Check::new(dir.kind.is_directory(), Rule::IsDirectory, site),
+        Check::new(grants(dir, cred, Bit::Search), Rule::GrantsSearch, site),
+        Check::new(
+            free,
+            Rule::NameFree,
+            Site {
+                path: 0,
+                at: at + 1,
+            },
+        ),
+        Check::new(!immutable(dir), Rule::IsMutable, site),
+        Check::new(grants(dir, cred, Bit::Write), Rule::GrantsWrite, site),
     ]
 }
 
 /// Those of a directory that loses a name, and of the file or directory that has it, at the next component.
-pub(crate) fn remove(dir: &Attrs, file: &Attrs, cred: &Cred, path: u8, at: u32) -> [Check; 6]
-    requires { at < PATH_MAX }
-    ensures { result ≡ removing_tests cred.now path dir.now file.now at }
+pub(crate) fn remove(dir: &Attrs, file: &Attrs, cred: &Cred, site: Site) -> [Check; 6]
+    requires { site.at < PATH_MAX }
+    ensures { result ≡ removing_tests cred.now site.path dir.now file.now site.at }
 {
+    let next = Site {
+        at: site.at + 1,
+        ..site
+    };
     [
-        Check::new(!immutable(dir), Rule::IsMutable, path, at),
-        Check::new(grants(dir, cred, Bit::Write), Rule::GrantsWrite, path, at),
-        Check::new(!append_only(dir), Rule::IsNotAppendOnly, path, at),
-        Check::new(
-            !sticky_bars(dir, file, cred),
-            Rule::PassesSticky,
-            path,
-            at + 1,
-        ),
-        Check::new(!immutable(file), Rule::IsMutable, path, at + 1),
-        Check::new(!append_only(file), Rule::IsNotAppendOnly, path, at + 1),
+        Check::new(!immutable(dir), Rule::IsMutable, site),
+        Check::new(grants(dir, cred, Bit::Write), Rule::GrantsWrite, site),
+        Check::new(!append_only(dir), Rule::IsNotAppendOnly, site),
+        Check::new(!sticky_bars(dir, file, cred), Rule::PassesSticky, next),
+        Check::new(!immutable(file), Rule::IsMutable, next),
+        Check::new(!append_only(file), Rule::IsNotAppendOnly, next),
     ]
 }
 
@@ -167,16 +186,18 @@ pub(crate) fn remove(dir: &Attrs, file: &Attrs, cred: &Cred, path: u8, at: u32) 
 pub(crate) fn unlink(file: &Attrs, at: u32) -> [Check; 1]
     ensures { result ≡ unlink_tests file.now at }
 {
-    [Check::new(!file.kind.is_directory(), Rule::IsNoDirectory, 0, at)]
+    let site = Site { path: 0, at };
+    [Check::new(!file.kind.is_directory(), Rule::IsNoDirectory, site)]
 }
 
 /// Those of what a Rmdir removes, which may be empty.
 pub(crate) fn rmdir(dir: &Attrs, empty: bool, at: u32) -> [Check; 2]
     ensures { result ≡ rmdir_tests empty dir.now at }
 {
+    let site = Site { path: 0, at };
     [
-        Check::new(dir.kind.is_directory(), Rule::IsDirectory, 0, at),
-        Check::new(empty, Rule::IsEmpty, 0, at),
+        Check::new(dir.kind.is_directory(), Rule::IsDirectory, site),
+        Check::new(empty, Rule::IsEmpty, site),
     ]
 }
 
@@ -184,10 +205,11 @@ pub(crate) fn rmdir(dir: &Attrs, empty: bool, at: u32) -> [Check; 2]
 pub(crate) fn replace(moved: &Attrs, there: &Attrs, empty: bool, at: u32) -> [Check; 3]
     ensures { result ≡ replaced_tests empty moved.now there.now at }
 {
+    let site = Site { path: 1, at };
     let (of_moved, of_there) = (moved.kind.is_directory(), there.kind.is_directory());
     [
-        Check::new(!of_there || of_moved, Rule::IsNoDirectory, 1, at),
-        Check::new(of_there || !of_moved, Rule::IsDirectory, 1, at),
-        Check::new(empty, Rule::IsEmpty, 1, at),
+        Check::new(!of_there || of_moved, Rule::IsNoDirectory, site),
+        Check::new(of_there || !of_moved, Rule::IsDirectory, site),
+        Check::new(empty, Rule::IsEmpty, site),
     ]
 }

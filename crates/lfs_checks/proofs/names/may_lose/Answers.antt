@@ -12,12 +12,12 @@ pub returns-in_err-may_enter : goal.returns-in_err-may_enter
 returns-in_err-may_enter c =
     let p = err_from_is_err_and c.from_residual.result c.from_residual.ensures.1 in
     p.1 ∙ ap Err p.2
-    ∙ sym (judged_front (entering_tests c.args.cred.now c.args.path c.args.dir.now c.args.at)
-    (asks (not (is_append_only c.args.dir.now)) IsNotAppendOnly c.args.path c.args.at ∷ [])
+    ∙ sym (judged_front (entering_tests c.args.cred.now c.args.site.path c.args.dir.now c.args.site.at)
+    (asks (not (is_append_only c.args.dir.now)) IsNotAppendOnly c.args.site.path c.args.site.at ∷ [])
     c.in_err-may_enter.field-0.0 (sym c.in_err-may_enter.ensures))
 
 pub returns : goal.returns
 returns c =
     ask_ends _ (ap not c.append_only.ensures) c.ask.ensures
-    ∙ sym (judged_behind (entering_tests c.args.cred.now c.args.path c.args.dir.now c.args.at)
-    (asks (not (is_append_only c.args.dir.now)) IsNotAppendOnly c.args.path c.args.at ∷ []) (sym c.in_ok-may_enter.ensures))
+    ∙ sym (judged_behind (entering_tests c.args.cred.now c.args.site.path c.args.dir.now c.args.site.at)
+    (asks (not (is_append_only c.args.dir.now)) IsNotAppendOnly c.args.site.path c.args.site.at ∷ []) (sym c.in_ok-may_enter.ensures))
