@@ -13,8 +13,8 @@ use Rattle.lfs_model.specs.Rules.{chflags_tests, level_tests, reaching, rule_tab
 use Rattle.lfs_explain.specs.Asked.{asked}
 use Rattle.lfs_explain.specs.Tables.{Path, arriving_by, end_of, making_by, moving_by, own_tests, path_of, reaching_by, removing_by, table_by}
 use Rattle.lfs_model.specs.Rules.{rmdir_tests, unlink_tests}
-use Rattle.lfs_explain.specs.Ways.{IsTrail, first_names, second_names, way}
-use Rattle.lfs_explain.specs.declared.trail.Seen.{Seen}
+use Rattle.lfs_explain.specs.Trails.{IsTrail, first_names, second_names, rows_along}
+use Rattle.lfs_explain.specs.declared.trail.ShownRow.{ShownRow}
 use Rattle.lfs_explain.specs.declared.trail.Trail.{Trail}
 use Rattle.lfs_explain.proofs.MoveLemmas.{rename_told}
 use Rattle.lfs_explain.proofs.TableLemmas.{making_told, path_to, reaching_told, rmdir_told, unlink_told}
@@ -27,9 +27,9 @@ module _ {rows : Rows} {names : List (List ℕ)} {trail : Trail} (t : IsTrail ro
   path_is : path_of trail ≡ path_to rows names trail.is_childless
   path_is = λ i. record { rows = t.rows_are i; names = t.counted i; is_childless = trail.is_childless }
 
-  end_childless : (row : Seen) → slice_get (way rows root names) (length names) ≡ Some row → trail.is_childless ≡ (length (children rows row.number) == 0)
+  end_childless : (row : ShownRow) → slice_get (rows_along rows root names) (length names) ≡ Some row → trail.is_childless ≡ (length (children rows row.number) == 0)
   end_childless row is =
-      t.childless row (ap (λ rs. slice_get rs trail.names) t.rows_are ∙ ap (λ n. slice_get (way rows root names) n) t.counted ∙ is)
+      t.childless row (ap (λ rs. slice_get rs trail.names) t.rows_are ∙ ap (λ n. slice_get (rows_along rows root names) n) t.counted ∙ is)
 
 module _ (w : World) (tree : IsTree w.rows) (level : Level) (at : w.level ≡ level) (caller : Caller) (first second : Trail) where
   there : There (fin.get w.rows root)

@@ -6,4 +6,4 @@ pub mod MoveLemmas
 pub mod Pushed
 pub mod StepsTold
 pub mod TableLemmas
-pub mod WayLemmas
+pub mod TrailLemmas

@@ -7,7 +7,7 @@ use Rattle.lfs_types.specs.Tree.{World, root}
 use Rattle.lfs_types.specs.declared.request.Request.{Request}
 use Rattle.lfs_model.specs.Rules.{Check, rule_table}
 use Rattle.lfs_explain.specs.Asked.{asked}
-use Rattle.lfs_explain.specs.Ways.{IsTrail, first_names, second_names}
+use Rattle.lfs_explain.specs.Trails.{IsTrail, first_names, second_names}
 use Rattle.lfs_explain.specs.WhyText.{Paths, paths_in, paths_of, told_text, why_text, with_check, with_checks}
 use Rattle.lfs_explain.specs.declared.explain.Explanation.{Explanation}
 use Rattle.lfs_explain.proofs.StepsTold.{left_from}

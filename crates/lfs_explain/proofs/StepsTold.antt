@@ -1,4 +1,4 @@
--- The tests of a way, step by step; the rows on a way, one by one; the tests that are asked, one by one.
+-- The tests of a trail, step by step; the rows on a trail, one by one; the tests that are asked, one by one.
 use Rattle.std.proofs.Common.{◌≡◌, ℕ, zero, suc, ◌+◌, ◌-◌, ◌<◌, ◌≤◌, ◌==◌, ◌||◌, Bool, true, false, cond, List, [], ◌∷◌, ◌++◌, length, min, take, drop, get_or, Option, None, Some, refl, sym, ap, ◌∙◌, add-one, append_assoc, append-nil, arith, eq-eqb}
 use Rattle.std.proofs.Math.Seq.{drop-cons}
 use Rattle.std.proofs.lemmas.Bool.{ne_eqb}
@@ -9,53 +9,53 @@ use Rattle.lfs_types.specs.Caller.{Caller}
 use Rattle.lfs_types.specs.declared.rule.Denial.{Denial}
 use Rattle.lfs_model.specs.Rules.{Check, first_failing, position}
 use Rattle.lfs_explain.specs.Asked.{asked}
-use Rattle.lfs_explain.specs.Tables.{goes_on, step_tests, way_tests}
-use Rattle.lfs_explain.specs.declared.trail.Seen.{Seen}
-use Rattle.lfs_explain.proofs.WayLemmas.{numbers}
+use Rattle.lfs_explain.specs.Tables.{goes_on, step_tests, trail_tests}
+use Rattle.lfs_explain.specs.declared.trail.ShownRow.{ShownRow}
+use Rattle.lfs_explain.proofs.TrailLemmas.{numbers}
 
 -- what is left of a list, with the first of it
 pub left_from : {A : Type 0} (xs : List A) (at : ℕ) (x : A) → at < length xs → x ≡ get_or xs at x → drop at xs ≡ x ∷ drop (at + 1) xs
 left_from xs at x h is = drop-cons xs at x h ∙ rw (← is, add-one) refl
 
-goes_drop : (rows : List Seen) (j : ℕ) → goes_on (drop j rows) ≡ is_some (slice_get rows j)
+goes_drop : (rows : List ShownRow) (j : ℕ) → goes_on (drop j rows) ≡ is_some (slice_get rows j)
 goes_drop [] zero = refl
 goes_drop [] (suc j) = refl
 goes_drop (row ∷ rows) zero = refl
 goes_drop (row ∷ rows) (suc j) = goes_drop rows j
 
 module _ (caller : Caller) (path : ℕ) where
-  none_told : (k n : ℕ) (rows : List Seen) → min (length rows) n ≡ 0 → way_tests caller path k n rows ≡ []
+  none_told : (k n : ℕ) (rows : List ShownRow) → min (length rows) n ≡ 0 → trail_tests caller path k n rows ≡ []
   none_told k zero rows h = refl
   none_told k (suc n) [] h = refl
   none_told k (suc n) (row ∷ rows) h = absurd (omega (arith, h))
 
   -- a step, and the others
-  step_told : (rows : List Seen) (at count : ℕ) (row : Seen) → at < length rows → at < count → row ≡ get_or rows at row
-      → way_tests caller path at (count - at) (drop at rows)
-      ≡ step_tests caller path at row.attrs (is_some (slice_get rows (at + 1))) ++ way_tests caller path (at + 1) (count - (at + 1)) (drop (at + 1) rows)
+  step_told : (rows : List ShownRow) (at count : ℕ) (row : ShownRow) → at < length rows → at < count → row ≡ get_or rows at row
+      → trail_tests caller path at (count - at) (drop at rows)
+      ≡ step_tests caller path at row.attrs (is_some (slice_get rows (at + 1))) ++ trail_tests caller path (at + 1) (count - (at + 1)) (drop (at + 1) rows)
   step_told rows at count row long more is =
       let e : count - at ≡ suc (count - (at + 1)) = omega (arith, more) in
-      ap (λ k. way_tests caller path at k (drop at rows)) e
-      ∙ ap (λ (rs : List Seen). way_tests caller path at (suc (count - (at + 1))) rs) (left_from rows at row long is)
-      ∙ ap (λ b. step_tests caller path at row.attrs b ++ way_tests caller path (at + 1) (count - (at + 1)) (drop (at + 1) rows)) (goes_drop rows (at + 1))
+      ap (λ k. trail_tests caller path at k (drop at rows)) e
+      ∙ ap (λ (rs : List ShownRow). trail_tests caller path at (suc (count - (at + 1))) rs) (left_from rows at row long is)
+      ∙ ap (λ b. step_tests caller path at row.attrs b ++ trail_tests caller path (at + 1) (count - (at + 1)) (drop (at + 1) rows)) (goes_drop rows (at + 1))
 
   -- the checks so far and those of the other steps are those of all, after a step
-  pub told_more : (old all now more after : List Check) (rows : List Seen) (at count : ℕ) (row : Seen) → at < min (length rows) count → row ≡ get_or rows at row
-      → now ++ way_tests caller path at (count - at) (drop at rows) ≡ old ++ all
+  pub told_more : (old all now more after : List Check) (rows : List ShownRow) (at count : ℕ) (row : ShownRow) → at < min (length rows) count → row ≡ get_or rows at row
+      → now ++ trail_tests caller path at (count - at) (drop at rows) ≡ old ++ all
       → after ≡ now ++ more → more ≡ step_tests caller path at row.attrs (is_some (slice_get rows (at + 1)))
-      → after ++ way_tests caller path (at + 1) (count - (at + 1)) (drop (at + 1) rows) ≡ old ++ all
+      → after ++ trail_tests caller path (at + 1) (count - (at + 1)) (drop (at + 1) rows) ≡ old ++ all
   told_more old all now more after rows at count row long is so pushed step =
       let long_rows : at < length rows = omega (arith, long) in
       let long_count : at < count = omega (arith, long) in
-      let rest = way_tests caller path (at + 1) (count - (at + 1)) (drop (at + 1) rows) in
+      let rest = trail_tests caller path (at + 1) (count - (at + 1)) (drop (at + 1) rows) in
       ap (λ cs. cs ++ rest) (pushed ∙ ap (λ cs. now ++ cs) step)
       ∙ append_assoc now (step_tests caller path at row.attrs (is_some (slice_get rows (at + 1)))) rest
       ∙ ap (λ cs. now ++ cs) (sym (step_told rows at count row long_rows long_count is))
       ∙ so
 
   -- behind the last step
-  pub told_all : (old all now : List Check) (rows : List Seen) (at count : ℕ) → min (length rows) count ≤ at
-      → now ++ way_tests caller path at (count - at) (drop at rows) ≡ old ++ all → now ≡ old ++ all
+  pub told_all : (old all now : List Check) (rows : List ShownRow) (at count : ℕ) → min (length rows) count ≤ at
+      → now ++ trail_tests caller path at (count - at) (drop at rows) ≡ old ++ all → now ≡ old ++ all
   told_all old all now rows at count over so =
       let size = length-drop at rows in
       sym (append-nil now) ∙ ap (λ cs. now ++ cs) (sym (none_told at (count - at) (drop at rows) (omega (arith, over, size)))) ∙ so
@@ -99,13 +99,13 @@ asks_all checks at whole on =
 
 -- ---- numbers one by one
 
-pub any_next : (rows : List Seen) (at number : ℕ) (row : Seen) → at < length rows → row ≡ get_or rows at row
+pub any_next : (rows : List ShownRow) (at number : ℕ) (row : ShownRow) → at < length rows → row ≡ get_or rows at row
     → list_any (λ n. n == number) (numbers (drop at rows)) ≡ ((row.number == number) || list_any (λ n. n == number) (numbers (drop (at + 1) rows)))
-any_next rows at number row long is = ap (λ (l : List Seen). list_any (λ n. n == number) (numbers l)) (left_from rows at row long is)
+any_next rows at number row long is = ap (λ (l : List ShownRow). list_any (λ n. n == number) (numbers l)) (left_from rows at row long is)
 
-pub place_next : (rows : List Seen) (at number : ℕ) (row : Seen) → at < length rows → row ≡ get_or rows at row
+pub place_next : (rows : List ShownRow) (at number : ℕ) (row : ShownRow) → at < length rows → row ≡ get_or rows at row
     → position number (numbers (drop at rows)) ≡ cond (row.number == number) 0 (1 + position number (numbers (drop (at + 1) rows)))
-place_next rows at number row long is = ap (λ (l : List Seen). position number (numbers l)) (left_from rows at row long is)
+place_next rows at number row long is = ap (λ (l : List ShownRow). position number (numbers l)) (left_from rows at row long is)
 
 -- ---- the first that fails, one by one
 
@@ -130,14 +130,14 @@ failing_none checks at over = ap first_failing (drop_all at checks over)
 
 -- ---- a number among rows
 
-abbrev has : ℕ → List Seen → Bool
+abbrev has : ℕ → List ShownRow → Bool
 has number rows = list_any (λ n. n == number) (numbers rows)
 
-abbrev place : ℕ → List Seen → ℕ
+abbrev place : ℕ → List ShownRow → ℕ
 place number rows = position number (numbers rows)
 
-module _ (rows : List Seen) (at number : ℕ) where
-  module _ (row : Seen) (long : at < length rows) (is : row ≡ get_or rows at row) where
+module _ (rows : List ShownRow) (at number : ℕ) where
+  module _ (row : ShownRow) (long : at < length rows) (is : row ≡ get_or rows at row) where
     pub any_past : (all : Bool) → (row.number ≡ number → ⊥) → all ≡ has number (drop at rows) → all ≡ has number (drop (at + 1) rows)
     any_past all other so = so ∙ any_next rows at number row long is ∙ ap (λ b. b || has number (drop (at + 1) rows)) (ne_eqb row.number number other)
 

@@ -1,5 +1,5 @@
 pub mod Asked
 pub mod Classes
 pub mod Tables
-pub mod Ways
+pub mod Trails
 pub mod WhyText

@@ -13,21 +13,21 @@ use Rattle.lfs_types.specs.declared.request.Request.TheVariants.{Stat, Read, Wri
 use Rattle.lfs_types.specs.declared.rule.Rule.TheVariants.{IsDirectory, FitsFile, GrantsSearch, NameThere, NameFree, IsNotRoot, IsNotBeneathItself}
 use Rattle.lfs_rules.specs.Grants.{grants_of}
 use Rattle.lfs_model.specs.Rules.{Check, asks, chflags_tests, chmod_tests, chown_tests, entering_tests, leaves_test, length_tests, level_tests, list_tests, making_tests, position, read_tests, removing_tests, replaced_tests, rmdir_tests, searching_tests, start_of, unlink_tests, write_tests, file_max}
-use Rattle.lfs_explain.specs.declared.trail.Seen.{Seen}
+use Rattle.lfs_explain.specs.declared.trail.ShownRow.{ShownRow}
 use Rattle.lfs_explain.specs.declared.trail.Trail.{Trail}
 
--- ---- a way
+-- ---- a trail
 
 -- what stands for a row that isn't there, whose tests nobody asks
-abbrev pub no_row : Seen
+abbrev pub no_row : ShownRow
 no_row = record { number = 0; attrs = attrs_of fresh_root }
 
 -- the row at a component
-abbrev pub row_at : List Seen → ℕ → Seen
-row_at way k = unwrap_or (slice_get way k) no_row
+abbrev pub row_at : List ShownRow → ℕ → ShownRow
+row_at rows_along k = unwrap_or (slice_get rows_along k) no_row
 
--- whether a way goes on
-abbrev pub goes_on : List Seen → Bool
+-- whether a trail goes on
+abbrev pub goes_on : List ShownRow → Bool
 goes_on [] = false
 goes_on (row ∷ rows) = true
 
@@ -39,11 +39,11 @@ step_tests caller path k dir there =
     ∷ asks there NameThere path (k + 1)
     ∷ []
 
--- the tests of so many steps along a way, the first from component k
-abbrev pub way_tests : Caller → ℕ → ℕ → ℕ → List Seen → List Check
-way_tests caller path k zero way = []
-way_tests caller path k (suc n) [] = []
-way_tests caller path k (suc n) (row ∷ rows) = step_tests caller path k row.attrs (goes_on rows) ++ way_tests caller path (k + 1) n rows
+-- the tests of so many steps along a trail, the first from component k
+abbrev pub trail_tests : Caller → ℕ → ℕ → ℕ → List ShownRow → List Check
+trail_tests caller path k zero rows_along = []
+trail_tests caller path k (suc n) [] = []
+trail_tests caller path k (suc n) (row ∷ rows) = step_tests caller path k row.attrs (goes_on rows) ++ trail_tests caller path (k + 1) n rows
 
 -- the test of so many bytes in a file from a place on
 abbrev pub fits_test : Place → ℕ → Attrs → ℕ → List Check
@@ -70,7 +70,7 @@ own_tests level caller request attrs k = []
 -- what is known of a path: the rows that it leads through, how many names it has, and whether the row that they all lead
 -- to has no child
 pub record Path : Type 0 where
-  pub rows : List Seen
+  pub rows : List ShownRow
   pub names : ℕ
   pub is_childless : Bool
 
@@ -78,29 +78,29 @@ abbrev pub path_of : Trail → Path
 path_of trail = record { rows = trail.rows.items; names = trail.names; is_childless = trail.is_childless }
 
 -- the row that a path's names lead to
-abbrev pub end_of : Path → Seen
+abbrev pub end_of : Path → ShownRow
 end_of path = row_at path.rows path.names
 
 -- the directory of that row
-abbrev pub dir_of : Path → Seen
+abbrev pub dir_of : Path → ShownRow
 dir_of path = row_at path.rows (path.names - 1)
 
 -- the tests of a call with one path to a file: the walk, and its own
 abbrev pub reaching_by : Caller → (Attrs → ℕ → List Check) → Path → List Check
-reaching_by caller tests path = way_tests caller 0 0 path.names path.rows ++ tests (end_of path).attrs path.names
+reaching_by caller tests path = trail_tests caller 0 0 path.names path.rows ++ tests (end_of path).attrs path.names
 
 -- the tests of a call that makes a row
 abbrev pub making_by : Caller → Path → List Check
 making_by caller path =
     asks (not (path.names == 0)) NameFree 0 0
-    ∷ way_tests caller 0 0 (path.names - 1) path.rows
+    ∷ trail_tests caller 0 0 (path.names - 1) path.rows
     ++ making_tests caller (is_none (slice_get path.rows path.names)) (dir_of path).attrs (path.names - 1)
 
 -- the tests of a call that takes away a name, up to those that a file and a directory differ in
 abbrev pub removing_by : Caller → Path → List Check
 removing_by caller path =
     asks (not (path.names == 0)) IsNotRoot 0 0
-    ∷ way_tests caller 0 0 path.names path.rows
+    ∷ trail_tests caller 0 0 path.names path.rows
     ++ removing_tests caller 0 (dir_of path).attrs (end_of path).attrs (path.names - 1)
 
 -- ---- a row that gets another place
@@ -109,11 +109,11 @@ removing_by caller path =
 abbrev pub arriving_by : Caller → Path → List Check
 arriving_by caller to =
     asks (not (to.names == 0)) IsNotRoot 1 0
-    ∷ way_tests caller 1 0 (to.names - 1) to.rows
+    ∷ trail_tests caller 1 0 (to.names - 1) to.rows
     ++ searching_tests caller 1 (dir_of to).attrs (to.names - 1)
 
 -- the tests of the directory of the place, and of what is there
-abbrev pub placing_by : Caller → Attrs → Path → Option Seen → List Check
+abbrev pub placing_by : Caller → Attrs → Path → Option ShownRow → List Check
 placing_by caller moved to None = entering_tests caller 1 (dir_of to).attrs (to.names - 1)
 placing_by caller moved to (Some there) =
     removing_tests caller 1 (dir_of to).attrs there.attrs (to.names - 1)
@@ -121,7 +121,7 @@ placing_by caller moved to (Some there) =
 
 -- the numbers of the directories on the way to the place
 abbrev pub numbers_to : Path → List ℕ
-numbers_to to = map (λ (row : Seen). row.number) (take to.names to.rows)
+numbers_to to = map (λ (row : ShownRow). row.number) (take to.names to.rows)
 
 -- the last tests: of the way to the place, and of what is moved
 abbrev pub last_by : Caller → Path → Path → List Check
@@ -131,12 +131,12 @@ last_by caller from to =
     ∷ []
 
 -- whether what is there is the row of this number
-abbrev pub is_itself : ℕ → Option Seen → Bool
+abbrev pub is_itself : ℕ → Option ShownRow → Bool
 is_itself n None = false
 is_itself n (Some row) = row.number == n
 
 -- the tests of a row that gets a place: none where it has that place already
-abbrev pub moving_by : Caller → Path → Path → Option Seen → List Check
+abbrev pub moving_by : Caller → Path → Path → Option ShownRow → List Check
 moving_by caller from to there =
     if is_itself (end_of from).number there then [] else
     placing_by caller (end_of from).attrs to there ++ last_by caller from to

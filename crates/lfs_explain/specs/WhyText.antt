@@ -16,11 +16,11 @@ use Rattle.lfs_model.specs.World.{Rows}
 use Rattle.lfs_words.specs.NameText.{flags_text, mode_text, name_text}
 use Rattle.lfs_explain.specs.Asked.{asked}
 use Rattle.lfs_explain.specs.Classes.{class_of}
-use Rattle.lfs_explain.specs.Ways.{first_names, second_names, way}
+use Rattle.lfs_explain.specs.Trails.{first_names, second_names, rows_along}
 use Rattle.lfs_explain.specs.declared.class.Class.{Class}
 use Rattle.lfs_explain.specs.declared.class.Class.TheVariants.{Superuser, Owner, Group, Others}
 use Rattle.lfs_explain.specs.declared.explain.Explanation.{Explanation}
-use Rattle.lfs_explain.specs.declared.trail.Seen.{Seen}
+use Rattle.lfs_explain.specs.declared.trail.ShownRow.{ShownRow}
 
 -- a word behind a space
 abbrev pub with_word : List ℕ → List ℕ → List ℕ
@@ -85,7 +85,7 @@ abbrev pub sign : Bool → ℕ → ℕ
 sign granted letter = if granted then letter else 45
 
 -- a row: number, kind, owner, group, mode and flags
-abbrev pub with_row : List ℕ → Seen → List ℕ
+abbrev pub with_row : List ℕ → ShownRow → List ℕ
 with_row out row =
     with_word (with_word (with_word (with_word (with_word (with_word out
     (decimal row.number))
@@ -107,13 +107,13 @@ with_name out None = out
 with_name out (Some name) = with_word out (name_text name)
 
 -- the row of which a rule is asked, if there is one
-abbrev pub with_asked : List ℕ → Caller → Rule → Option Seen → List ℕ
+abbrev pub with_asked : List ℕ → Caller → Rule → Option ShownRow → List ℕ
 with_asked out caller rule None = out
 with_asked out caller rule (Some row) =
     if asks_bit rule then with_class (with_row out row) caller row.attrs else with_row out row
 
 -- the directory that the sticky bit of which is asked
-abbrev pub with_directory : List ℕ → Rule → Option Seen → List ℕ
+abbrev pub with_directory : List ℕ → Rule → Option ShownRow → List ℕ
 with_directory out rule None = out
 with_directory out rule (Some row) = if is_sticky rule then with_row (with_word out (codes "in")) row else out
 
@@ -135,7 +135,7 @@ with_head out check =
     (if check.met then codes "yes" else codes "no ")
 
 -- of what a rule is asked at a component of a path of these names, which lead through these rows
-abbrev pub with_subject : List ℕ → Caller → Rule → ℕ → List (List ℕ) → List Seen → List ℕ
+abbrev pub with_subject : List ℕ → Caller → Rule → ℕ → List (List ℕ) → List ShownRow → List ℕ
 with_subject out caller rule at names rows =
     if asks_name rule then (if at == 0 then out else with_name out (slice_get names (at - 1))) else
     with_caller (with_directory (with_asked out caller rule (slice_get rows at)) rule (slice_get rows (at - 1))) caller rule
@@ -143,9 +143,9 @@ with_subject out caller rule at names rows =
 -- the paths of a call: the names of each, and the rows that they lead through
 pub record Paths : Type 0 where
   pub names : List (List ℕ)
-  pub rows : List Seen
+  pub rows : List ShownRow
   pub second_names : List (List ℕ)
-  pub second_rows : List Seen
+  pub second_rows : List ShownRow
 
 -- those of an explanation
 abbrev pub paths_of : Request → Explanation → Paths
@@ -188,9 +188,9 @@ told_text caller paths checks = with_verdict (with_checks [] caller paths checks
 abbrev pub paths_in : Rows → Request → Paths
 paths_in rows request = record {
   names = first_names request;
-  rows = way rows root (first_names request);
+  rows = rows_along rows root (first_names request);
   second_names = second_names request;
-  second_rows = way rows root (second_names request);
+  second_rows = rows_along rows root (second_names request);
 }
 
 -- why a call would be allowed or denied in a world

@@ -5,7 +5,7 @@ ghost use Rattle.lfs_types.specs.declared.path.TheConstants.{PATH_MAX};
 ghost use Rattle.lfs_model.specs.Rules.{decide, first_failing, rule_table};
 ghost use Rattle.lfs_calls.specs.Volumes.{HasWorld, InWorld};
 ghost use Rattle.lfs_explain.specs.Asked.{asked};
-ghost use Rattle.lfs_explain.specs.Ways.{IsTrail, first_names, second_names};
+ghost use Rattle.lfs_explain.specs.Trails.{IsTrail, first_names, second_names};
 
 use crate::check::Check;
 use crate::looking::trail;

@@ -1,14 +1,14 @@
 //! An explanation as lines of text.
 
 ghost use Rattle.std.specs.Prelude.{◌≡◌, ◌-◌, ◌++◌, IfOk, OnOk, slice_get};
-ghost use Rattle.lfs_explain.specs.Ways.{first_names, second_names};
+ghost use Rattle.lfs_explain.specs.Trails.{first_names, second_names};
 ghost use Rattle.lfs_explain.specs.WhyText.{asks_bit, asks_caller, asks_name, class_word, is_sticky, paths_of, rule_words, sign, told_text, with_asked, with_caller, with_check, with_class, with_directory, with_head, with_name, with_row, with_subject, with_verdict};
 
 use crate::check::Check;
 use crate::class::Class;
 use crate::explain::{Explanation, first_of, second_of};
 use crate::looking::row_of;
-use crate::trail::Seen;
+use crate::trail::ShownRow;
 use lfs_rules::access::grants;
 use lfs_types::attrs::{Attrs, Bit};
 use lfs_types::cred::Cred;
@@ -81,7 +81,7 @@ fn push_subject(
     rule: Rule,
     at: u32,
     names: &[Name],
-    rows: &[Seen],
+    rows: &[ShownRow],
 ) -> Result<(), AllocError>
     ensures { OnOk result (out.new.items ≡ with_subject out.old.items cred.now rule at
         names.now rows.now) }
@@ -115,11 +115,11 @@ fn push_asked(
     out: &mut Vec<u8>,
     cred: &Cred,
     rule: Rule,
-    row: Option<Seen>,
+    row: Option<ShownRow>,
 ) -> Result<(), AllocError>
     ensures { OnOk result (out.new.items ≡ with_asked out.old.items cred.now rule row) }
 {
-    let Some(Seen { number, attrs }) = row else {
+    let Some(ShownRow { number, attrs }) = row else {
         return Ok(());
     };
     push_row(out, number, &attrs)?;
@@ -130,10 +130,10 @@ fn push_asked(
 }
 
 /// Appends the directory whose sticky bit is asked for, if there is one.
-fn push_directory(out: &mut Vec<u8>, rule: Rule, row: Option<Seen>) -> Result<(), AllocError>
+fn push_directory(out: &mut Vec<u8>, rule: Rule, row: Option<ShownRow>) -> Result<(), AllocError>
     ensures { OnOk result (out.new.items ≡ with_directory out.old.items rule row) }
 {
-    let Some(Seen { number, attrs }) = row else {
+    let Some(ShownRow { number, attrs }) = row else {
         return Ok(());
     };
     if is_sticky(rule) {

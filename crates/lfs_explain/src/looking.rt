@@ -6,10 +6,10 @@ ghost use Rattle.lfs_types.specs.declared.path.TheConstants.{PATH_MAX};
 ghost use Rattle.lfs_types.specs.Tree.{root};
 ghost use Rattle.lfs_model.specs.World.{child, children};
 ghost use Rattle.lfs_calls.specs.Volumes.{HasWorld, InWorld};
-ghost use Rattle.lfs_explain.specs.Ways.{IsTrail, seen_at, way};
-ghost use Rattle.lfs_explain.specs.declared.trail.Seen.{Seen};
+ghost use Rattle.lfs_explain.specs.Trails.{IsTrail, shown_row, rows_along};
+ghost use Rattle.lfs_explain.specs.declared.trail.ShownRow.{ShownRow};
 
-use crate::trail::{Seen, Trail};
+use crate::trail::{ShownRow, Trail};
 use lfs_calls::directory::look_up;
 use lfs_calls::removing::is_empty_directory;
 use lfs_calls::tree::Tree;
@@ -32,7 +32,7 @@ pub(crate) fn trail<F: FileStore>(
         (λ w. IsTrail w.rows names.now trail)) }
     ensures state { F.state tree.new ≡ F.state tree.old }
 {
-    let rows = way(alloc, tree, names)?;
+    let rows = rows_along(alloc, tree, names)?;
     let is_childless = ends_childless(tree, &rows, names.len());
     let names = names.len() as u32;
     Ok(Trail {
@@ -43,11 +43,11 @@ pub(crate) fn trail<F: FileStore>(
 }
 
 /// Whether nothing hangs in the row at this component, if there is one.
-fn ends_childless<F: FileStore>(tree: &mut Tree<F>, rows: &[Seen], at: usize) -> bool
+fn ends_childless<F: FileStore>(tree: &mut Tree<F>, rows: &[ShownRow], at: usize) -> bool
     requires world { HasWorld (F.state tree.old) }
-    requires used { (row : Seen) → slice_get rows.now at ≡ Some row
+    requires used { (row : ShownRow) → slice_get rows.now at ≡ Some row
         → IsSome (get (F.state tree.old).content row.number) }
-    ensures childless { (row : Seen) → slice_get rows.now at ≡ Some row
+    ensures childless { (row : ShownRow) → slice_get rows.now at ≡ Some row
         → InWorld (F.state tree.old)
         (λ w. result ≡ (length (children w.rows row.number) == 0)) }
     ensures state { F.state tree.new ≡ F.state tree.old }
@@ -59,14 +59,14 @@ fn ends_childless<F: FileStore>(tree: &mut Tree<F>, rows: &[Seen], at: usize) ->
 }
 
 /// The rows that names lead through from the root, as far as they lead.
-fn way<F: FileStore>(
+fn rows_along<F: FileStore>(
     alloc: Global,
     tree: &mut Tree<F>,
     names: &[Name],
-) -> Result<Vec<Seen>, AllocError>
+) -> Result<Vec<ShownRow>, AllocError>
     requires world { HasWorld (F.state tree.old) }
-    ensures way { IfOk result (λ rows. InWorld (F.state tree.old)
-        (λ w. rows.items ≡ way w.rows root names.now)) }
+    ensures rows_along { IfOk result (λ rows. InWorld (F.state tree.old)
+        (λ w. rows.items ≡ rows_along w.rows root names.now)) }
     ensures state { F.state tree.new ≡ F.state tree.old }
 {
     let mut rows = Vec::new(alloc);
@@ -83,23 +83,23 @@ fn way<F: FileStore>(
 }
 
 /// A row of some, if there are as many.
-pub(crate) fn row_of(rows: &[Seen], at: usize) -> Option<Seen>
+pub(crate) fn row_of(rows: &[ShownRow], at: usize) -> Option<ShownRow>
     ensures { result ≡ slice_get rows.now at }
 {
     rows.get(at).copied()
 }
 
 /// A file or a directory that is there, as users see it.
-fn look<F: FileStore>(tree: &Tree<F>, number: u32) -> Seen
+fn look<F: FileStore>(tree: &Tree<F>, number: u32) -> ShownRow
     requires { IsSome (get (F.state tree.now).content number) }
-    ensures { InWorld (F.state tree.now) (λ w. result ≡ seen_at w.rows number) }
+    ensures { InWorld (F.state tree.now) (λ w. result ≡ shown_row w.rows number) }
 {
     let Some(attrs) = tree.attrs(number) else {
         unreachable!()
     };
     let size = shown_size(&attrs);
     let attrs = Attrs { size, ..attrs };
-    Seen { number, attrs }
+    ShownRow { number, attrs }
 }
 
 /// The number that has a name in a file, where none has one, or in a directory.

@@ -5,13 +5,13 @@ ghost use Rattle.std.specs.List.{list_any};
 ghost use Rattle.lfs_types.specs.declared.path.TheConstants.{PATH_MAX};
 ghost use Rattle.lfs_model.specs.Rules.{leaves_test, position};
 ghost use Rattle.lfs_explain.specs.Tables.{arriving_by, is_itself, last_by, moving_by, path_of, placing_by};
-ghost use Rattle.lfs_explain.specs.declared.trail.Seen.{Seen};
+ghost use Rattle.lfs_explain.specs.declared.trail.ShownRow.{ShownRow};
 
 use crate::check::Check;
 use crate::looking::row_of;
-use crate::telling::{dir_of, end_of, push, push_way};
+use crate::telling::{dir_of, end_of, push, push_trail};
 use crate::testing;
-use crate::trail::{Seen, Trail};
+use crate::trail::{ShownRow, Trail};
 use lfs_checks::site::Site;
 use lfs_rules::access::grants;
 use lfs_types::attrs::{Attrs, Bit};
@@ -32,7 +32,7 @@ pub(crate) fn push_arriving(
     let at = to.names.saturating_sub(1);
     let root = Site { path: 1, at: 0 };
     push(checks, &[Check::new(to.names != 0, Rule::IsNotRoot, root)])?;
-    push_way(checks, cred, 1, at, &to.rows)?;
+    push_trail(checks, cred, 1, at, &to.rows)?;
     let site = Site { path: 1, at };
     push(checks, &testing::search(&dir_of(to).attrs, cred, site))
 }
@@ -105,7 +105,7 @@ fn push_last(
 {
     let moved = end_of(from);
     let stays = dir_of(from).number == dir_of(to).number;
-    let (is_on_way, place) = place_on(way_to(to), moved.number);
+    let (is_on_way, place) = place_on(directories_to(to), moved.number);
     let site = Site { path: 1, at: place };
     push(
         checks,
@@ -117,7 +117,7 @@ fn push_last(
 }
 
 /// The directories on the way to the place.
-fn way_to(to: &Trail) -> &[Seen]
+fn directories_to(to: &Trail) -> &[ShownRow]
     ensures { result.now ≡ take to.now.names to.now.rows.items }
 {
     let count = to.rows.len().min(to.names as usize);
@@ -125,11 +125,11 @@ fn way_to(to: &Trail) -> &[Seen]
 }
 
 /// Whether a number is one of some rows, and the index at which it first is, or how many rows there are.
-fn place_on(rows: &[Seen], number: u32) -> (bool, u32)
+fn place_on(rows: &[ShownRow], number: u32) -> (bool, u32)
     requires { length rows.now ≤ PATH_MAX }
     ensures is_on { result.0 ≡ list_any (λ n. n == number)
-        (map (λ (row : Seen). row.number) rows.now) }
-    ensures place { result.1 ≡ position number (map (λ (row : Seen). row.number) rows.now) }
+        (map (λ (row : ShownRow). row.number) rows.now) }
+    ensures place { result.1 ≡ position number (map (λ (row : ShownRow). row.number) rows.now) }
 {
     for (at, row) in rows.iter().enumerate() {
         if row.number == number {

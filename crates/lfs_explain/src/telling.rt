@@ -3,14 +3,14 @@
 ghost use Rattle.std.specs.Prelude.{◌≡◌, ◌+◌, ◌-◌, ◌++◌, ◌≤◌, OnOk, slice_get};
 ghost use Rattle.lfs_types.specs.declared.path.TheConstants.{PATH_MAX};
 ghost use Rattle.lfs_explain.specs.Asked.{asked};
-ghost use Rattle.lfs_explain.specs.Tables.{dir_of, end_of, making_by, no_row, own_tests, path_of, reaching_by, removing_by, row_at, table_by, way_tests};
+ghost use Rattle.lfs_explain.specs.Tables.{dir_of, end_of, making_by, no_row, own_tests, path_of, reaching_by, removing_by, row_at, table_by, trail_tests};
 
 use crate::check::Check;
 use crate::looking::row_of;
 use crate::moving::{push_arriving, push_moving};
 use crate::privileged::{chflags, set_level};
 use crate::testing;
-use crate::trail::{Seen, Trail};
+use crate::trail::{ShownRow, Trail};
 use lfs_checks::site::Site;
 use lfs_types::attrs::{Attrs, Kind};
 use lfs_types::cred::Cred;
@@ -68,16 +68,16 @@ pub(crate) fn push(checks: &mut Vec<Check>, more: &[Check]) -> Result<(), AllocE
 }
 
 /// Puts those of so many steps along the rows of the path of this index.
-pub(crate) fn push_way(
+pub(crate) fn push_trail(
     checks: &mut Vec<Check>,
     cred: &Cred,
     path: u8,
     count: u32,
-    rows: &[Seen],
+    rows: &[ShownRow],
 ) -> Result<(), AllocError>
     requires { count ≤ PATH_MAX }
     ensures { OnOk result (checks.new.items ≡ checks.old.items
-        ++ way_tests cred.now path 0 count rows.now) }
+        ++ trail_tests cred.now path 0 count rows.now) }
 {
     let steps = rows.len().min(count as usize);
     for at in 0..steps {
@@ -92,7 +92,7 @@ pub(crate) fn push_way(
 }
 
 /// What stands for a row that isn't there.
-fn no_row() -> Seen
+fn no_row() -> ShownRow
     ensures { result ≡ no_row }
 {
     let Some(mode) = Mode::new(0o755) else {
@@ -106,25 +106,25 @@ fn no_row() -> Seen
         flags: FileFlags::none(),
         size: 0,
     };
-    Seen { number: 0, attrs }
+    ShownRow { number: 0, attrs }
 }
 
 /// The row at a component, or what stands for it.
-fn row_at(rows: &[Seen], at: u32) -> Seen
+fn row_at(rows: &[ShownRow], at: u32) -> ShownRow
     ensures { result ≡ row_at rows.now at }
 {
     row_of(rows, at as usize).unwrap_or(no_row())
 }
 
 /// The row that a path's names lead to.
-pub(crate) fn end_of(path: &Trail) -> Seen
+pub(crate) fn end_of(path: &Trail) -> ShownRow
     ensures { result ≡ end_of (path_of path.now) }
 {
     row_at(&path.rows, path.names)
 }
 
 /// The directory of that row.
-pub(crate) fn dir_of(path: &Trail) -> Seen
+pub(crate) fn dir_of(path: &Trail) -> ShownRow
     ensures { result ≡ dir_of (path_of path.now) }
 {
     row_at(&path.rows, path.names.saturating_sub(1))
@@ -142,7 +142,7 @@ fn push_reaching(
     ensures { OnOk result (asked checks.new.items ≡ asked (checks.old.items
         ++ reaching_by cred.now (own_tests level cred.now request.now) (path_of path.now))) }
 {
-    push_way(checks, cred, 0, path.names, &path.rows)?;
+    push_trail(checks, cred, 0, path.names, &path.rows)?;
     push_own(
         checks,
         level,
@@ -199,7 +199,7 @@ fn push_making(checks: &mut Vec<Check>, cred: &Cred, path: &Trail) -> Result<(),
     let free = row_of(&path.rows, path.names as usize).is_none();
     let root = Site { path: 0, at: 0 };
     push(checks, &[Check::new(path.names != 0, Rule::NameFree, root)])?;
-    push_way(checks, cred, 0, at, &path.rows)?;
+    push_trail(checks, cred, 0, at, &path.rows)?;
     push(checks, &testing::make(&dir_of(path).attrs, cred, free, at))
 }
 
@@ -216,7 +216,7 @@ fn push_removing(checks: &mut Vec<Check>, cred: &Cred, path: &Trail) -> Result<(
         checks,
         &[Check::new(path.names != 0, Rule::IsNotRoot, root)],
     )?;
-    push_way(checks, cred, 0, path.names, &path.rows)?;
+    push_trail(checks, cred, 0, path.names, &path.rows)?;
     let site = Site { path: 0, at };
     push(
         checks,

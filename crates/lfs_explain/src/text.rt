@@ -2,7 +2,7 @@
 
 use crate::check::Check;
 use crate::lines::rule_words;
-use crate::trail::Seen;
+use crate::trail::ShownRow;
 use lfs_types::rule::Denial;
 use std::fmt;
 
@@ -16,7 +16,7 @@ impl fmt::Display for Check {
     }
 }
 
-impl fmt::Display for Seen {
+impl fmt::Display for ShownRow {
     fn fmt<W: fmt::Write>(&self, f: &mut fmt::Formatter<W>) -> fmt::Result {
         let number = self.number;
         let kind = if self.attrs.kind.is_directory() {

@@ -4,7 +4,7 @@ use lfs_types::attrs::Attrs;
 
 /// A file or a directory as users see it: its number and its attributes, where a directory has the size 0.
 #[derive(Clone, Copy, PartialEq, Eq, Debug)]
-pub struct Seen {
+pub struct ShownRow {
     /// Its number.
     pub number: u32,
     /// Its attributes.
@@ -15,7 +15,7 @@ pub struct Seen {
 #[derive(Drop, Debug)]
 pub struct Trail {
     /// The rows at components 0, the root, and on, as far as the names lead.
-    pub rows: Vec<Seen>,
+    pub rows: Vec<ShownRow>,
     /// How many names the path has.
     pub names: u32,
     /// Whether the row that all the names lead to, if there is one, has no child.

@@ -14,7 +14,7 @@ ghost use Rattle.lfs_calls.specs.Entries.{LeavesEntries, OnServed};
 ghost use Rattle.lfs_calls.specs.Outcomes.{IsOutcome};
 ghost use Rattle.lfs_calls.specs.Volumes.{HasWorld, IsVolume};
 ghost use Rattle.lfs_explain.specs.Asked.{asked};
-ghost use Rattle.lfs_explain.specs.Ways.{IsTrail, first_names, second_names};
+ghost use Rattle.lfs_explain.specs.Trails.{IsTrail, first_names, second_names};
 ghost use Rattle.lfs_volume.specs.CallRuns.{AreAnswers};
 ghost use Rattle.lfs_volume.specs.Cleanings.{CleansOnly, IsCleanerAnswer, cleaner_of};
 ghost use Rattle.lfs_volume.specs.Copies.{is_lack_of_memory};

@@ -3,7 +3,7 @@ use Rattle.lfs_calls.proofs.CallLemmas.{still}
 use Rattle.lfs_model.specs.Rules.{Check, first_failing, rule_table}
 use Rattle.lfs_explain.specs.Asked.{asked}
 use Rattle.lfs_explain.specs.Tables.{path_of, table_by}
-use Rattle.lfs_explain.specs.Ways.{IsTrail}
+use Rattle.lfs_explain.specs.Trails.{IsTrail}
 use Rattle.lfs_explain.proofs.Askings.{failing_asked}
 use Rattle.lfs_explain.proofs.ExplainLemmas.{told}
 use Rattle.lfs_explain.proofs.explain.explain.Goals as goal

@@ -3,7 +3,7 @@ use Rattle.std.specs.Prelude.{IfOk}
 use Rattle.lfs_model.specs.Rules.{rule_table}
 use Rattle.lfs_model.specs.Steps.{world_of}
 use Rattle.lfs_explain.specs.Asked.{asked}
-use Rattle.lfs_explain.specs.Ways.{IsTrail, first_names, second_names}
+use Rattle.lfs_explain.specs.Trails.{IsTrail, first_names, second_names}
 use Rattle.lfs_volume.specs.Journals.{IsJournal}
 use Rattle.std.proofs.lemmas.Result.{IfOk-weaker}
 use Rattle.lfs_volume.proofs.volume.Volume.explain.Goals as goal

@@ -5,29 +5,29 @@ use Rattle.lfs_types.specs.declared.request.Request.{Request}
 use Rattle.lfs_types.specs.declared.request.Request.TheVariants.{Stat, Read, Write, List as Names, SetLength, Create, Mkdir, Unlink, Rmdir, Rename, Chmod, Chown, Chflags, SetLevel, Sync}
 use Rattle.lfs_model.specs.World.{Rows, child, children}
 use Rattle.lfs_model.specs.Rules.{attrs_at}
-use Rattle.lfs_explain.specs.declared.trail.Seen.{Seen}
+use Rattle.lfs_explain.specs.declared.trail.ShownRow.{ShownRow}
 use Rattle.lfs_explain.specs.declared.trail.Trail.{Trail}
 
 -- a row as users see it
-abbrev pub seen_at : Rows → ℕ → Seen
-seen_at rows n = record { number = n; attrs = attrs_at rows n }
+abbrev pub shown_row : Rows → ℕ → ShownRow
+shown_row rows n = record { number = n; attrs = attrs_at rows n }
 
 -- the rows from the one of a number on, if there is a number
-abbrev pub onward : Option ℕ → (ℕ → List Seen) → List Seen
+abbrev pub onward : Option ℕ → (ℕ → List ShownRow) → List ShownRow
 onward None more = []
 onward (Some n) more = more n
 
 -- the rows that names lead through from a row, it and the last among them; they end where a name isn't there
-abbrev pub way : Rows → ℕ → List (List ℕ) → List Seen
-way rows at [] = seen_at rows at ∷ []
-way rows at (name ∷ names) = seen_at rows at ∷ onward (child rows at name) (λ n. way rows n names)
+abbrev pub rows_along : Rows → ℕ → List (List ℕ) → List ShownRow
+rows_along rows at [] = shown_row rows at ∷ []
+rows_along rows at (name ∷ names) = shown_row rows at ∷ onward (child rows at name) (λ n. rows_along rows n names)
 
 -- What is known of a path: the rows that its names lead through from the root, how many names it has, and whether the
 -- row that they all lead to, if there is one, has no child.
 pub record IsTrail (rows : Rows) (names : List (List ℕ)) (trail : Trail) : Type 0 where
-  pub rows_are : trail.rows.items ≡ way rows root names
+  pub rows_are : trail.rows.items ≡ rows_along rows root names
   pub counted : trail.names ≡ length names
-  pub childless : (row : Seen) → slice_get trail.rows.items trail.names ≡ Some row → trail.is_childless ≡ (length (children rows row.number) == 0)
+  pub childless : (row : ShownRow) → slice_get trail.rows.items trail.names ≡ Some row → trail.is_childless ≡ (length (children rows row.number) == 0)
 
 -- the names of a call's first path, none where it has none
 abbrev pub first_names : Request → List (List ℕ)

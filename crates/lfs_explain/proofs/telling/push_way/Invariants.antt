@@ -1,9 +1,0 @@
-use Rattle.std.proofs.Common.{◌≡◌, ◌++◌, ◌-◌, drop}
-use Rattle.lfs_explain.specs.Tables.{way_tests}
-use Rattle.lfs_explain.proofs.telling.push_way.Given as goal
-
--- the checks so far and those of the other steps are the old ones and those of all steps
-abbrev pub invariant-loop-at : goal.invariant-loop-at
-invariant-loop-at l =
-    l.checks.items ++ way_tests l.cred l.path l.at (l.count - l.at) (drop l.at l.rows)
-    ≡ l.fn.checks.items ++ way_tests l.cred l.path 0 l.count l.rows
