@@ -1,5 +1,5 @@
 -- A block of a file waits with what it has.
-use Rattle.std.proofs.Common.{◌≡◌, ◌≢◌, ℕ, zero, suc, ◌+◌, ◌*◌, ◌/◌, ◌<◌, ◌≤◌, List, length, Some, IsSome, is_some, true, refl, sym, ap, ◌∙◌, subst, inl, inr, arith}
+use Rattle.std.proofs.Common.{◌≡◌, ◌≢◌, ◌⊎◌, ℕ, zero, suc, ◌*◌, ◌/◌, ◌<◌, length, Some, IsSome, is_some, true, refl, sym, ap, ◌∙◌, subst, inl, inr, arith}
 use Rattle.std.proofs.lemmas.Bool.{cases_Bool, cases_eq, cases_lt}
 use Rattle.lfs_ifile.specs.Tables.{row_of}
 use Rattle.lfs_inodes.specs.declared.inode.Inode.{Inode}
@@ -11,7 +11,7 @@ use Rattle.lfs_bmap.specs.declared.blocks.FileBlock.TheVariants.{Record}
 use Rattle.lfs_bmap.specs.Blocks.{IsFileBlock, code_of, first_under, way_to}
 use Rattle.lfs_bmap.specs.Log.{HasPlace}
 use Rattle.lfs_bmap.specs.Reading.{address}
-use Rattle.lfs_bmap.specs.Ways.{codes_on, way_of}
+use Rattle.lfs_bmap.specs.Ways.{way_of}
 use Rattle.lfs_bmap.proofs.PlaceLemmas.{data_block-same}
 use Rattle.lfs_bmap.proofs.WayLemmas.{way_of-code_of}
 use Rattle.lfs_staging.specs.declared.parts.Parts.{Parts}
@@ -19,19 +19,16 @@ use Rattle.lfs_staging.specs.declared.records.TheConstants.{WAITING_LIMIT}
 use Rattle.lfs_segwrite.specs.Flushing.{Waits}
 use Rattle.lfs_staging.specs.Keys.{log_state}
 use Rattle.lfs_segwrite.specs.Marking.{SameShown, StagesAgain}
-use Rattle.lfs_staging.specs.Staging.{IsStaged, MayStage, SameFiles, StagesParents, StagesTable}
+use Rattle.lfs_staging.specs.Staging.{IsStaged, MayStage, SameFiles, StagesParents, StagesTable, TakesOnly}
 use Rattle.lfs_staging.specs.Store.{IsFile, IsWithin}
 use Rattle.lfs_staging.specs.View.{key_of, record_of, tree_of, version_of, waiting_in}
 use Rattle.lfs_staging.specs.Waiting.{without}
 use Rattle.lfs_staging.proofs.FileLemmas.{free_place}
 use Rattle.lfs_staging.proofs.KeyLemmas.{lies_in, place-block, unused_nowhere}
-use Rattle.lfs_segwrite.proofs.NamedLemmas.{frames-block}
-use Rattle.lfs_staging.proofs.WaitingLemmas.{length-rest, length-without, waiting-without}
+use Rattle.lfs_segwrite.proofs.NamedLemmas.{codes-block}
+use Rattle.lfs_staging.proofs.WaitingLemmas.{length-without, waiting-without}
 use Rattle.lfs_bmap.proofs.HolderLemmas.{codes_on-record}
-use Rattle.lfs_bmap.proofs.TableLemmas.{codes_on-long}
 use Rattle.lfs_staging.proofs.StagedLemmas.{parents_staged}
-use Rattle.lfs_staging.proofs.TakenLemmas.{taken_most}
-use Rattle.lfs_staging.proofs.FrameLemmas.{locked_most}
 
 -- a block that isn't a record waits under its key
 pub waits_block : (p : Parts) (number code : ℕ) → code ≢ 0 → IsLocked (key_of number (version_of p number) code) p.cache → Waits p number code
@@ -67,12 +64,12 @@ module _ (old new : Parts) (number : ℕ) (room : without number new.waiting ≡
         ap is_some (sym (waiting-without new.waiting number n other) ∙ ap (λ vs. waiting_in vs n) room ∙ waiting-without old.waiting number n other) ∙ was
   ]
 
-  one_more : length new.waiting ≤ length old.waiting + 1
-  one_more =
-      let more = length-rest new.waiting number in
-      let fewer = length-without old.waiting number in
-      let same : length (without number new.waiting) ≡ length (without number old.waiting) = ap (λ (vs : List Inode). length vs) room in
-      omega arith
+  waited_before : (n : ℕ) → IsSome (waiting_in new.waiting n) → (n ≡ number) ⊎ IsSome (waiting_in old.waiting n)
+  waited_before n waits = elim (cases_eq n number) [
+    | inl is ↦ inl is
+    | inr other ↦ inr (
+        ap is_some (sym (waiting-without old.waiting number n other) ∙ ap (λ vs. waiting_in vs n) (sym room) ∙ waiting-without new.waiting number n other) ∙ waits)
+  ]
 
 -- ---- the record
 pub record_staged : (old new : Parts) (v : Inode) → MayStage old v → StagesParents v.number Record old new → IsStaged old 0 → IsStaged new 0
@@ -84,10 +81,8 @@ record_again old new v h = record {
   waits = h.waits.record_waits;
   frames_still = h.stays;
   records_still = still_waits old new v.number h.room h.waits.record_waits;
-  frames =
-      let few = locked_most old.cache new.cache h.files.cache (λ key locked. elim (h.takes key locked) [ inl one ↦ absurd (codes_on-record one.0 one.1) | inr was ↦ was ]) in
-      omega arith;
-  records = one_more old new v.number h.room;
+  frames = subst (λ codes. TakesOnly v.number (version_of old v.number) codes old.cache new.cache) (sym (codes-block Record tt)) h.takes;
+  records = waited_before old new v.number h.room;
 }
 
 -- ---- another block, staged with its parents
@@ -98,12 +93,8 @@ block_again old new v block is other h = record {
   waits = waits_block new v.number (code_of block) other h.takes.block_waits;
   frames_still = h.takes.stays;
   records_still = still_waits old new v.number h.takes.records h.takes.waits.record_waits;
-  frames =
-      let most = taken_most v.number (version_of old v.number) (codes_on (way_to block)) old.cache new.cache h.files.cache h.takes.takes in
-      let long = codes_on-long (way_to block) in
-      let many = frames-block block is in
-      omega arith;
-  records = one_more old new v.number h.takes.records;
+  frames = subst (λ codes. TakesOnly v.number (version_of old v.number) codes old.cache new.cache) (sym (codes-block block is)) h.takes.takes;
+  records = waited_before old new v.number h.takes.records;
 }
 
 -- ---- a block that has a place

@@ -1,4 +1,5 @@
 pub mod CollectingLemmas
+pub mod CountingLemmas
 pub mod KeepingLemmas
 pub mod LandedLemmas
 pub mod PutLemmas

@@ -1,5 +1,5 @@
 -- The block that an info names, and that it is there.
-use Rattle.std.proofs.Common.{◌≡◌, ◌≢◌, ◌⊎◌, ℕ, ◌-◌, ◌/◌, ◌<◌, ◌≤◌, List, length, min, refl, sym, ap, ◌∙◌, subst, inl, inr, arith}
+use Rattle.std.proofs.Common.{◌≡◌, ◌≢◌, ◌⊎◌, ℕ, ◌-◌, ◌/◌, ◌<◌, ◌≤◌, List, [], length, min, refl, sym, ap, ◌∙◌, subst, inl, inr, arith}
 use Rattle.std.specs.Prelude.{◌&&◌, if◌then◌else◌, nat_le, nat_lt}
 use Rattle.std.proofs.lemmas.Bool.{cases_eq, cases_lt, cond-true, cond-false, ne_eqb, lt-leb, lt-ltb, le-leb, le-ltb}
 use Rattle.lfs_types.specs.declared.cleaner.BlockInfo.{BlockInfo}
@@ -12,14 +12,14 @@ use Rattle.lfs_segments.proofs.TestLemmas.{block_from-block_number}
 use Rattle.lfs_bmap.specs.declared.blocks.FileBlock.{FileBlock}
 use Rattle.lfs_bmap.specs.declared.blocks.TheConstants.{BLOCK_CODES}
 use Rattle.lfs_bmap.specs.Blocks.{IsFileBlock, code_of, file_block_of, logical_of, way_to}
-use Rattle.lfs_bmap.specs.Ways.{way_of}
-use Rattle.lfs_bmap.proofs.TableLemmas.{way_length}
+use Rattle.lfs_bmap.specs.Ways.{codes_on, way_of}
+use Rattle.lfs_bmap.proofs.TableLemmas.{codes_on-long, way_length}
 use Rattle.lfs_bmap.proofs.WayLemmas.{way_of-code_of, way_of-known}
 use Rattle.lfs_bmap.specs.Log.{HasPlace, LogState, SameKeys}
 use Rattle.lfs_bmap.specs.Moves.{present_address}
 use Rattle.lfs_bmap.proofs.BlockLemmas.{code_of-below, file_block_of-is, logical_of-file_block, same_block}
 use Rattle.lfs_bmap.proofs.MoveLemmas.{present_address-key, present_address-other, present_address-same}
-use Rattle.lfs_segwrite.specs.Marking.{IsNamed, code_named, frames_of_code}
+use Rattle.lfs_segwrite.specs.Marking.{IsNamed, code_named, codes_to_mark}
 
 -- ---- codes
 code_named-is : (lbn : ℕ) → code_named lbn ≡ min (code_of (file_block_of (block_from lbn))) BLOCK_CODES
@@ -104,21 +104,29 @@ code_named-none lbn none = elim (kinds lbn) [
 ]
 
 -- ---- frames
-pub frames-block : (block : FileBlock) → IsFileBlock block → frames_of_code (code_of block) ≡ length (way_to block)
-unfolding frames_of_code
-frames-block block is =
-    cond-true _ _ _ (lt-ltb (code_of block) BLOCK_CODES (code_of-below block is)) ∙ ap (λ (way : List ℕ). length way) (way_of-code_of block is)
+pub codes-block : (block : FileBlock) → IsFileBlock block → codes_to_mark (code_of block) ≡ codes_on (way_to block)
+unfolding codes_to_mark
+codes-block block is =
+    cond-true _ _ _ (lt-ltb (code_of block) BLOCK_CODES (code_of-below block is)) ∙ ap codes_on (way_of-code_of block is)
 
-pub frames-none : frames_of_code BLOCK_CODES ≡ 0
-unfolding frames_of_code
-frames-none = refl
+pub codes-none : codes_to_mark BLOCK_CODES ≡ []
+unfolding codes_to_mark
+codes-none = refl
 
-pub frames-most : (code : ℕ) → frames_of_code code ≤ 3
-unfolding frames_of_code
-frames-most code = elim (cases_lt code BLOCK_CODES) [
-  | inl low ↦ subst (λ n. n ≤ 3) (sym (cond-true _ _ _ (lt-ltb code BLOCK_CODES low))) (way_length (way_of code) (way_of-known code low))
-  | inr past ↦ subst (λ n. n ≤ 3) (sym (cond-false _ _ _ (le-ltb code BLOCK_CODES past))) (omega arith)
+pub codes-record : codes_on [] ≡ []
+unfolding codes_on
+codes-record = refl
+
+pub codes-most : (code : ℕ) → length (codes_to_mark code) ≤ 3
+unfolding codes_to_mark
+codes-most code = elim (cases_lt code BLOCK_CODES) [
+  | inl low ↦ subst (λ (cs : List ℕ). length cs ≤ 3) (sym (cond-true _ _ _ (lt-ltb code BLOCK_CODES low)))
+      (subst (λ n. n ≤ 3) (sym (codes_on-long (way_of code))) (way_length (way_of code) (way_of-known code low)))
+  | inr past ↦ subst (λ (cs : List ℕ). length cs ≤ 3) (sym (cond-false _ _ _ (le-ltb code BLOCK_CODES past))) (omega arith)
 ]
+
+pub way-most : (block : FileBlock) → IsFileBlock block → length (way_to block) ≤ 3
+way-most block is = subst (λ n. n ≤ 3) (ap (λ (cs : List ℕ). length cs) (codes-block block is) ∙ codes_on-long (way_to block)) (codes-most (code_of block))
 
 -- ---- what an info names
 -- the present address that a call gives

@@ -1,4 +1,5 @@
 pub mod Collecting
+pub mod Counting
 pub mod Landing
 pub mod Marking
 pub mod Room

@@ -1,5 +1,7 @@
 -- Blocks that are written again at the log's end, as a cleaner asks.
-use Rattle.std.specs.Prelude.{◌≡◌, ◌≢◌, ◌⊎◌, ℕ, ◌+◌, ◌/◌, ◌<◌, ◌≤◌, false, List, [], ◌∷◌, ◌++◌, All, Contains, AllPairs, length, min, sum_by, if◌then◌else◌, nat_lt, IsSome}
+use Rattle.std.specs.Prelude.{◌≡◌, ◌≢◌, ◌⊎◌, ℕ, ◌+◌, ◌/◌, ◌<◌, ◌≤◌, ◌==◌, false, List, [], ◌∷◌, ◌++◌, All, Contains, AllPairs, length, map, min, if◌then◌else◌, nat_lt, IsSome}
+use Rattle.std.specs.List.{flat_map}
+use Rattle.std.specs.Set.{distinct_count}
 use Rattle.lfs_types.specs.declared.cleaner.BlockInfo.{BlockInfo}
 use Rattle.lfs_types.specs.declared.limits.TheConstants.{SEGMENT_BLOCKS}
 use Rattle.lfs_ifile.specs.declared.segment.SegState.TheVariants.{Clean}
@@ -7,6 +9,7 @@ use Rattle.lfs_ifile.specs.Tables.{row_of}
 use Rattle.lfs_segments.specs.Memory.{block_at, next_address, room_of}
 use Rattle.lfs_cache.specs.declared.key.Key.{Key}
 use Rattle.lfs_cache.specs.Contents.{IsLocked}
+use Rattle.lfs_cache.specs.Keys.{same_key}
 use Rattle.lfs_log.specs.Parts.{state_of}
 use Rattle.lfs_segments.specs.Reading.{block_from}
 use Rattle.lfs_bmap.specs.declared.blocks.TheConstants.{BLOCK_CODES}
@@ -15,15 +18,16 @@ use Rattle.lfs_bmap.specs.Counting.{seg_of}
 use Rattle.lfs_bmap.specs.Log.{LogState}
 use Rattle.lfs_bmap.specs.Moves.{DirtyIn, Moves, StaysDirty, present_address}
 use Rattle.lfs_bmap.specs.Reading.{address, data_block}
-use Rattle.lfs_bmap.specs.Ways.{IsKnown, way_of}
+use Rattle.lfs_bmap.specs.Ways.{IsKnown, codes_on, way_of}
 use Rattle.lfs_staging.specs.declared.parts.Parts.{Parts}
 use Rattle.lfs_segwrite.specs.Applying.{WritesWaiting}
+use Rattle.lfs_segwrite.specs.Collecting.{inode_blocks}
 use Rattle.lfs_segwrite.specs.Flushing.{Waits}
 use Rattle.lfs_segwrite.specs.Room.{HasCleanable, HasNoCleanable}
 use Rattle.lfs_segwrite.specs.declared.room.TheConstants.{SPARE, WHOLE}
 use Rattle.lfs_staging.specs.Keys.{log_state}
-use Rattle.lfs_staging.specs.Staging.{IsStaged}
-use Rattle.lfs_staging.specs.View.{record_of, tree_of, version_of, waiting_in}
+use Rattle.lfs_staging.specs.Staging.{IsStaged, TakesOnly}
+use Rattle.lfs_staging.specs.View.{key_of, record_of, tree_of, version_of, waiting_in}
 
 -- the code of the block that an info names, BLOCK_CODES where no file can have such a block
 unfoldable pub code_named : ℕ → ℕ
@@ -46,17 +50,29 @@ abbrev pub AddsNamed : LogState → BlockInfo → List BlockInfo → List BlockI
 AddsNamed l info old new =
     ((new ≡ old) × (IsNamed l info → Contains old info)) ⊎ ((new ≡ old ++ info ∷ []) × IsNamed l info × (Contains old info → ⊥))
 
--- the frames that a block with a code takes at most: one for each block on its way; none where no file can have the block
-unfoldable pub frames_of_code : ℕ → ℕ
-frames_of_code code = if nat_lt code BLOCK_CODES then length (way_of code) else 0
+-- the codes of the blocks on the way to the block with a code, but for the record's; none where no file can have the block
+unfoldable pub codes_to_mark : ℕ → List ℕ
+codes_to_mark code = if nat_lt code BLOCK_CODES then codes_on (way_of code) else []
 
--- those that the block of an info takes
-abbrev pub frames_to_mark : BlockInfo → ℕ
-frames_to_mark info = frames_of_code (code_named info.lbn)
+-- the keys of the blocks on the way to the block of an info
+abbrev pub keys_to_mark : BlockInfo → List Key
+keys_to_mark info = map (key_of info.ino info.version) (codes_to_mark (code_named info.lbn))
+
+-- the number of an info
+abbrev pub number_named : BlockInfo → ℕ
+number_named info = info.ino
+
+-- the frames that the blocks of some infos take at most: one for each block on the ways to them, though it be on several
+abbrev pub frames_to_mark : List BlockInfo → ℕ
+frames_to_mark named = distinct_count same_key (flat_map keys_to_mark named)
+
+-- the records that they take at most: one for each number, though it have several of the blocks
+abbrev pub records_to_mark : List BlockInfo → ℕ
+records_to_mark named = distinct_count ◌==◌ (map number_named named)
 
 -- the blocks of the log that these take at most: a summary, their frames, and an inode block for each four records
 abbrev pub blocks_to_mark : List BlockInfo → ℕ
-blocks_to_mark named = sum_by frames_to_mark named + (length named + 3) / 4 + 1
+blocks_to_mark named = frames_to_mark named + inode_blocks (records_to_mark named) + 1
 
 -- What waits reads as what was there: each record, data block and address is what it was.
 pub record SameShown (old new : Parts) : Type 0 where
@@ -65,22 +81,24 @@ pub record SameShown (old new : Parts) : Type 0 where
   pub blocks : (n m : ℕ) → data_block (tree_of new n) m ≡ data_block (tree_of old n) m
   pub addresses : (n : ℕ) (way : List ℕ) → IsKnown way → address (tree_of new n) way ≡ address (tree_of old n) way
 
--- The block with a code of a number waits with what it had, and what waited does still.
+-- The block with a code of a number waits with what it had, and what waited does still. What waits more is on the way to it.
 pub record StagesAgain (number code : ℕ) (old new : Parts) : Type 0 where
   pub same : SameShown old new
   pub waits : Waits new number code
   pub frames_still : (key : Key) → IsLocked key old.cache → IsLocked key new.cache
   pub records_still : (n : ℕ) → IsSome (waiting_in old.waiting n) → IsSome (waiting_in new.waiting n)
-  pub frames : length new.cache.locked ≤ length old.cache.locked + frames_of_code code
-  pub records : length new.waiting ≤ length old.waiting + 1
+  pub frames : TakesOnly number (version_of old number) (codes_to_mark code) old.cache new.cache
+  pub records : (n : ℕ) → IsSome (waiting_in new.waiting n) → (n ≡ number) ⊎ IsSome (waiting_in old.waiting n)
 
--- So do the blocks of some infos.
+-- So do the blocks of some infos, where nothing waited. What waits is on the ways to them, and no more than was reckoned.
 pub record StagesNamed (named : List BlockInfo) (old new : Parts) : Type 0 where
   pub same : SameShown old new
   pub staged : IsStaged new 0
   pub waits : All (λ (info : BlockInfo). Waits new info.ino (code_named info.lbn)) named
-  pub frames : length new.cache.locked ≤ sum_by frames_to_mark named
-  pub records : length new.waiting ≤ length named
+  pub only_frames : (key : Key) → IsLocked key new.cache → Contains (flat_map keys_to_mark named) key
+  pub only_records : (n : ℕ) → IsSome (waiting_in new.waiting n) → Contains (map number_named named) n
+  pub frames : length new.cache.locked ≤ frames_to_mark named
+  pub records : length new.waiting ≤ records_to_mark named
 
 -- A block has another place, outside the segments that were dirty.
 pub record IsRewritten (old new : LogState) (info : BlockInfo) : Type 0 where

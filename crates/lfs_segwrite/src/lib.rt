@@ -4,6 +4,7 @@
 
 pub mod applying;
 pub mod collecting;
+mod counting;
 pub mod flushing;
 pub mod landing;
 pub mod marking;

@@ -1,6 +1,6 @@
 //! Blocks that are written again at the log's end, as a cleaner asks.
 
-ghost use Rattle.std.specs.Prelude.{◌≡◌, ◌≢◌, ◌⊎◌, ◌+◌, ◌<◌, ◌≤◌, ◌↔◌, All, Contains, IfOk, IsTrue, OnErr, OnOk, Some, length, sum_by, true};
+ghost use Rattle.std.specs.Prelude.{◌≡◌, ◌≢◌, ◌⊎◌, ◌+◌, ◌<◌, ◌≤◌, ◌↔◌, All, Contains, IfOk, IsTrue, OnErr, OnOk, Some, length, true};
 ghost use Rattle.lfs_ifile.specs.declared.segment.SegState.TheVariants.{Clean};
 ghost use Rattle.lfs_log.specs.Parts.{state_of};
 ghost use Rattle.lfs_segments.specs.Memory.{room_of};
@@ -14,61 +14,22 @@ ghost use Rattle.lfs_bmap.specs.Ways.{codes_on};
 ghost use Rattle.lfs_segwrite.specs.Applying.{HasRoom, WritesWaiting};
 ghost use Rattle.lfs_staging.specs.Files.{content_of};
 ghost use Rattle.lfs_staging.specs.Keys.{log_state};
-ghost use Rattle.lfs_segwrite.specs.Marking.{AddsNamed, AreNamed, HasRoomToMark, IsNamed, LacksRoomFor, LacksRoomToMark, LeavesCleanable, MarksAgain, MarksSettled, StagesAgain, StagesNamed, blocks_to_mark, code_named, frames_to_mark};
+ghost use Rattle.lfs_segwrite.specs.Marking.{AddsNamed, AreNamed, HasRoomToMark, IsNamed, LacksRoomFor, LacksRoomToMark, LeavesCleanable, MarksAgain, MarksSettled, StagesAgain, StagesNamed, code_named};
 ghost use Rattle.lfs_staging.specs.Staging.{HasFrames, IsStaged, MayStage, StagesTable};
 ghost use Rattle.lfs_staging.specs.Store.{IsSettled, IsStore, IsWithin};
 ghost use Rattle.lfs_staging.specs.View.{blocks_of, tree_from, tree_of};
 ghost use Rattle.lfs_staging.specs.declared.records.TheConstants.{WAITING_LIMIT};
 
+use crate::counting::{blocks_to_mark, code_named};
 use crate::flushing::flush;
 use crate::room::{NoRoom, SPARE, WHOLE, has_cleanable, make_room};
 use crate::writing::write_waiting;
-use lfs_bmap::blocks::{BLOCK_CODES, FileBlock};
+use lfs_bmap::blocks::FileBlock;
 use lfs_bmap::tables::MOST_DEPTH;
 use lfs_inodes::inode::Inode;
-use lfs_log::packing::SLOT_COUNT;
-use lfs_segments::entry::LogicalBlock;
 use lfs_staging::parts::Parts;
 use lfs_types::block::Block;
 use lfs_types::cleaner::{BlockInfo, MarkList};
-
-/// The code of the block that a logical block number names; `BLOCK_CODES` where no file can have such
-/// a block.
-fn code_named(lbn: u32) -> u32
-    ensures { result ≡ code_named lbn }
-{
-    match LogicalBlock::from_number(lbn) {
-        Some(block) => FileBlock::from_logical(block).code(),
-        None => BLOCK_CODES,
-    }
-}
-
-/// How many frames the block that an info names takes at most: one for each block that leads to it,
-/// itself among them.
-fn frames_to_mark(info: &BlockInfo) -> u32
-    ensures result { result ≡ frames_to_mark info.now }
-    ensures few { result ≤ MOST_DEPTH }
-{
-    match FileBlock::from_code(code_named(info.lbn)) {
-        Some(block) => block.depth() as u32,
-        None => 0,
-    }
-}
-
-/// How many blocks of the log the blocks of some infos take at most, with their summary and the
-/// records that lead to them.
-fn blocks_to_mark(named: &[BlockInfo]) -> u32
-    requires { length named.now ≤ MARK_LIMIT }
-    ensures blocks { result ≡ blocks_to_mark named.now }
-    ensures few { result ≤ 27 }
-    ensures frames { sum_by frames_to_mark named.now ≤ 24 }
-{
-    let mut frames = 0;
-    for info in named {
-        frames += frames_to_mark(info);
-    }
-    frames + named.len().div_ceil(SLOT_COUNT) as u32 + 1
-}
 
 /// Whether an info stands in a list.
 fn has(infos: &[BlockInfo], info: &BlockInfo) -> bool

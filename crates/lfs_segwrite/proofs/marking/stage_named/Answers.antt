@@ -29,7 +29,7 @@ stage_info-requires-clause-records c =
 pub loop-info-preserved : goal.loop-info-preserved
 loop-info-preserved c =
     stages_more c.args.parts.now c.loop-info.parts c.args.named.now c.loop-info.info-index c.loop-info-test.true c.loop-info.invariant c.stage_info.new.parts _
-    c.stage_info.ensures.staged c.stage_info.ensures.again
+    c.requires.named c.stage_info.ensures.staged c.stage_info.ensures.again
 
 pub returns : goal.returns
 returns c =

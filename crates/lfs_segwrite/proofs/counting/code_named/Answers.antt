@@ -3,7 +3,7 @@ use Rattle.std.proofs.lemmas.Option.{none-some}
 use Rattle.lfs_bmap.specs.Blocks.{code_of}
 use Rattle.lfs_segwrite.specs.Marking.{code_named}
 use Rattle.lfs_segwrite.proofs.NamedLemmas.{code_named-block, code_named-none}
-use Rattle.lfs_segwrite.proofs.marking.code_named.Goals as goal
+use Rattle.lfs_segwrite.proofs.counting.code_named.Goals as goal
 
 pub returns-in-Some : goal.returns-in-Some
 returns-in-Some c =
