@@ -53,11 +53,11 @@ pub fn run_watched<V: Watch<LogStore>, R: Read, W: Write>(
     watch: &mut V,
     params: Params,
 ) -> Result<(), RunFault>
-    ensures written { OnOk result (IsLogTalk params.segments params.inodes params.journal
+    ensures written { OnOk result (IsLogTalk params.segments params.inodes params.frames params.journal
         (R.remaining reader.old) (R.remaining reader.new)
         (W.contents writer.old) (W.contents writer.new)) }
     ensures so_far { IfErr result (λ fault. fault ≡ Failed → HasHeardOfLog
-        params.segments params.inodes params.journal
+        params.segments params.inodes params.frames params.journal
         (R.remaining reader.old) (R.remaining reader.new)
         (W.contents writer.old) (W.contents writer.new)) }
     ensures ranges { OnOk result (IsInRange params.segments params.inodes params.frames) }

@@ -74,6 +74,9 @@ const SHELL_JOURNAL: NumberOption = NumberOption {
     refusal: "--journal takes a number of decimal digits alone, from 1 to 1000000",
 };
 
+/// The option of `lfs_shell` that takes the file of a film.
+const FILM: &str = "film";
+
 /// The parameters of `lfsd` where no argument says otherwise.
 pub const DEFAULTS: Params = Params {
     segments: SEGMENTS.default,
@@ -129,18 +132,33 @@ pub fn options_of<'a, S: AsStr>(alloc: Global, words: &'a [S]) -> Result<Options
     }
 }
 
-/// The parameters that the words of `lfs_shell` ask for; the first word is the program's name.
+/// What `lfs_shell` is asked to do.
+#[derive(Clone, Copy, Debug)]
+pub struct ShellOptions<'a> {
+    /// The parameters of the volume.
+    pub params: Params,
+    /// The file that the film of the log is written to, where one is asked for.
+    pub film: Option<&'a str>,
+}
+
+/// The options that the words of `lfs_shell` ask for; the first word is the program's name.
 ///
 /// # Errors
 ///
 /// As those of `options_of`.
-pub fn shell_params_of<'a, S: AsStr>(alloc: Global, words: &'a [S]) -> Result<Params, Error>
-    ensures { IfOk result (IsInRange 1000000) }
+pub fn shell_options_of<'a, S: AsStr>(
+    alloc: Global,
+    words: &'a [S],
+) -> Result<ShellOptions<'a>, Error>
+    ensures { IfOk result (λ options. IsInRange 1000000 options.params) }
 {
     let mut command = shell_command(alloc)?;
     let matches = command.try_get_matches_from_mut(words)?;
     match params_in(&matches, &SHELL_JOURNAL) {
-        Ok(params) => Ok(params),
+        Ok(params) => {
+            let film = matches.get_str(FILM);
+            Ok(ShellOptions { params, film })
+        }
         Err(refusal) => Err(wrong_value(&mut command, refusal)),
     }
 }
@@ -245,7 +263,19 @@ fn shell_command<'a>(alloc: Global) -> Result<Command<'a>, AllocError> {
         .arg(SEGMENTS.arg(alloc))?
         .arg(INODES.arg(alloc))?
         .arg(FRAMES.arg(alloc))?
-        .arg(SHELL_JOURNAL.arg(alloc))
+        .arg(SHELL_JOURNAL.arg(alloc))?
+        .arg(film(alloc))
+}
+
+/// The option for a film.
+fn film<'a>(alloc: Global) -> Arg<'a> {
+    Arg::new(alloc, FILM)
+        .long(FILM)
+        .value_name("FILE")
+        .action(ArgAction::Set)
+        .help(
+            "Writes a film of the log to FILE at the end: a page of HTML with a frame for each line that changed it",
+        )
 }
 
 /// The option for threads.

@@ -1,0 +1,61 @@
+-- What a film keeps of a talk, and its page.
+use Rattle.std.specs.Prelude.{ℕ, ◌+◌, ◌==◌, ◌&&◌, ◌||◌, nat_lt, Bool, false, List, [], ◌∷◌, ◌++◌, length, bytes_eq, if◌then◌else◌}
+use Rattle.lfs_film.specs.Quoting.{cut}
+use Rattle.lfs_film.specs.Frames.{changed, frame_text}
+use Rattle.lfs_film.specs.declared.film.TheConstants.{FRAMES_MAX}
+use Rattle.lfs_film.specs.declared.page.TheConstants.{BODY, CODE, FRAMES, FULL, HEAD, TAIL}
+use Rattle.lfs_film.specs.declared.script.TheConstants.{SCRIPT}
+use Rattle.lfs_film.specs.declared.style.TheConstants.{STYLE}
+
+-- What a film keeps: the rows and what waits as the last line left them, how many lines it was shown, the text of its frames,
+-- and whether a frame found no room.
+pub record Reel : Type 0 where
+  pub rows : List (List ℕ)
+  pub waiting : List ℕ
+  pub lines : ℕ
+  pub frames : List ℕ
+  pub is_full : Bool
+
+-- a film that was shown nothing
+abbrev pub empty_reel : Reel
+empty_reel = record { rows = []; waiting = []; lines = 0; frames = []; is_full = false }
+
+-- the frame of a line, with the rows that it changed: none where it changed neither a row nor what waits
+abbrev pub frame_of : Reel → List ℕ → List ℕ → List ℕ → List (List ℕ) → List ℕ
+frame_of reel line told waiting rows =
+    if length rows == 0 && bytes_eq reel.waiting waiting then []
+    else frame_text reel.lines (cut line ∷ cut told ∷ waiting ∷ rows)
+
+-- whether a frame finds no room behind the others, or an earlier one found none
+abbrev pub has_no_room : Reel → List ℕ → Bool
+has_no_room reel frame = reel.is_full || nat_lt FRAMES_MAX (length reel.frames + length frame)
+
+-- one more frame, where it finds room
+abbrev pub with_frame : Reel → List ℕ → Reel
+with_frame reel frame =
+    record reel { frames = if has_no_room reel frame then reel.frames else reel.frames ++ frame; is_full = has_no_room reel frame }
+
+-- one more line: what was told of it, and the rows and what waits as it left them
+abbrev pub shown : Reel → List ℕ → List ℕ → List (List ℕ) → List ℕ → Reel
+shown reel line told rows waiting =
+    record (with_frame reel (frame_of reel line told waiting (changed reel.rows rows))) { rows = rows; waiting = waiting; lines = reel.lines + 1 }
+
+-- what is told where a frame found no room
+abbrev pub told_of : Bool → List ℕ
+told_of is_full = if is_full then FULL.now else []
+
+-- what stands before the frames
+abbrev pub head_text : Bool → List ℕ
+head_text is_full = HEAD.now ++ STYLE.now ++ BODY.now ++ told_of is_full ++ FRAMES.now
+
+-- what stands behind them
+abbrev pub tail_text : List ℕ
+tail_text = CODE.now ++ SCRIPT.now ++ TAIL.now
+
+-- the page of frames
+abbrev pub page_of : List ℕ → Bool → List ℕ
+page_of frames is_full = head_text is_full ++ frames ++ tail_text
+
+-- the page of a film
+abbrev pub page_text : Reel → List ℕ
+page_text reel = page_of reel.frames reel.is_full

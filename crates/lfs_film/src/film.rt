@@ -1,0 +1,143 @@
+//! A film, and the lines that it is shown.
+
+ghost use Rattle.std.specs.Prelude.{◌≡◌, IfOk, OnErr, OnOk};
+ghost use Rattle.std.specs.Io.KnownBytes.{Appends};
+ghost use Rattle.lfs_film.specs.Films.{empty_reel, frame_of, page_text, shown, with_frame};
+ghost use Rattle.lfs_film.specs.Frames.{changed};
+ghost use Rattle.lfs_view.specs.MapText.{waiting_text};
+ghost use Rattle.lfs_view.specs.Rows.{rows_of};
+
+use crate::changed::changed;
+use crate::frame::frame;
+use crate::page::write_parts;
+use crate::quoting::cut;
+use lfs_io::output::WriteFault;
+use lfs_logstore::LogStore;
+use lfs_view::rows::{Row, rows, waiting};
+use std::alloc::{AllocError, Global};
+use std::io::Write;
+use std::marker::Model;
+
+/// The most bytes of the text of a film's frames.
+pub const FRAMES_MAX: usize = 19_000_000;
+
+/// A film of a log: a frame for each line that changed the log or what waits to be written to it. The first is of the log
+/// before a line, in which all is new.
+#[derive(Drop)]
+pub struct Film {
+    rows: Vec<Row>,
+    waiting: Vec<u8>,
+    lines: u64,
+    frames: Vec<u8>,
+    is_full: bool,
+}
+
+impl Model for Film {
+    ghost use Rattle.std.specs.Prelude.{◌≤◌, length};
+    ghost use Rattle.lfs_film.specs.Films.{Reel};
+
+    ghost Value = { Reel };
+
+    ghost view = { λ f. record {
+        rows = f.rows.items;
+        waiting = f.waiting.items;
+        lines = f.lines;
+        frames = f.frames.items;
+        is_full = f.is_full;
+    } };
+
+    ghost invariant = { λ f. length f.frames.items ≤ 19000000 };
+}
+
+impl Film {
+    /// A film that was shown nothing.
+    pub fn new(alloc: Global) -> Film
+        ensures { result ≡ empty_reel }
+    {
+        Film {
+            rows: Vec::new(alloc),
+            waiting: Vec::new(alloc),
+            lines: 0,
+            frames: Vec::new(alloc),
+            is_full: false,
+        }
+    }
+
+    /// Is shown a line without its line feed, the text that was told of it, and the log as the line left it. Where a row of
+    /// the log's map or what waits is another than before, there is one more frame: how many lines were shown before, at
+    /// most 400 bytes of the line and of the text, what waits, and the rows that are others. From the first frame on with
+    /// which the text of the frames would have more than 19,000,000 bytes, no more are kept.
+    ///
+    /// # Errors
+    ///
+    /// Memory ran out, or 2^64 - 1 lines were shown. The film is as before.
+    pub fn show(
+        &mut self,
+        alloc: Global,
+        line: &[u8],
+        told: &[u8],
+        store: &LogStore,
+    ) -> Result<(), AllocError>
+        ensures shown { OnOk result (self.new ≡ shown self.old line.now told.now (rows_of store.now) (waiting_text store.now)) }
+        ensures kept { OnErr result (self.new ≡ self.old) }
+    {
+        let Some(lines) = self.lines.checked_add(1) else {
+            return Err(AllocError);
+        };
+        let rows = rows(alloc, store)?;
+        let waiting = waiting(alloc, store)?;
+        let frame = self.frame_of(alloc, line, told, rows.as_slice(), waiting.as_slice())?;
+        self.add(frame.as_slice())?;
+        self.rows = rows;
+        self.waiting = waiting;
+        self.lines = lines;
+        Ok(())
+    }
+
+    /// The frame of a line: none where neither a row nor what waits is another than before.
+    fn frame_of(
+        &self,
+        alloc: Global,
+        line: &[u8],
+        told: &[u8],
+        rows: &[Row],
+        waiting: &[u8],
+    ) -> Result<Vec<u8>, AllocError>
+        ensures { IfOk result (λ text. text.items ≡
+            frame_of self.now line.now told.now waiting.now (changed self.now.rows rows.now)) }
+    {
+        let rows = changed(alloc, self.rows.as_slice(), rows)?;
+        if rows.is_empty() && self.waiting.as_slice() == waiting {
+            return Ok(Vec::new(alloc));
+        }
+        let line = cut(alloc, line)?;
+        let told = cut(alloc, told)?;
+        let head = [line.as_slice(), told.as_slice(), waiting];
+        frame(alloc, self.lines, &head, rows.as_slice())
+    }
+
+    /// Adds a frame, where it finds room.
+    fn add(&mut self, frame: &[u8]) -> Result<(), AllocError>
+        ensures added { OnOk result (self.new ≡ with_frame self.old frame.now) }
+        ensures kept { OnErr result (self.new ≡ self.old) }
+    {
+        if frame.len() > FRAMES_MAX - self.frames.len() {
+            self.is_full = true;
+        }
+        if !self.is_full {
+            self.frames.extend_from_slice(frame)?;
+        }
+        Ok(())
+    }
+
+    /// Writes the page of the film: HTML that stands alone.
+    ///
+    /// # Errors
+    ///
+    /// The writer failed.
+    pub fn write_page<W: Write>(&self, writer: &mut W) -> Result<(), WriteFault>
+        ensures { OnOk result (Appends (W.contents writer.old) (W.contents writer.new) (page_text self.now)) }
+    {
+        write_parts(writer, self.frames.as_slice(), self.is_full)
+    }
+}
