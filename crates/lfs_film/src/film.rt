@@ -39,11 +39,11 @@ impl Model for Film {
     ghost Value = { Reel };
 
     ghost view = { λ f. record {
-        rows = f.rows.items;
-        waiting = f.waiting.items;
-        lines = f.lines;
-        frames = f.frames.items;
-        is_full = f.is_full;
+      rows = f.rows.items;
+      waiting = f.waiting.items;
+      lines = f.lines;
+      frames = f.frames.items;
+      is_full = f.is_full;
     } };
 
     ghost invariant = { λ f. length f.frames.items ≤ 19000000 };

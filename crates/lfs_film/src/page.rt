@@ -13,8 +13,7 @@ use std::io::Write;
 pub const HEAD: &[u8] = br#"<!doctype html>
 <html lang="en"><head><meta charset="utf-8"><meta name="viewport" content="width=device-width">
 <title>A film of the log</title>
-<style>
-"#;
+<style>"#;
 
 /// Behind the style: what is seen, up to what is told of a film that is full.
 pub const BODY: &[u8] = br#"</style></head><body>
@@ -30,7 +29,8 @@ pub const BODY: &[u8] = br#"</style></head><body>
 "#;
 
 /// What is told of a film that is full.
-pub const FULL: &[u8] = br#"<p><b>No more frames are kept behind 19,000,000 bytes: the talk went on.</b></p>
+pub const FULL: &[u8] =
+    br#"<p><b>No more frames are kept behind 19,000,000 bytes: the talk went on.</b></p>
 "#;
 
 /// Before the frames.

@@ -1,7 +1,8 @@
 //! The style of a film's page: in light and in dark, with colours that are told apart without red and green.
 
 /// The style, as CSS.
-pub const STYLE: &[u8] = br#":root { color-scheme: light dark; --ground: #fff; --ink: #222; --faint: #ddd; --dead: #f4f4f4;
+pub const STYLE: &[u8] = br#"
+:root { color-scheme: light dark; --ground: #fff; --ink: #222; --faint: #ddd; --dead: #f4f4f4;
   --data: #0072b2; --indirect: #e69f00; --records: #cc79a7; --summary: #666; --label: #111; }
 @media (prefers-color-scheme: dark) { :root { --ground: #16181c; --ink: #ddd; --faint: #333; --dead: #24262b;
   --data: #56b4e9; --indirect: #f0b840; --records: #d895bd; --summary: #999; --label: #eee; } }

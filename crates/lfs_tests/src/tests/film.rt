@@ -1,0 +1,132 @@
+//! Films: the frames of short talks, worked out by hand, and texts in quotation marks.
+
+use super::scripts::log::SIX_SEGMENTS;
+use super::{expect_eq, push};
+use lfs_film::film::Film;
+use lfs_film::quoting::{cut, push_quoted};
+use lfs_live::start::run_watched;
+use lfs_live::watch::Watch;
+use lfs_logstore::LogStore;
+use std::alloc::{AllocError, Global};
+use std::process::Abort;
+
+/// A film that is shown each line that was answered.
+#[derive(Drop)]
+struct Filming {
+    film: Film,
+}
+
+impl Watch<LogStore> for Filming {
+    fn watch(
+        &mut self,
+        alloc: Global,
+        line: &[u8],
+        told: &[u8],
+        store: &LogStore,
+    ) -> Result<(), AllocError> {
+        self.film.show(alloc, line, told, store)
+    }
+}
+
+/// The page of the film of a talk.
+fn page_of(rt: &impl Abort, alloc: Global, mut talk: &[u8]) -> Vec<u8> {
+    let mut filming = Filming {
+        film: Film::new(alloc),
+    };
+    let mut told = Vec::new(alloc);
+    run_watched(alloc, &mut talk, &mut told, &mut filming, SIX_SEGMENTS).expect(rt, "a talk");
+    let mut page = Vec::new(alloc);
+    filming.film.write_page(&mut page).expect(rt, "a page");
+    page
+}
+
+/// Asserts that a page has these frames behind that of the fresh log, and no other.
+fn expect_frames(rt: &impl Abort, alloc: Global, page: &[u8], frames: &str) {
+    let page = str::from_utf8(page).expect(rt, "a text");
+    let mut wanted = String::new(alloc);
+    push(rt, &mut wanted, FRESH);
+    push(rt, &mut wanted, frames);
+    push(rt, &mut wanted, "</script>\n<script>\n");
+    assert!(rt; page.starts_with("<!doctype html>\n"));
+    assert!(rt; page.contains(wanted.as_str()));
+    assert!(rt; page.ends_with("</script></body></html>\n"));
+}
+
+/// The frame of the fresh log of six segments: the label, a summary and a block with the root's record of 128 bytes.
+const FRESH: &str = "<script id=\"film\" type=\"application/json\">
+[0,\"\",\"\",\"waiting 0 blocks 0 records\\u000a\"\
+    ,\"   0 active   128 LSR.............................................................\\u000a\"\
+    ,\"   1  clean     0 ................................................................\\u000a\"\
+    ,\"   2  clean     0 ................................................................\\u000a\"\
+    ,\"   3  clean     0 ................................................................\\u000a\"\
+    ,\"   4  clean     0 ................................................................\\u000a\"\
+    ,\"   5  clean     0 ................................................................\\u000a\"]
+";
+
+/// A talk of six lines, of which three change nothing.
+const TALK: &[u8] = b"create /a 0644\nstat /a\nsync\n\nsync\nwrite /a end 78\n";
+
+/// The frames of its other lines. The root's block waits, with the records of the root and of the file; `sync` writes
+/// the block and one block of both records, 512 and 256 bytes, and the record before is dead. A byte makes one block of
+/// data wait.
+const FRAMES: &str = "[1,\"create /a 0644\",\"0 ok\\u000a\",\"waiting 1 blocks 2 records\\u000a\"]
+[3,\"sync\",\"0 ok\\u000a\",\"waiting 0 blocks 0 records\\u000a\"\
+    ,\"   0 active   768 LSrSDR..........................................................\\u000a\"]
+[6,\"write /a end 78\",\"0 ok\\u000a\",\"waiting 1 blocks 1 records\\u000a\"]
+";
+
+#[test]
+fn short_talk(rt: HostRuntime) {
+    let alloc = rt.alloc();
+    let page = page_of(&rt, alloc, TALK);
+    expect_frames(&rt, alloc, page.as_slice(), FRAMES);
+}
+
+/// A name with each mark that is escaped, as a script spells it.
+const MARKED: &[u8] = b"create /<script>\"\\&%25~ 0644\n";
+
+/// Its frame.
+const MARKED_FRAME: &str = "[1,\"create /\\u003cscript\\u003e\\u0022\\u005c\\u0026%25~ 0644\",\"0 ok\\u000a\"\
+    ,\"waiting 1 blocks 2 records\\u000a\"]
+";
+
+#[test]
+fn marks_in_a_name(rt: HostRuntime) {
+    let alloc = rt.alloc();
+    let page = page_of(&rt, alloc, MARKED);
+    expect_frames(&rt, alloc, page.as_slice(), MARKED_FRAME);
+}
+
+/// Texts, and what stands for them between quotation marks.
+const QUOTED: [(&[u8], &[u8]); 5] = [
+    (b"", b"\"\""),
+    (b"</script>", b"\"\\u003c/script\\u003e\""),
+    (b"\"\\'", b"\"\\u0022\\u005c'\""),
+    (b"\x00\x1f ~\x7f\x80\xff", b"\"\\u0000\\u001f ~\\u007f\\u0080\\u00ff\""),
+    (b"<!--&amp;", b"\"\\u003c!--\\u0026amp;\""),
+];
+
+#[test]
+fn texts_in_quotation_marks(rt: HostRuntime) {
+    for (text, wanted) in QUOTED {
+        let mut out = Vec::new(rt.alloc());
+        push_quoted(&mut out, text).expect(&rt, "memory");
+        expect_eq(&rt, out.as_slice(), wanted);
+    }
+}
+
+/// Asserts how many bytes are left of so many, and whether they end with the sign that they were cut.
+fn expect_cut(rt: &impl Abort, alloc: Global, count: usize, left: usize, is_cut: bool) {
+    let mut text = Vec::new(alloc);
+    text.resize(count, b'x').expect(rt, "memory");
+    let kept = cut(alloc, text.as_slice()).expect(rt, "memory");
+    expect_eq(rt, kept.len(), left);
+    expect_eq(rt, kept.as_slice().ends_with(b"x .."), is_cut);
+}
+
+#[test]
+fn long_texts_are_cut(rt: HostRuntime) {
+    for (count, left, is_cut) in [(399, 399, false), (400, 400, false), (401, 400, true), (65_536, 400, true)] {
+        expect_cut(&rt, rt.alloc(), count, left, is_cut);
+    }
+}
