@@ -44,9 +44,13 @@ shown reel line told rows waiting =
 abbrev pub told_of : Bool → List ℕ
 told_of is_full = if is_full then FULL.now else []
 
+-- the style and what is seen
+abbrev pub seen_text : List ℕ
+seen_text = HEAD.now ++ STYLE.now ++ BODY.now
+
 -- what stands before the frames
 abbrev pub head_text : Bool → List ℕ
-head_text is_full = HEAD.now ++ STYLE.now ++ BODY.now ++ told_of is_full ++ FRAMES.now
+head_text is_full = seen_text ++ told_of is_full ++ FRAMES.now
 
 -- what stands behind them
 abbrev pub tail_text : List ℕ

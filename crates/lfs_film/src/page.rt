@@ -2,7 +2,7 @@
 
 ghost use Rattle.std.specs.Prelude.{◌≡◌, OnOk};
 ghost use Rattle.std.specs.Io.KnownBytes.{Appends};
-ghost use Rattle.lfs_film.specs.Films.{head_text, page_of, tail_text, told_of};
+ghost use Rattle.lfs_film.specs.Films.{head_text, page_of, seen_text, tail_text, told_of};
 
 use crate::script::SCRIPT;
 use crate::style::STYLE;
@@ -68,11 +68,18 @@ pub(crate) fn write_parts<W: Write>(
 fn write_head<W: Write>(writer: &mut W, is_full: bool) -> Result<(), WriteFault>
     ensures { OnOk result (Appends (W.contents writer.old) (W.contents writer.new) (head_text is_full)) }
 {
-    write_text(writer, HEAD)?;
-    write_text(writer, STYLE)?;
-    write_text(writer, BODY)?;
+    write_seen(writer)?;
     write_text(writer, told_of(is_full))?;
     write_text(writer, FRAMES)
+}
+
+/// Writes the style and what is seen.
+fn write_seen<W: Write>(writer: &mut W) -> Result<(), WriteFault>
+    ensures { OnOk result (Appends (W.contents writer.old) (W.contents writer.new) seen_text) }
+{
+    write_text(writer, HEAD)?;
+    write_text(writer, STYLE)?;
+    write_text(writer, BODY)
 }
 
 /// What is told of a film, if it is full.

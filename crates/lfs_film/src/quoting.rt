@@ -26,7 +26,8 @@ pub fn cut(alloc: Global, text: &[u8]) -> Result<Vec<u8>, AllocError>
         kept.extend_from_slice(text)?;
         return Ok(kept);
     }
-    kept.extend_from_slice(&text[..CUT_TEXT])?;
+    let start = &text[..CUT_TEXT];
+    kept.extend_from_slice(start)?;
     kept.extend_from_slice(b" ..")?;
     Ok(kept)
 }
