@@ -1,1 +1,1 @@
-pub mod FrameLemmas
+pub mod FilmLemmas

@@ -1,7 +1,9 @@
-use Rattle.std.proofs.Common.{◌≡◌, OnOk, List, ℕ}
+use Rattle.std.proofs.Common.{List, ℕ, OnOk, subst}
 use Rattle.std.specs.Io.KnownBytes.{Appends}
-use Rattle.lfs_film.specs.Films.{page_text, page_of, Reel}
+use Rattle.lfs_film.proofs.FilmLemmas.{page_same}
 use Rattle.lfs_film.proofs.film.Film.write_page.Goals as goal
 
 pub returns : goal.returns
-returns g c = let h = c.self.view_is in let k = c.as_slice.ensures.value in ?
+returns g c =
+    subst (λ (text : List ℕ). OnOk c.write_parts.result (Appends (g.W.Write.contents c.args.writer.now) (g.W.Write.contents c.write_parts.new.writer) text))
+    (page_same c.args.self.now _ c.as_slice.result.now c.self.view_is c.as_slice.ensures.value) c.write_parts.ensures
