@@ -1,10 +1,12 @@
 -- Lists of rows grow, row by row, and a page of its parts.
-use Rattle.std.proofs.Common.{◌≡◌, ℕ, suc, ◌+◌, Bool, true, false, not, List, [], ◌∷◌, ◌++◌, map, bytes_eq, Bor, Option, refl, sym, ◌∙◌, arith, append-nil, subst}
+use Rattle.std.proofs.Common.{◌≡◌, ℕ, suc, ◌+◌, ◌≤◌, Bool, true, false, not, List, [], ◌∷◌, ◌++◌, length, map, bytes_eq, Bor, Option, refl, sym, ◌∙◌, arith, append-nil, length-append, subst}
 use Rattle.std.specs.Io.KnownBytes.{Appends}
 use Rattle.std.proofs.KnownBytes.{Appends-trans}
+use Rattle.std.proofs.lemmas.Bool.{leb-true}
 use Rattle.std.proofs.lemmas.List.{map-append}
-use Rattle.lfs_film.specs.Films.{Reel, page_of, page_text}
+use Rattle.lfs_film.specs.Films.{Reel, page_of, page_text, seen_text, tail_text, told_of}
 use Rattle.lfs_film.specs.Frames.{first_changed, row_at}
+use Rattle.lfs_film.specs.declared.page.TheConstants.{FRAMES}
 
 is_same : (test : Bool) → not test ≡ false → test ≡ true
 is_same true e = refl
@@ -57,3 +59,21 @@ parts_written start seen more out a told b c one is two three =
 -- the page of a film is that of what stands in it
 pub page_same : (reel inside : Reel) (frames : List ℕ) → inside ≡ reel → frames ≡ inside.frames → page_of frames inside.is_full ≡ page_text reel
 page_same reel inside frames is same = rw (same, is) refl
+
+-- what stands round the frames is short
+told_short : (is_full : Bool) → length (told_of is_full) ≤ 1000
+told_short true = leb-true (length (told_of true)) 1000 refl
+told_short false = leb-true (length (told_of false)) 1000 refl
+
+five_short : (a b c d e : List ℕ) → length a ≤ 10000 → length b ≤ 1000 → length c ≤ 1000 → length d ≤ 19000000 → length e ≤ 10000
+    → length ((((a ++ b) ++ c) ++ d) ++ e) ≤ 20000000
+five_short a b c d e one two three four five = rw (length-append, length-append, length-append, length-append) (omega arith)
+
+-- so a page is bounded where its frames are
+pub page_bounded : (reel inside : Reel) → inside ≡ reel → length inside.frames ≤ 19000000 → length (page_text reel) ≤ 20000000
+page_bounded reel inside is le =
+    let seen : length seen_text ≤ 10000 = leb-true (length seen_text) 10000 refl in
+    let before : length FRAMES.now ≤ 1000 = leb-true (length FRAMES.now) 1000 refl in
+    let after : length tail_text ≤ 10000 = leb-true (length tail_text) 10000 refl in
+    let frames : length reel.frames ≤ 19000000 = rw (← is) le in
+    five_short seen_text (told_of reel.is_full) FRAMES.now reel.frames tail_text seen (told_short reel.is_full) before frames after

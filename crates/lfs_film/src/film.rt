@@ -1,6 +1,6 @@
 //! A film, and the lines that it is shown.
 
-ghost use Rattle.std.specs.Prelude.{◌≡◌, IfOk, OnErr, OnOk};
+ghost use Rattle.std.specs.Prelude.{◌≡◌, ◌≤◌, length, IfOk, OnErr, OnOk};
 ghost use Rattle.std.specs.Io.KnownBytes.{Appends};
 ghost use Rattle.lfs_film.specs.Films.{empty_reel, frame_of, page_text, shown, with_frame};
 ghost use Rattle.lfs_film.specs.Frames.{changed};
@@ -130,13 +130,14 @@ impl Film {
         Ok(())
     }
 
-    /// Writes the page of the film: HTML that stands alone.
+    /// Writes the page of the film: HTML that stands alone, at most 20,000,000 bytes.
     ///
     /// # Errors
     ///
     /// The writer failed.
     pub fn write_page<W: Write>(&self, writer: &mut W) -> Result<(), WriteFault>
-        ensures { OnOk result (Appends (W.contents writer.old) (W.contents writer.new) (page_text self.now)) }
+        ensures written { OnOk result (Appends (W.contents writer.old) (W.contents writer.new) (page_text self.now)) }
+        ensures bounded { length (page_text self.now) ≤ 20000000 }
     {
         write_parts(writer, self.frames.as_slice(), self.is_full)
     }
