@@ -21,8 +21,8 @@ use std::marker::Model;
 /// The most bytes of the text of a film's frames.
 pub const FRAMES_MAX: usize = 19_000_000;
 
-/// A film of a log: a frame for each line that changed the log or what waits to be written to it. The first is of the log
-/// before a line, in which all is new.
+/// A film of a log: a frame for each line that changed the log or what waits to be written to it. The first is of the
+/// log before a line, in which all is new.
 #[derive(Drop)]
 pub struct Film {
     rows: Vec<Row>,
@@ -63,10 +63,10 @@ impl Film {
         }
     }
 
-    /// Is shown a line without its line feed, the text that was told of it, and the log as the line left it. Where a row of
-    /// the log's map or what waits is another than before, there is one more frame: how many lines were shown before, at
-    /// most 400 bytes of the line and of the text, what waits, and the rows that are others. From the first frame on with
-    /// which the text of the frames would have more than 19,000,000 bytes, no more are kept.
+    /// Is shown a line without its line feed, the text that was told of it, and the log as the line left it. Where a
+    /// row of the log's map or what waits is another than before, there is one more frame: how many lines were shown
+    /// before, at most 400 bytes of the line and of the text, what waits, and the rows that are others. From the first
+    /// frame on with which the text of the frames would have more than 19,000,000 bytes, no more are kept.
     ///
     /// # Errors
     ///
@@ -78,7 +78,8 @@ impl Film {
         told: &[u8],
         store: &LogStore,
     ) -> Result<(), AllocError>
-        ensures shown { OnOk result (self.new ≡ shown self.old line.now told.now (rows_of store.now) (waiting_text store.now)) }
+        ensures shown { OnOk result
+            (self.new ≡ shown self.old line.now told.now (rows_of store.now) (waiting_text store.now)) }
         ensures kept { OnErr result (self.new ≡ self.old) }
     {
         let Some(lines) = self.lines.checked_add(1) else {

@@ -15,7 +15,8 @@ pub(crate) fn frame(
     head: &[&[u8]],
     rows: &[&[u8]],
 ) -> Result<Vec<u8>, AllocError>
-    ensures { IfOk result (λ text. text.items ≡ frame_text number (map (λ x. x.now) head.now ++ map (λ x. x.now) rows.now)) }
+    ensures { IfOk result (λ text. text.items
+        ≡ frame_text number (map (λ x. x.now) head.now ++ map (λ x. x.now) rows.now)) }
 {
     let mut text = Vec::new(alloc);
     text.push(b'[')?;

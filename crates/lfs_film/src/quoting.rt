@@ -32,8 +32,8 @@ pub fn cut(alloc: Global, text: &[u8]) -> Result<Vec<u8>, AllocError>
     Ok(kept)
 }
 
-/// Appends a text as a string of JSON, in ASCII. Each byte is taken as the character of its number. There is no `<`, `>` or
-/// `&` in it, so that no tag of HTML begins in it.
+/// Appends a text as a string of JSON, in ASCII. Each byte is taken as the character of its number. There is no `<`,
+/// `>` or `&` in it, so that no tag of HTML begins in it.
 ///
 /// # Errors
 ///

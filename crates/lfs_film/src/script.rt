@@ -1,7 +1,7 @@
 //! The script of a film's page.
 
-/// The script, in JavaScript. A frame is a line of JSON: the number of the line, the line, what was told of it, what waits,
-/// and the rows that are new.
+/// The script, in JavaScript. A frame is a line of JSON: the number of the line, the line, what was told of it, what
+/// waits, and the rows that are new.
 pub const SCRIPT: &[u8] = br#"const byId = name => document.getElementById(name);
 const frames = byId("film").textContent.trim().split("\n").map(text => JSON.parse(text));
 const table = byId("log"), slider = byId("at"), last = frames.length - 1;

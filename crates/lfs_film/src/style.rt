@@ -22,7 +22,8 @@ i.p { --c: var(--records); background: linear-gradient(135deg, var(--c) 50%, var
 i.d { --c: var(--data); }
 i.i { --c: var(--indirect); }
 i.r { --c: var(--records); }
-i.d, i.i, i.r { color: var(--c); background: repeating-linear-gradient(45deg, var(--dead) 0 3px, var(--faint) 3px 4px); }
+i.d, i.i, i.r { color: var(--c);
+  background: repeating-linear-gradient(45deg, var(--dead) 0 3px, var(--faint) 3px 4px); }
 tr.active td.n { font-weight: bold; }
 tr.new td.n { text-decoration: underline; }
 #at { width: 100%; }

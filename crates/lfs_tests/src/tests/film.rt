@@ -86,7 +86,8 @@ fn short_talk(rt: HostRuntime) {
 const MARKED: &[u8] = b"create /<script>\"\\&%25~ 0644\n";
 
 /// Its frame.
-const MARKED_FRAME: &str = "[1,\"create /\\u003cscript\\u003e\\u0022\\u005c\\u0026%25~ 0644\",\"0 ok\\u000a\"\
+const MARKED_FRAME: &str =
+    "[1,\"create /\\u003cscript\\u003e\\u0022\\u005c\\u0026%25~ 0644\",\"0 ok\\u000a\"\
     ,\"waiting 1 blocks 2 records\\u000a\"]
 ";
 
@@ -102,7 +103,10 @@ const QUOTED: [(&[u8], &[u8]); 5] = [
     (b"", b"\"\""),
     (b"</script>", b"\"\\u003c/script\\u003e\""),
     (b"\"\\'", b"\"\\u0022\\u005c'\""),
-    (b"\x00\x1f ~\x7f\x80\xff", b"\"\\u0000\\u001f ~\\u007f\\u0080\\u00ff\""),
+    (
+        b"\x00\x1f ~\x7f\x80\xff",
+        b"\"\\u0000\\u001f ~\\u007f\\u0080\\u00ff\"",
+    ),
     (b"<!--&amp;", b"\"\\u003c!--\\u0026amp;\""),
 ];
 
@@ -126,7 +130,12 @@ fn expect_cut(rt: &impl Abort, alloc: Global, count: usize, left: usize, is_cut:
 
 #[test]
 fn long_texts_are_cut(rt: HostRuntime) {
-    for (count, left, is_cut) in [(399, 399, false), (400, 400, false), (401, 400, true), (65_536, 400, true)] {
+    for (count, left, is_cut) in [
+        (399, 399, false),
+        (400, 400, false),
+        (401, 400, true),
+        (65_536, 400, true),
+    ] {
         expect_cut(&rt, rt.alloc(), count, left, is_cut);
     }
 }

@@ -4,7 +4,7 @@ use super::expect_parts;
 use crate::tests::expect_eq;
 use clap::Error;
 use clap::error::ErrorKind;
-use lfs_options::{DEFAULTS, Options, not_utf8, options_of};
+use lfs_options::{DEFAULTS, Options, SHELL_DEFAULTS, not_utf8, options_of, shell_options_of};
 use lfs_types::store::Params;
 use std::alloc::Global;
 use std::process::Abort;
@@ -69,8 +69,45 @@ fn parameters(rt: HostRuntime) {
     }
 }
 
+/// Words of a command line of `lfs_shell`, and the file of the film that they ask for.
+const FILMS: [(&[&str], Option<&str>); 3] = [
+    (&["lfs_shell"], None),
+    (&["lfs_shell", "--film", "page.html"], Some("page.html")),
+    (
+        &["lfs_shell", "--film=a b", "--segments", "64"],
+        Some("a b"),
+    ),
+];
+
+#[test]
+fn film_of_the_shell(rt: HostRuntime) {
+    for (words, film) in FILMS {
+        let found = shell_options_of(rt.alloc(), words).expect(&rt, "options");
+        expect_eq(&rt, found.params, SHELL_DEFAULTS);
+        expect_eq(&rt, found.film, film);
+    }
+}
+
+/// Words of command lines of `lfs_shell` that are refused.
+const NO_FILMS: [&[&str]; 3] = [
+    &["lfs_shell", "--film"],
+    &["lfs_shell", "--film", "a", "--film", "b"],
+    &["lfs_shell", "--threads"],
+];
+
+#[test]
+fn film_without_a_file_or_with_two_is_refused(rt: HostRuntime) {
+    for words in NO_FILMS {
+        let error = shell_options_of(rt.alloc(), words)
+            .err()
+            .expect(&rt, "a fault");
+        expect_eq(&rt, error.exit_code(), 2);
+    }
+}
+
 /// Words of command lines that are refused.
-const REFUSED: [&[&str]; 24] = [
+const REFUSED: [&[&str]; 25] = [
+    &["lfsd", "--film", "page.html"],
     &["lfsd", "--inodes", "15"],
     &["lfsd", "--inodes", "4097"],
     &["lfsd", "--inodes", "+16"],
