@@ -1,5 +1,5 @@
 use Rattle.lfs_live.proofs.StartLemmas.{log_fault, log_heard, log_talk}
-use Rattle.lfs_live.proofs.start.run_lines.Goals as goal
+use Rattle.lfs_live.proofs.start.run_watched.Goals as goal
 
 pub returns-clause-written : goal.returns-clause-written
 returns-clause-written g c =
