@@ -42,7 +42,7 @@ pub(crate) fn talk<F: Files + AllocGlobal, R: Read, W: Write>(
 ) -> Result<(), ShellFault> {
     match options.film {
         Some(path) => filmed(rt, reader, writer, options, path),
-        None => { run_lines(rt.alloc(), reader, writer, options.params).map_err(ShellFault::Talk) }
+        None => run_lines(rt.alloc(), reader, writer, options.params).map_err(ShellFault::Talk),
     }
 }
 
