@@ -150,12 +150,11 @@ def main():
         order = reading_order(new, wanted, parsed)
         count = sum(wanted[key][1] for key in new)
         parts.append(f"### {title}\n\n{len(new)} definitions{' more' if before else ''}, {count} lines, in {len(order)} files.\n")
-        if before:
+        if before and "--all" not in sys.argv[1:]:
             by_crate = {}
             for (crate, path), names in order:
-                by_crate.setdefault(crate, []).append(f"{path.replace('.', '/')} {len(names)}")
-            parts.append("Below `specs/` of each crate, with how many of a file's definitions are new here: "
-                         + "; ".join(f"`{crate}` {', '.join(told)}" for crate, told in by_crate.items()) + ".")
+                by_crate[crate] = by_crate.get(crate, 0) + len(names)
+            parts.append("By crate: " + ", ".join(f"`{crate}` {count}" for crate, count in by_crate.items()) + ".")
         else:
             parts.append("| File | Definitions, with their lines |\n|---|---|")
             for (crate, path), names in order:
