@@ -1,0 +1,7 @@
+//! Hints of where a directory has room (4.4BSD's in-core inodes and their `i_diroff`): before which block there is none.
+#![tactic(auto)]
+
+mod following;
+mod hints;
+
+pub use hints::{DirHints, Hint};
