@@ -10,6 +10,7 @@ pub mod CutLemmas
 pub mod Directories
 pub mod EntryLemmas
 pub mod GrownStore
+pub mod HintLemmas
 pub mod LastNames
 pub mod ListLemmas
 pub mod ListedNames

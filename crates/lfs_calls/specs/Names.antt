@@ -4,6 +4,8 @@ use Rattle.lfs_types.specs.Stored.{bytes_of}
 use Rattle.lfs_types.specs.Tree.{Content}
 use Rattle.lfs_attrcache.specs.Says.{AreShown}
 use Rattle.lfs_attrcache.specs.declared.cache.AttrCache.{AttrCache}
+use Rattle.lfs_dirhints.specs.Says.{AreFull}
+use Rattle.lfs_dirhints.specs.declared.hints.DirHints.{DirHints}
 use Rattle.lfs_dirs.specs.Directory.{number_in}
 use Rattle.lfs_namecache.specs.Says.{says}
 use Rattle.lfs_namecache.specs.declared.cache.NameCache.{NameCache}
@@ -23,10 +25,11 @@ IsFound c dir name (Some number) = Lists c dir name number
 abbrev pub AreTrue : NameCache → Content → Type 0
 AreTrue names c = (dir : ℕ) (name : List ℕ) (found : Option ℕ) → says names dir name ≡ Some found → IsFound c dir name found
 
--- what is known: what caches say of names and of attributes is what a content has
-pub record AreKnown (names : NameCache) (attributes : AttrCache) (c : Content) : Type 0 where
+-- what is known: what caches say of names and of attributes is what a content has, and what hints say of room is so
+pub record AreKnown (names : NameCache) (attributes : AttrCache) (hints : DirHints) (c : Content) : Type 0 where
   pub listed : AreTrue names c
   pub shown : AreShown attributes c
+  pub full : AreFull hints c
 
 -- what was found is found still
 abbrev pub KeepsNames : Content → Content → Type 0

@@ -8,6 +8,7 @@ ghost use Rattle.lfs_types.specs.Stored.{bytes_of, shown_attrs};
 ghost use Rattle.lfs_types.specs.Tree.{Content, file_of};
 ghost use Rattle.lfs_dirs.specs.Directory.{IsDirectoryBlock};
 ghost use Rattle.lfs_dirs.specs.Reading.{entries_of};
+ghost use Rattle.lfs_dirhints.specs.Says.{IsFullBefore};
 ghost use Rattle.lfs_model.specs.World.{child};
 ghost use Rattle.lfs_model.specs.Rules.{Judges, judged, making, making_tests};
 ghost use Rattle.lfs_calls.specs.Calls.{ChangesTo, IsCall};
@@ -23,6 +24,7 @@ use crate::walking::{Reached, component, last_name, reach};
 use lfs_checks::asking::ask;
 use lfs_checks::names::{may_enter, may_search};
 use lfs_checks::site::Site;
+use lfs_dirhints::Hint;
 use lfs_dirs::added;
 use lfs_types::answer::{Resource, Served};
 use lfs_types::attrs::{Attrs, Kind};
@@ -95,7 +97,7 @@ fn may_make<F: FileStore>(
 
 /// The first block of a directory that has room for a new entry, with that entry, else a new block at the end; None
 /// where the directory has all the blocks that it may have. The block `taken`, if there is one, is read in place of
-/// the stored one.
+/// the stored one; without one, blocks that are known to have no room are passed over.
 pub(crate) fn find_room<F: FileStore>(
     store: &mut Tree<F>,
     dir: u32,
@@ -114,18 +116,52 @@ pub(crate) fn find_room<F: FileStore>(
     ensures state { F.state store.new ≡ F.state store.old }
 {
     let block_size = BLOCK_SIZE as u64;
-    for k in 0..size / block_size {
+    let first = first_to_try(store, dir, taken, name);
+    for k in first..size / block_size {
         let off = block_size * k;
         let block = seen_block(store, dir, off, taken);
         if let Some(block) = added(&block, name, number) {
+            keep_hint(store, dir, taken, k, name);
             return Some(Room { off, block });
         }
     }
     if size == FILE_BYTES {
         return None;
     }
+    keep_hint(store, dir, taken, size / block_size, name);
     let block = lone_entry(name, number);
     Some(Room { off: size, block })
+}
+
+/// The index of a block of a directory before which a name fits in none: by the directory's hint, where no block is read
+/// in place of a stored one and the name is no shorter than the hint's.
+fn first_to_try<F: FileStore>(store: &Tree<F>, dir: u32, taken: Option<&Room>, name: &Name) -> u64
+    ensures { IsFullBefore (with_block (bytes_of (F.state store.now).content dir) taken.entry)
+        (record { block = result; length = length name.now }) }
+{
+    match store.hint(dir) {
+        Some(hint) if taken.is_none() && hint.length <= name.as_bytes().len() => hint.block,
+        _ => 0,
+    }
+}
+
+/// Keeps in mind that a name fits in none of the first blocks of a directory, as many as `block`, where no block is read
+/// in place of a stored one.
+fn keep_hint<F: FileStore>(
+    store: &mut Tree<F>,
+    dir: u32,
+    taken: Option<&Room>,
+    block: u64,
+    name: &Name,
+)
+    requires { IsFullBefore (with_block (bytes_of (F.state store.old).content dir) taken)
+        (record { block = block; length = length name.now }) }
+    ensures { F.state store.new ≡ F.state store.old }
+{
+    if taken.is_none() {
+        let length = name.as_bytes().len();
+        store.enter_hint(dir, Hint { block, length });
+    }
 }
 
 /// The block of a directory that begins at byte `off`: that in `taken` if it begins there, else the stored one.

@@ -1,4 +1,5 @@
-//! A store with a cache of the names that its directories list, and one of the attributes that its files show.
+//! A store with a cache of the names that its directories list, one of the attributes that its files show, and hints of
+//! where its directories have room.
 
 ghost use Rattle.std.specs.Prelude.{◌≡◌, [], length, IsSome, IfOk, IfSome, OnOk};
 ghost use Rattle.std.specs.FinMap.{get};
@@ -6,6 +7,7 @@ ghost use Rattle.lfs_types.specs.Changes.{CanApply, applied};
 ghost use Rattle.lfs_types.specs.StoreStates.{Applies};
 ghost use Rattle.lfs_types.specs.Stored.{shown_attrs, bytes_of, slice_of, Reads, IsLeastFree};
 ghost use Rattle.lfs_attrcache.specs.Says.{AreShown};
+ghost use Rattle.lfs_dirhints.specs.Says.{AreFull, IsFullBefore};
 ghost use Rattle.lfs_model.specs.World.{child};
 ghost use Rattle.lfs_dirs.specs.Directory.{number_in};
 ghost use Rattle.lfs_calls.specs.Content.{IsDirectoryAt, listed};
@@ -13,6 +15,7 @@ ghost use Rattle.lfs_calls.specs.Names.{FindsNew, IsFound, KeepsNames, MovesName
 ghost use Rattle.lfs_calls.specs.Volumes.{InWorld};
 
 use lfs_attrcache::AttrCache;
+use lfs_dirhints::{DirHints, Hint};
 use lfs_namecache::NameCache;
 use lfs_types::attrs::Attrs;
 use lfs_types::name::Name;
@@ -20,14 +23,16 @@ use lfs_types::store::{Change, FileStore, StoreRefusal};
 use std::alloc::{AllocError, Global};
 use std::marker::Model;
 
-/// A store, and caches of names and of attributes. Contracts see the store alone. The type keeps that what is said of a name
-/// of a directory is what the directory lists, and so, in each world that the store shows, the row that hangs there; and that
-/// what is said of a number is what the store shows.
+/// A store, caches of names and of attributes, and hints of directories. Contracts see the store alone. The type keeps
+/// that what is said of a name of a directory is what the directory lists, and so, in each world that the store shows, the
+/// row that hangs there; that what is said of a number is what the store shows; and that a directory has no room before
+/// the block of its hint.
 #[derive(Drop)]
 pub struct Tree<F: FileStore> {
     pub(crate) store: F,
     names: NameCache,
     attributes: AttrCache,
+    hints: DirHints,
 }
 
 impl<F: FileStore> Model for Tree<F> {
@@ -37,7 +42,7 @@ impl<F: FileStore> Model for Tree<F> {
 
     ghost view = { λ t. t.store };
 
-    ghost invariant = { λ t. AreKnown t.names t.attributes (F.state t.store).content };
+    ghost invariant = { λ t. AreKnown t.names t.attributes t.hints (F.state t.store).content };
 }
 
 impl<F: FileStore + Drop> Tree<F> {
@@ -47,10 +52,12 @@ impl<F: FileStore + Drop> Tree<F> {
     {
         let names = NameCache::new(alloc)?;
         let attributes = AttrCache::new(alloc)?;
+        let hints = DirHints::new(alloc)?;
         Ok(Tree {
             store,
             names,
             attributes,
+            hints,
         })
     }
 }
@@ -138,6 +145,21 @@ impl<F: FileStore> Tree<F> {
         self.names.enter(dir, name, found);
     }
 
+    /// Before which block a directory has no room for names of a length, if that is known.
+    pub(crate) fn hint(&self, dir: u32) -> Option<Hint>
+        ensures { IfSome result (IsFullBefore (bytes_of (F.state self.now).content dir)) }
+    {
+        self.hints.look(dir)
+    }
+
+    /// Keeps in mind before which block a directory has no room.
+    pub(crate) fn enter_hint(&mut self, dir: u32, hint: Hint)
+        requires { IsFullBefore (bytes_of (F.state self.old).content dir) hint }
+        ensures { self.new ≡ self.old }
+    {
+        self.hints.enter(dir, hint);
+    }
+
     /// Makes all the changes, in order, or none of them. They leave each name that a directory lists.
     pub(crate) fn apply(&mut self, changes: &[Change<'_>]) -> Result<(), StoreRefusal>
         requires can { CanApply (F.state self.old).shape.numbers changes.now
@@ -146,7 +168,12 @@ impl<F: FileStore> Tree<F> {
             (applied changes.now (F.state self.old).content) }
         ensures { Applies (F.state self.old) changes.now result (F.state self.new) }
     {
-        apply_followed(&mut self.store, &mut self.attributes, changes)
+        apply_followed(
+            &mut self.store,
+            &mut self.attributes,
+            &mut self.hints,
+            changes,
+        )
     }
 
     /// Makes changes as `apply` does, after which something else is found under a name of a directory.
@@ -163,7 +190,12 @@ impl<F: FileStore> Tree<F> {
             (applied changes.now (F.state self.old).content) dir name.now found }
         ensures { Applies (F.state self.old) changes.now result (F.state self.new) }
     {
-        apply_followed(&mut self.store, &mut self.attributes, changes)?;
+        apply_followed(
+            &mut self.store,
+            &mut self.attributes,
+            &mut self.hints,
+            changes,
+        )?;
         self.names.enter(dir, name, found);
         Ok(())
     }
@@ -184,17 +216,24 @@ impl<F: FileStore> Tree<F> {
             from.0 from.1.now to.0 to.1.now number }
         ensures { Applies (F.state self.old) changes.now result (F.state self.new) }
     {
-        apply_followed(&mut self.store, &mut self.attributes, changes)?;
+        apply_followed(
+            &mut self.store,
+            &mut self.attributes,
+            &mut self.hints,
+            changes,
+        )?;
         self.names.enter(from.0, from.1, None);
         self.names.enter(to.0, to.1, Some(number));
         Ok(())
     }
 }
 
-/// Makes changes as a store does, and follows them where they were made: what was known of attributes is so still.
+/// Makes changes as a store does, and follows them where they were made: what was known of attributes and of room is so
+/// still.
 fn apply_followed<F: FileStore>(
     store: &mut F,
     attributes: &mut AttrCache,
+    hints: &mut DirHints,
     changes: &[Change<'_>],
 ) -> Result<(), StoreRefusal>
     requires { CanApply (F.state store.old).shape.numbers changes.now
@@ -202,8 +241,11 @@ fn apply_followed<F: FileStore>(
     ensures applies { Applies (F.state store.old) changes.now result (F.state store.new) }
     ensures shown { AreShown attributes.old (F.state store.old).content
         → AreShown attributes.new (F.state store.new).content }
+    ensures full { AreFull hints.old (F.state store.old).content
+        → AreFull hints.new (F.state store.new).content }
 {
     store.apply(changes)?;
     attributes.follow(changes);
+    hints.follow(changes);
     Ok(())
 }

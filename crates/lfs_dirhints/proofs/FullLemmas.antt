@@ -51,10 +51,6 @@ length-spliced old off (b ∷ bs) =
 
 -- ---- a directory's bytes
 
--- no bytes have a block
-pub full_nowhere : (bytes : List ℕ) (hint : Hint) → hint.block ≡ 0 → IsFullBefore bytes hint
-full_nowhere bytes hint none = record { within = omega (arith, none); full = λ k before. absurd (omega arith) }
-
 -- what is known of blocks is known of fewer
 pub full_lowered : (bytes : List ℕ) (old new : Hint) → IsLowered old new → IsFullBefore bytes old → IsFullBefore bytes new
 full_lowered bytes old new lowered was = record {
@@ -92,10 +88,6 @@ full_entered old new c dir hint entered others is = full_put old new dir c c oth
     let same : Some hint ≡ Some h = kept_only (nat_lt dir 4096) (Some hint) h (sym entered ∙ said) in
     let one : hint ≡ h = cc in
     subst (IsFullBefore (bytes_of c dir)) one is)
-
--- where nothing is said, it is true
-pub full_unsaid : (hints : DirHints) (c : Content) → ((dir : ℕ) → says hints dir ≡ None) → AreFull hints c
-full_unsaid hints c none dir h said = let nothing = none dir in absurd (cc)
 
 module _ (c : Content) (ino : ℕ) where
   -- a change at a number leaves the others

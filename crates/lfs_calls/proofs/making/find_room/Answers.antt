@@ -1,4 +1,4 @@
-use Rattle.std.proofs.Common.{◌≡◌, ◌<◌, ◌/◌, ◌%◌, [], ◌∷◌, ◌++◌, length, sym, ap, subst, ◌∙◌, arith}
+use Rattle.std.proofs.Common.{◌≡◌, ◌<◌, ◌/◌, ◌%◌, [], ◌∷◌, ◌++◌, length, refl, sym, ap, subst, ◌∙◌, arith}
 use Rattle.std.proofs.lemmas.Grind.{common_steps}
 use Rattle.lfs_calls.proofs.StateLemmas.{same_content}
 use Rattle.lfs_types.specs.Stored.{bytes_of}
@@ -6,9 +6,31 @@ use Rattle.lfs_dirs.specs.Directory.{number_in, IsDirectoryBlock}
 use Rattle.lfs_dirs.specs.Reading.{entries_of}
 use Rattle.lfs_calls.specs.Content.{block_at}
 use Rattle.lfs_calls.specs.Makes.{with_block}
+use Rattle.lfs_dirhints.specs.Says.{IsFullBefore}
+use Rattle.lfs_calls.proofs.HintLemmas.{full_before}
 use Rattle.lfs_calls.proofs.Listings.{absent_in_block, none_at_end}
 use Rattle.lfs_calls.proofs.WithBlock.{length-with_block}
 use Rattle.lfs_calls.proofs.making.find_room.Goals as goal
+
+pub loop-k-init : goal.loop-k-init
+loop-k-init g c = record { full = c.first_to_try-first.ensures.full; state = refl }
+
+pub keep_hint-requires : goal.keep_hint-requires
+keep_hint-requires g c =
+    let stored = bytes_of (g.F.FileStore.state c.args.store.now).content c.args.dir in
+    let size : length (with_block stored c.args.taken) ≡ c.args.size = length-with_block stored c.args.taken c.args.size c.requires.stands c.requires.stored.sized c.requires.stored.whole in
+    let within = c.loop-k-test.true in
+    subst (λ x. IsFullBefore (with_block (bytes_of x c.args.dir) c.args.taken) (record { block = c.loop-k.k; length = length c.args.name.now }))
+    (sym (same_content (c.seen_block-block.ensures.state ∙ c.loop-k.invariant.state)))
+    (full_before (with_block stored c.args.taken) c.loop-k.k c.args.size (length c.args.name.now) size (omega arith) c.loop-k.invariant.full)
+
+pub keep_hint-requires-2 : goal.keep_hint-requires-2
+keep_hint-requires-2 g c =
+    let stored = bytes_of (g.F.FileStore.state c.args.store.now).content c.args.dir in
+    let size : length (with_block stored c.args.taken) ≡ c.args.size = length-with_block stored c.args.taken c.args.size c.requires.stands c.requires.stored.sized c.requires.stored.whole in
+    subst (λ x. IsFullBefore (with_block (bytes_of x c.args.dir) c.args.taken) (record { block = c.args.size / 512; length = length c.args.name.now }))
+    (sym (same_content c.loop-k.invariant.state))
+    (full_before (with_block stored c.args.taken) (c.args.size / 512) c.args.size (length c.args.name.now) size (omega arith) (λ j before. c.loop-k.invariant.full j (omega (arith, before, c.loop-k-test.false))))
 
 pub added-requires-clause-new_name : goal.added-requires-clause-new_name
 added-requires-clause-new_name g c =

@@ -13,4 +13,5 @@ invariant_of-self g c =
       listed = after_changes (AreTrue c.self.inside.names) c.apply_followed.result s _ (g.F.FileStore.state c.apply_followed.new.store).content made.ok made.err
           c.self.invariant.listed (true_kept c.self.inside.names s _ c.self.invariant.listed keeps);
       shown = c.apply_followed.ensures.shown c.self.invariant.shown;
+      full = c.apply_followed.ensures.full c.self.invariant.full;
     }

@@ -16,4 +16,5 @@ invariant_of-self-2 g c =
       listed = true_moved c.self.inside.names c.enter.new.self c.enter-2.new.self s (g.F.FileStore.state c.apply_followed.new.store).content from.0 from.1.now to.0 to.1.now c.args.number
           c.enter.ensures.entered c.enter.ensures.others c.enter-2.ensures.entered c.enter-2.ensures.others moves c.self.invariant.listed;
       shown = c.in_ok-apply_followed.ensures.shown c.self.invariant.shown;
+      full = c.in_ok-apply_followed.ensures.full c.self.invariant.full;
     }

@@ -14,4 +14,5 @@ invariant_of-self-2 g c =
       listed = true_named c.self.inside.names c.enter.new.self s (g.F.FileStore.state c.apply_followed.new.store).content c.args.dir c.args.name.now c.args.found
           c.enter.ensures.entered c.enter.ensures.others finds c.self.invariant.listed;
       shown = c.in_ok-apply_followed.ensures.shown c.self.invariant.shown;
+      full = c.in_ok-apply_followed.ensures.full c.self.invariant.full;
     }

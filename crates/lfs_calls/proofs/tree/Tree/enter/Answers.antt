@@ -10,4 +10,5 @@ invariant_of-self g c =
     record {
       listed = true_entered c.self.inside.names c.enter.new.self s c.args.dir c.args.name.now c.args.found c.enter.ensures.entered c.enter.ensures.others is c.self.invariant.listed;
       shown = c.self.invariant.shown;
+      full = c.self.invariant.full;
     }
