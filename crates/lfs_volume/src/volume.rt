@@ -71,7 +71,7 @@ impl<F: FileStore + Drop> Model for Volume<F> {
 
 impl<F: FileStore + Drop> Volume<F> {
     /// A volume over a store that shows the tree of a fresh volume, in whatever blocks, with room for `journal_limit` entries
-    /// and for the names that it will know.
+    /// and for the names and the attributes that it will know.
     pub fn new(alloc: Global, store: F, journal_limit: u32) -> Result<Volume<F>, AllocError>
         requires { Shows (F.state store).content opening_world }
         ensures { IfOk result (λ v. v ≡ record
