@@ -133,8 +133,8 @@ pub(crate) fn find_room<F: FileStore>(
     Some(Room { off: size, block })
 }
 
-/// The index of a block of a directory before which a name fits in none: by the directory's hint, where no block is read
-/// in place of a stored one and the name is no shorter than the hint's.
+/// The index of a block of a directory before which a name fits in none: that of the directory's hint, where no block is
+/// read in place of a stored one and the name is no shorter than the hint's.
 fn first_to_try<F: FileStore>(store: &Tree<F>, dir: u32, taken: Option<&Room>, name: &Name) -> u64
     ensures { IsFullBefore (with_block (bytes_of (F.state store.now).content dir) taken.entry)
         (record { block = result; length = length name.now }) }
@@ -145,8 +145,8 @@ fn first_to_try<F: FileStore>(store: &Tree<F>, dir: u32, taken: Option<&Room>, n
     }
 }
 
-/// Keeps in mind that a name fits in none of the first blocks of a directory, as many as `block`, where no block is read
-/// in place of a stored one.
+/// Keeps in mind that a name fits in none of the first `block` blocks of a directory, where no block is read in place of
+/// a stored one.
 fn keep_hint<F: FileStore>(
     store: &mut Tree<F>,
     dir: u32,

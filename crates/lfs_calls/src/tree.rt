@@ -24,9 +24,9 @@ use std::alloc::{AllocError, Global};
 use std::marker::Model;
 
 /// A store, caches of names and of attributes, and hints of directories. Contracts see the store alone. The type keeps
-/// that what is said of a name of a directory is what the directory lists, and so, in each world that the store shows, the
-/// row that hangs there; that what is said of a number is what the store shows; and that a directory has no room before
-/// the block of its hint.
+/// that what is said of a name of a directory is what the directory lists, and so, in each world that the store shows,
+/// the row that hangs there; that what is said of a number is what the store shows; and that a directory has no room
+/// before the block of its hint.
 #[derive(Drop)]
 pub struct Tree<F: FileStore> {
     pub(crate) store: F,

@@ -1,4 +1,4 @@
-//! Hints of where a directory has room (4.4BSD's in-core inodes and their `i_diroff`): before which block there is none.
+//! Hints of where a directory has room (4.4BSD's in-core inodes, `i_diroff`): before which block there is none.
 #![tactic(auto)]
 
 mod following;
