@@ -4,7 +4,7 @@
 use super::cleaning::{Tried, empty_segment, is_dirty, mark, root, try_to_clean};
 use super::run;
 use crate::tests::scripts::log::{push_byte, push_number};
-use crate::tests::{expect_answers, expect_eq, fresh, push};
+use crate::tests::{expect_answers, expect_eq, fresh, push, repeated};
 use lfs_logstore::LogStore;
 use lfs_types::cleaner::{BlockInfo, CleanerCall, InfoList};
 use lfs_types::path::Path;
@@ -301,4 +301,54 @@ fn eight_blocks_under_eight_children_are_marked_at_once(rt: HostRuntime) {
     let script = "session 3\nread /f 6143 3\nread /f 530431 9\n";
     let wanted = "3 bytes 00b000\n3 bytes 0007\n";
     run(&rt, rt.alloc(), &mut volume, script, wanted);
+}
+
+/// A byte is written in each of six blocks of `/f` that the single indirect block leads to.
+const SIX: &str = "\
+session 3
+create /f 0644
+write /f at 6144 b0
+write /f at 6656 b1
+write /f at 7168 b2
+write /f at 7680 b3
+write /f at 8192 b4
+write /f at 8704 b5
+sync
+";
+
+/// These six blocks.
+fn in_the_single_block() -> [BlockInfo; 6] {
+    [
+        block(12),
+        block(13),
+        block(14),
+        block(15),
+        block(16),
+        block(17),
+    ]
+}
+
+/// Has these blocks written again, over and over, until that opens a segment, and gives how often it took.
+fn marks_to_open(rt: &impl Abort, volume: &mut Volume<LogStore>, blocks: &[BlockInfo]) -> usize {
+    let clean = volume.clean_segments();
+    for marks in 1..64 {
+        let infos = located(rt, volume, blocks);
+        expect_eq(rt, mark(rt, volume, infos.items()), 6);
+        if volume.clean_segments() < clean {
+            return marks;
+        }
+    }
+    panic!(rt; "no segment was opened")
+}
+
+/// Six data blocks, their indirect block, a record and a summary are nine blocks, and a segment has room for 63.
+#[test]
+fn six_blocks_in_one_indirect_block_fill_a_segment_seven_times(rt: HostRuntime) {
+    let mut volume = fresh(&rt, rt.alloc(), ROOMY);
+    let wanted = repeated(&rt, rt.alloc(), "3 ok\n", 8);
+    run(&rt, rt.alloc(), &mut volume, SIX, wanted.as_str());
+    let blocks = in_the_single_block();
+    expect_eq(&rt, marks_to_open(&rt, &mut volume, &blocks) > 0, true);
+    expect_eq(&rt, marks_to_open(&rt, &mut volume, &blocks), 7);
+    expect_eq(&rt, marks_to_open(&rt, &mut volume, &blocks), 7);
 }
