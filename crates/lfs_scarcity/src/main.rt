@@ -1,20 +1,27 @@
 //! Does one thing after so many allocations as its first line says, and prints what came of it: for runs in which one
-//! allocation fails. The first line is `SPEND WORD`; the script that the word `run` or `script` wants stands behind it.
+//! allocation fails. The first line is `SPEND WORD`; the script that a word wants that runs or parses one stands behind it.
 //! Nothing here knows which allocation fails. Where a call is refused for want of memory it is made again.
 #![tactic(auto)]
 
+mod asked;
 mod formats;
+mod looking;
 mod parses;
+mod sessions;
+mod shows;
+mod texts;
 mod told;
+mod volumes;
 mod word;
 
-use lfs_audit::fault::ThreadsFault;
 use lfs_audit::run::run_script;
 use lfs_audit::tell::tell;
 use lfs_types::store::Params;
 use std::alloc::{AllocError, Global};
 use std::io::{Read, Write};
 use std::process::ExitCode;
+use std::sync::Wait;
+use std::thread::Threads;
 use word::{Word, first_line};
 
 /// The numbers of the volume.
@@ -40,7 +47,7 @@ fn main(rt: HostRuntime) -> ExitCode {
         let _ = stdout.write(b"spent\n");
         return ExitCode::from(3);
     };
-    do_word(alloc, word, &mut stdin, &mut stdout);
+    do_word(&rt, alloc, word, &mut stdin, &mut stdout);
     drop(kept);
     ExitCode::SUCCESS
 }
@@ -56,15 +63,27 @@ fn spend(alloc: Global, count: u32) -> Result<Vec<Vec<u8>>, AllocError> {
 }
 
 /// Does what a word says.
-fn do_word<R: Read, W: Write>(alloc: Global, word: Word, reader: &mut R, writer: &mut W) {
+fn do_word<S, R, W>(rt: &S, alloc: Global, word: Word, reader: &mut R, writer: &mut W)
+where
+    S: Threads + Wait + Sync,
+    R: Read,
+    W: Write,
+{
     match word {
         Word::Run => run(alloc, reader, writer),
+        Word::Threads => sessions::threads(rt, alloc, reader, writer),
+        Word::Serve => sessions::serve_and_settle(rt, alloc, reader, writer),
         Word::Frames => formats::frames(alloc, writer),
         Word::Cache => formats::cache(alloc, writer),
         Word::Formats => formats::formats(alloc, writer),
         Word::Names => parses::names(alloc, writer),
         Word::Paths => parses::paths(alloc, writer),
         Word::Script => parses::script(alloc, reader, writer),
+        Word::Copies => texts::copies(alloc, writer),
+        Word::Volume => volumes::volumes(alloc, writer),
+        Word::Shows => shows::shows(alloc, writer),
+        Word::Plain => shows::changes(alloc, writer),
+        Word::Texts => texts::texts(alloc, writer),
     }
 }
 
@@ -81,7 +100,7 @@ fn run<R: Read, W: Write>(alloc: Global, reader: &mut R, writer: &mut W) {
             let _ = writer.write(b"done\n");
         }
         Err(fault) => {
-            let _ = tell(writer, &ThreadsFault::Run(fault));
+            let _ = tell(writer, &fault);
         }
     }
 }

@@ -1,4 +1,4 @@
-//! A line for what came of a call.
+//! Lines for what came of a call.
 
 use std::fmt::Debug;
 use std::io::Write;
@@ -9,14 +9,38 @@ pub fn told<T: Drop, E: Debug + Drop, W: Write>(
     what: &str,
     given: Result<T, E>,
 ) -> bool {
+    kept(writer, what, given).is_none()
+}
+
+/// The same, but hands out what was given.
+pub fn kept<T, E: Debug + Drop, W: Write>(
+    writer: &mut W,
+    what: &str,
+    given: Result<T, E>,
+) -> Option<T> {
     match given {
-        Ok(_) => {
+        Ok(value) => {
             let _ = writeln!(writer, "{what} ok");
-            false
+            Some(value)
         }
         Err(error) => {
             let _ = writeln!(writer, "{what} {error:?}");
-            true
+            None
+        }
+    }
+}
+
+/// The same, but writes nothing of what was given: what is asked for is only a step on the way.
+pub fn on_the_way<T, E: Debug + Drop, W: Write>(
+    writer: &mut W,
+    what: &str,
+    given: Result<T, E>,
+) -> Option<T> {
+    match given {
+        Ok(value) => Some(value),
+        Err(error) => {
+            let _ = writeln!(writer, "{what} {error:?}");
+            None
         }
     }
 }

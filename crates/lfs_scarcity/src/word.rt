@@ -7,6 +7,10 @@ use std::io::Read;
 pub enum Word {
     /// The script behind the first line is run.
     Run,
+    /// The same with its sessions on threads.
+    Threads,
+    /// Its sessions are served, and the run is settled.
+    Serve,
     /// Frames are made.
     Frames,
     /// Caches are made.
@@ -19,17 +23,34 @@ pub enum Word {
     Paths,
     /// The script behind the first line is parsed.
     Script,
+    /// Requests and answers are copied.
+    Copies,
+    /// Volumes are made, and runs of calls and of steps on them.
+    Volume,
+    /// A Read, a List and the bytes of the ifile are asked for.
+    Shows,
+    /// Files of the plain store are changed.
+    Plain,
+    /// Plans are split, and answers, a cleaner's and reports are printed.
+    Texts,
 }
 
 /// Each word as it is spelled.
-const WORDS: [(&[u8], Word); 7] = [
+const WORDS: [(&[u8], Word); 14] = [
     (b"run", Word::Run),
+    (b"threads", Word::Threads),
+    (b"serve", Word::Serve),
     (b"frames", Word::Frames),
     (b"cache", Word::Cache),
     (b"formats", Word::Formats),
     (b"names", Word::Names),
     (b"paths", Word::Paths),
     (b"script", Word::Script),
+    (b"copies", Word::Copies),
+    (b"volume", Word::Volume),
+    (b"shows", Word::Shows),
+    (b"plain", Word::Plain),
+    (b"texts", Word::Texts),
 ];
 
 /// The most bytes of a first line that are read.

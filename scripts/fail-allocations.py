@@ -1,0 +1,291 @@
+#!/usr/bin/env python3
+"""Lets one allocation of each thing that lfs_scarcity does fail, the first, the second and so on, and judges what came of it.
+
+fail-allocations.py [--most N] [--every K] [WORD..] does so for these words of the program, or for all that it knows. With
+--most only the first N allocations of each word are let fail, with --every only each K-th. RT names the command to run in
+place of `rt`.
+
+A case is one word with one allocation that fails. `rt try` can let one alone fail, the same of each case, so a case spends
+as many before its word as it takes to come to it: the program reads how many. The program is built twice, once to see what
+each word prints and how many allocations it takes with ample memory, and once for all cases. Of each case the script asks
+
+- that the run ends with status 0, alike on the interpreter and compiled (on threads compiled alone);
+- of `run`, that it prints what it prints with ample memory, or that a Read is refused NoMemory, left out of the report
+  and nothing else is, or one line: `no memory`, `script line N: Memory` or `format Memory`;
+- of `threads` and `serve` the same, also of a List and with `serve Thread`; what the cleaner did is not compared, since it
+  depends on who is first, and a ring may be lost;
+- of each other word, that the lines are those with ample memory, but that at most one is the named refusal of what was asked
+  for; that the volume then is as it was before (the lines that look at it say so); and that the same, asked for again, is
+  answered as with ample memory.
+
+A word is done where each of its allocations failed once, and so did three more, which it doesn't make. The status is 1
+where a case is another, or no allocation of a word was refused.
+"""
+import argparse
+import os
+import re
+import subprocess
+import sys
+import tempfile
+import time
+
+CRATE = os.path.join(os.path.dirname(os.path.abspath(__file__)), "..", "crates", "lfs_scarcity")
+
+# More than the program spends at most.
+NEVER = 100_000
+# Allocations of the program itself, before and behind those that are spent: the vector that keeps them; of the words that
+# run a script the room of the writer too.
+OWN = 1
+OWN_OF_RUNS = 2
+# Allocations behind the last that a word makes, which are let fail too.
+BEHIND = 3
+
+RUN = """as 0 0
+create /a 0644
+write /a at 0 616263
+as 5 5
+read /a 0 10
+write /a at 0 64
+"""
+
+LINES = """# all kinds
+as 7 7,8,9
+stat /a
+create /a 0644
+read /a 0 10
+write /a at 0 616263
+write /a end 64
+list /
+length /a 9
+mkdir /d 0755
+unlink /a
+rmdir /d
+rename /a /nnnnnnnnnnnnnnnnnnnnnnnnn
+chmod /a 0600
+chown /a 7 8
+chflags /a 2
+level 1
+sync
+session 3
+ifile
+infos 0
+segclean 0
+bmapv 4:1:0:0
+markv 4:1:0:0
+pass
+"""
+
+SESSIONS = (
+    "mkdir /x 0777\nmkdir /y 0777\ncreate /w 0644\n"
+    + "write /w at 0 61\nsync\n" * 40
+    + """session 1
+as 7 7
+create /x/a 0644
+write /x/a end 6869
+read /x/a 0 9
+list /x
+session 2
+as 8 8
+create /y/b 0600
+write /y/b end 6f
+read /y/b 0 1
+write /w at 0 62
+"""
+)
+
+# The words, and the script behind each.
+SCRIPTS = {
+    "names": "",
+    "paths": "",
+    "frames": "",
+    "cache": "",
+    "formats": "",
+    "script": LINES,
+    "copies": "",
+    "volume": "",
+    "shows": "",
+    "plain": "",
+    "texts": "",
+    "run": RUN,
+    "threads": SESSIONS,
+    "serve": SESSIONS,
+}
+ON_THREADS = {"threads", "serve"}
+RUNS = ON_THREADS | {"run"}
+
+FAULT = re.compile(r"lfsd: (no memory|format Memory|script line [0-9]+: Memory)$")
+FAULT_ON_THREADS = re.compile(r"lfsd: (no memory|format Memory|serve Thread|script line [0-9]+: Memory)$")
+# A refusal: what was asked for, and why it was not given.
+REFUSAL = re.compile(
+    r"([a-z-]+) (AllocError|Memory|NoMemory|RunMemory|ScriptFault \{ line: [0-9]+, kind: Memory \})$")
+# What is asked for on the way, of which nothing is printed where it is given.
+ON_THE_WAY = {"calls", "script", "request", "answer"}
+# The lines that look at a volume.
+LOOKS = ("look ", "entries ")
+SHOWN = re.compile(r"([0-9]+) (bytes|names) ")
+
+
+def tried(cases, failing):
+    """Runs `rt try` on cases, names with inputs, and gives of each its text, its ending and its allocations, and how it ended."""
+    with tempfile.TemporaryDirectory() as folder:
+        for name, text in cases.items():
+            with open(os.path.join(folder, name), "w", encoding="ascii") as file:
+                file.write(text)
+        command = [os.environ.get("RT", "rt"), "try", "--fail-alloc", str(failing), "--cases", folder]
+        done = subprocess.run(command, cwd=CRATE, stdout=subprocess.PIPE, stderr=subprocess.STDOUT, check=False)
+    found = {}
+    name, lines, count = None, [], None
+    last = ""
+    for line in done.stdout.decode("utf-8", "replace").splitlines():
+        last = line
+        if line.startswith("== "):
+            name, lines, count = line[3:], [], None
+        elif line.startswith("allocations: "):
+            count = int(line.rsplit(" ", 1)[1])
+        elif line.startswith("case="):
+            found[name] = (lines, line, count)
+            name = None
+        elif name is not None:
+            lines.append(line)
+    if len(found) != len(cases):
+        sys.exit(done.stdout.decode("utf-8", "replace")[-4000:] + "rt try told of %d of %d cases" % (len(found), len(cases)))
+    return found, last
+
+
+def has_ended(word, ending):
+    """Whether a case ended by itself, on both runners alike; the interpreter has no threads."""
+    runners = (1, 2) if word in ON_THREADS else (2,)
+    return any(" run=ended status=0 runners=%d " % count in ending for count in runners)
+
+
+def looks_at_end(lines):
+    """The lines at the end that look at a volume."""
+    start = len(lines)
+    while start and lines[start - 1].startswith(LOOKS):
+        start -= 1
+    return lines[start:]
+
+
+def is_refused_once(lines, ample):
+    """Whether lines are the ample ones but for one refusal, at its place, and the looks behind it."""
+    for place in range(len(ample) + 1):
+        if lines[:place] != ample[:place]:
+            return False
+        if place == len(lines):
+            return False
+        refusal = REFUSAL.match(lines[place])
+        if refusal is None:
+            continue
+        what = refusal.group(1)
+        is_asked = place < len(ample) and ample[place].split(" ")[0] == what
+        if not is_asked and what not in ON_THE_WAY:
+            continue
+        behind = lines[place + 1:]
+        looks = looks_at_end(ample[:place])
+        if behind == ample[place:] or (looks and behind == looks + ample[place:]):
+            return True
+    return False
+
+
+def without_shown(lines, ample):
+    """The ample lines of a run, with that line refused for want of memory that is refused in these; the report without it."""
+    for place, line in enumerate(ample[:len(lines)]):
+        shown = SHOWN.match(line)
+        if shown and lines[place] == shown.group(1) + " refused NoMemory":
+            changed = list(ample)
+            changed[place] = lines[place]
+            return [less_one(line) if line.startswith(("entries ", "served ")) else line for line in changed]
+    return None
+
+
+def less_one(line):
+    """A line of the report, with one less."""
+    word, number = line.split(" ")
+    return "%s %d" % (word, int(number) - 1)
+
+
+def masked(lines):
+    """Lines without how many entries there are and how many of them are the cleaner's."""
+    return [line for line in lines if not line.startswith(("entries ", "cleaner "))]
+
+
+def is_run(word, lines, ample):
+    """Whether lines are those of a run that was refused memory once: a fault, or a call that shows something refused."""
+    fault = FAULT_ON_THREADS if word in ON_THREADS else FAULT
+    if len(lines) == 1 and fault.match(lines[0]):
+        return True
+    other = without_shown(lines, ample)
+    if other is None:
+        return False
+    return masked(lines) == masked(other) if word in ON_THREADS else lines == other
+
+
+def judged(word, lines, ample):
+    """`same`, `refused` or `other`."""
+    if lines == ample or (word in ON_THREADS and masked(lines) == masked(ample)):
+        return "same"
+    if word in RUNS:
+        return "refused" if is_run(word, lines, ample) else "other"
+    return "refused" if is_refused_once(lines, ample) else "other"
+
+
+def has_refusal(lines):
+    """Whether a line is a refusal or a fault."""
+    return any(REFUSAL.match(line) or FAULT_ON_THREADS.match(line) for line in lines)
+
+
+def measured(words):
+    """What each word prints with ample memory, and how many allocations it makes."""
+    found, _ = tried({word: "0 %s\n%s" % (word, SCRIPTS[word]) for word in words}, NEVER)
+    ample = {}
+    for word, (lines, ending, count) in found.items():
+        if not has_ended(word, ending) or has_refusal(lines) or not lines or count is None:
+            sys.exit("%s, with ample memory: %s\n%s" % (word, ending, "\n".join(lines)))
+        own = OWN_OF_RUNS if word in RUNS else OWN
+        ample[word] = (lines, count - own)
+    return ample
+
+
+def main():
+    parser = argparse.ArgumentParser()
+    parser.add_argument("--most", type=int, default=NEVER)
+    parser.add_argument("--every", type=int, default=1)
+    parser.add_argument("words", nargs="*", metavar="WORD", help=", ".join(SCRIPTS))
+    asked = parser.parse_args()
+    words = asked.words or list(SCRIPTS)
+    unknown = [word for word in words if word not in SCRIPTS]
+    if unknown:
+        parser.error("no such word: " + ", ".join(unknown))
+    begun = time.monotonic()
+    ample = measured(words)
+    room = {word: min(count + BEHIND, asked.most) for word, (_, count) in ample.items()}
+    # Which allocation of a case fails: those before it are spent, or the word's.
+    failing = max(room.values()) + OWN_OF_RUNS + 1
+    cases = {}
+    for word in words:
+        own = OWN_OF_RUNS if word in RUNS else OWN
+        for number in range(0, room[word], asked.every):
+            cases["%s-%04d" % (word, number)] = "%d %s\n%s" % (failing - 1 - own - number, word, SCRIPTS[word])
+    found, last = tried(cases, failing)
+    failed = False
+    tally = {word: {"same": 0, "refused": 0, "other": 0} for word in words}
+    for name, (lines, ending, _) in sorted(found.items()):
+        word = name.rsplit("-", 1)[0]
+        came = judged(word, lines, ample[word][0]) if has_ended(word, ending) else "other"
+        tally[word][came] += 1
+        if came == "other":
+            failed = True
+            print("%s: %s\n%s" % (name, ending, "\n".join(lines)))
+    for word in words:
+        counts = tally[word]
+        print("%s: %d allocations, %d cases, %d refused, %d the same, %d other"
+              % (word, ample[word][1], sum(counts.values()), counts["refused"], counts["same"], counts["other"]))
+        if not counts["refused"]:
+            failed = True
+            print("%s: no allocation was refused" % word)
+    print("%d cases in %d seconds; %s" % (len(cases), time.monotonic() - begun, last))
+    return 1 if failed else 0
+
+
+if __name__ == "__main__":
+    sys.exit(main())
