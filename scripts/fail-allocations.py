@@ -113,12 +113,45 @@ SCRIPTS = {
 ON_THREADS = {"threads", "serve"}
 RUNS = ON_THREADS | {"run"}
 
+NO_MEMORY = "lfsd: no memory"
 FAULT = re.compile(r"lfsd: (no memory|format Memory|script line [0-9]+: Memory)$")
 FAULT_ON_THREADS = re.compile(r"lfsd: (no memory|format Memory|serve Thread|script line [0-9]+: Memory)$")
 # A refusal: what was asked for, and why it was not given.
-REFUSAL = re.compile(
-    r"([a-z-]+) (AllocError|Memory|NoMemory|RunMemory|ScriptFault \{ line: [0-9]+, kind: Memory \})$")
-# What is asked for on the way, of which nothing is printed where it is given.
+SCRIPT_MEMORY = "ScriptFault { line: N, kind: Memory }"
+REFUSAL = re.compile(r"([a-z-]+) ([A-Z].*)$")
+LINE_NUMBER = re.compile(r"line: [0-9]+")
+# The refusals that are named for each thing asked for.
+NAMED = {
+    "name": ["Memory"],
+    "path": ["Memory"],
+    "script": [SCRIPT_MEMORY],
+    "calls": ["Script(%s)" % SCRIPT_MEMORY, "Memory"],
+    "request": ["AllocError"],
+    "answer": ["AllocError"],
+    "frames": ["AllocError"],
+    "cache": ["AllocError"],
+    "segments": ["Memory"],
+    "ifile": ["Memory"],
+    "log": ["Memory"],
+    "plain": ["Memory"],
+    "plain-volume": ["Format(Memory)", "Memory"],
+    "log-volume": ["Format(Memory)", "Memory"],
+    "run": ["RunMemory"],
+    "run-steps": ["RunMemory"],
+    "read": ["NoMemory"],
+    "list": ["NoMemory"],
+    "ifile-bytes": ["NoMemory"],
+    "split": ["Memory"],
+    "print": ["AllocError"],
+    "cleaner": ["AllocError"],
+    "report": ["AllocError"],
+    "counts": ["AllocError"],
+}
+# The changes of the plain store; over a log they take no memory.
+CHANGES_OF_PLAIN = ["create", "write", "length", "rename"]
+# Of the looks a Read alone takes memory.
+LOOK_THAT_SHOWS = "look bytes "
+# What is asked for on the way, of which nothing is printed where it is given, and behind which no volume is looked at.
 ON_THE_WAY = {"calls", "script", "request", "answer"}
 # The lines that look at a volume.
 LOOKS = ("look ", "entries ")
@@ -166,25 +199,33 @@ def looks_at_end(lines):
     return lines[start:]
 
 
-def is_refused_once(lines, ample):
+def refused(word, line, ample):
+    """What a line says was refused, where that is a refusal named for it; `ample` is the line of ample memory there."""
+    refusal = REFUSAL.match(line)
+    if refusal is None:
+        return None
+    what, why = refusal.groups()
+    named = NAMED.get(what, [])
+    if (word == "plain" and what in CHANGES_OF_PLAIN) or (what == "look" and ample.startswith(LOOK_THAT_SHOWS)):
+        named = ["NoMemory"]
+    is_asked = what in ON_THE_WAY or ample.split(" ")[0] == what
+    return what if is_asked and LINE_NUMBER.sub("line: N", why) in named else None
+
+
+def is_refused_once(word, lines, ample):
     """Whether lines are the ample ones but for one refusal, at its place, and the looks behind it."""
-    for place in range(len(ample) + 1):
-        if lines[:place] != ample[:place]:
-            return False
-        if place == len(lines):
-            return False
-        refusal = REFUSAL.match(lines[place])
-        if refusal is None:
-            continue
-        what = refusal.group(1)
-        is_asked = place < len(ample) and ample[place].split(" ")[0] == what
-        if not is_asked and what not in ON_THE_WAY:
-            continue
-        behind = lines[place + 1:]
-        looks = looks_at_end(ample[:place])
-        if behind == ample[place:] or (looks and behind == looks + ample[place:]):
-            return True
-    return False
+    place = 0
+    while place < min(len(lines), len(ample)) and lines[place] == ample[place]:
+        place += 1
+    # A refusal is none of the ample lines, so it stands at the first place that differs.
+    if place == len(lines):
+        return False
+    what = refused(word, lines[place], ample[place] if place < len(ample) else "")
+    if what is None:
+        return False
+    is_looked = what not in ON_THE_WAY and what != "look"
+    looks = looks_at_end(ample[:place]) if is_looked else []
+    return lines[place + 1:] == looks + ample[place:]
 
 
 def without_shown(lines, ample):
@@ -210,10 +251,12 @@ def masked(lines):
 
 
 def is_run(word, lines, ample):
-    """Whether lines are those of a run that was refused memory once: a fault, or a call that shows something refused."""
+    """Whether lines are those of a run that was refused memory once: a fault, or a call that shows something refused. Of what
+    was written before `no memory` nothing is promised but that it is the first of the lines."""
     fault = FAULT_ON_THREADS if word in ON_THREADS else FAULT
-    if len(lines) == 1 and fault.match(lines[0]):
-        return True
+    if lines and fault.match(lines[-1]):
+        before = lines[:-1]
+        return not before or (lines[-1] == NO_MEMORY and before == ample[:len(before)])
     other = without_shown(lines, ample)
     if other is None:
         return False
@@ -226,12 +269,12 @@ def judged(word, lines, ample):
         return "same"
     if word in RUNS:
         return "refused" if is_run(word, lines, ample) else "other"
-    return "refused" if is_refused_once(lines, ample) else "other"
+    return "refused" if is_refused_once(word, lines, ample) else "other"
 
 
 def has_refusal(lines):
-    """Whether a line is a refusal or a fault."""
-    return any(REFUSAL.match(line) or FAULT_ON_THREADS.match(line) for line in lines)
+    """Whether a line tells of a want, or of any fault."""
+    return any("Memory" in line or "AllocError" in line or line.startswith("lfsd: ") for line in lines)
 
 
 def measured(words):

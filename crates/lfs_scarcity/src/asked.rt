@@ -1,28 +1,13 @@
 //! What is asked of a volume: the calls of a script that stands in the program.
 
 use crate::told::on_the_way;
+use lfs_audit::fault::RunFault;
 use lfs_audit::plan::{Act, Step};
 use lfs_audit::script::parse_script;
 use lfs_types::cred::Cred;
 use lfs_types::request::Request;
-use std::alloc::{AllocError, AllocFailed, Global};
+use std::alloc::Global;
 use std::io::Write;
-
-/// Why there is no call: its line was not parsed, or the calls found no room.
-#[derive(Clone, Copy, Debug)]
-pub struct Memory;
-
-impl From<AllocError> for Memory {
-    fn from(_error: AllocError) -> Memory {
-        Memory
-    }
-}
-
-impl<T: Drop> From<AllocFailed<T>> for Memory {
-    fn from(_error: AllocFailed<T>) -> Memory {
-        Memory
-    }
-}
 
 /// A user's call: in which session, who asks, and what.
 pub type Asked = (u8, Cred, Request);
@@ -31,14 +16,14 @@ pub type Asked = (u8, Cred, Request);
 const SCRIPT_MAX: usize = 4_096;
 
 /// The users' calls of a script, in the order of its lines.
-fn calls_in(alloc: Global, script: &str) -> Result<Vec<Asked>, Memory> {
+fn calls_in(alloc: Global, script: &str) -> Result<Vec<Asked>, RunFault> {
     if script.len() > SCRIPT_MAX {
-        return Err(Memory);
+        return Err(RunFault::TooLong);
     }
-    let Ok(plan) = parse_script(alloc, script.as_bytes()) else {
-        return Err(Memory);
+    let steps = match parse_script(alloc, script.as_bytes()) {
+        Ok(plan) => plan.into_steps(),
+        Err(fault) => return Err(RunFault::Script(fault)),
     };
-    let steps = plan.into_steps();
     let mut calls = Vec::with_capacity(alloc, steps.len())?;
     for Step { session, cred, act } in steps {
         if let Act::User(request) = act {

@@ -118,9 +118,9 @@ pub fn tell_answer<W: Write>(writer: &mut W, what: &str, answer: &Answer) {
 /// Writes what the ifile is.
 fn tell_ifile<W: Write>(writer: &mut W, answer: &CleanerAnswer) {
     let _ = match answer {
-        CleanerAnswer::Ifile(bytes) => tell_bytes(writer, "ifile", bytes.as_slice()),
-        CleanerAnswer::Refused(resource) => writeln!(writer, "ifile {resource:?}"),
-        _ => writeln!(writer, "ifile other"),
+        CleanerAnswer::Ifile(bytes) => tell_bytes(writer, "ifile-bytes", bytes.as_slice()),
+        CleanerAnswer::Refused(resource) => writeln!(writer, "ifile-bytes {resource:?}"),
+        _ => writeln!(writer, "ifile-bytes other"),
     };
 }
 

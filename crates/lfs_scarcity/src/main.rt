@@ -15,13 +15,13 @@ mod volumes;
 mod word;
 
 use lfs_audit::run::run_script;
-use lfs_audit::tell::tell;
 use lfs_types::store::Params;
 use std::alloc::{AllocError, Global};
 use std::io::{Read, Write};
 use std::process::ExitCode;
 use std::sync::Wait;
 use std::thread::Threads;
+use told::tell_end;
 use word::{Word, first_line};
 
 /// The numbers of the volume.
@@ -95,12 +95,5 @@ fn run<R: Read, W: Write>(alloc: Global, reader: &mut R, writer: &mut W) {
     };
     let outcome = run_script(alloc, reader, &mut written, PARAMS);
     let _ = writer.write_all(written.as_slice());
-    match outcome {
-        Ok(()) => {
-            let _ = writer.write(b"done\n");
-        }
-        Err(fault) => {
-            let _ = tell(writer, &fault);
-        }
-    }
+    tell_end(writer, outcome);
 }

@@ -1,18 +1,22 @@
 //! Sessions on threads: as a script is run, and as a library's caller serves and settles them.
 
+ghost use Rattle.std.specs.Prelude.{◌≤◌, length};
+
+use crate::told::tell_end;
 use lfs_audit::fault::{RunFault, ThreadsFault};
 use lfs_audit::print::append_answer;
-use lfs_audit::run::read_plan;
-use lfs_audit::tell::tell;
+use lfs_audit::script::parse_script;
 use lfs_audit::threads::run_threads;
+use lfs_io::read::read_script;
 use lfs_logstore::LogStore;
 use lfs_server::serve::serve;
 use lfs_server::serving::Closed;
 use lfs_server::settle::settle;
 use lfs_types::answer::Answer;
 use lfs_types::script::Script;
-use lfs_types::store::Params;
-use std::alloc::{AllocError, Global};
+use lfs_types::store::{FileStore, Params};
+use lfs_volume::volume::Volume;
+use std::alloc::Global;
 use std::io::{Read, Write};
 use std::sync::Wait;
 use std::thread::Threads;
@@ -28,6 +32,9 @@ const PARAMS: Params = Params {
 /// The most bytes that are written, room for which is taken before the run.
 const ROOM: usize = 16_384;
 
+/// The most sessions of a run.
+const SESSIONS_MAX: usize = 8;
+
 /// Runs a script with its sessions on threads, over a writer whose room is taken before, and prints what was written and how
 /// the run ended.
 pub fn threads<S, R, W>(rt: &S, alloc: Global, reader: &mut R, writer: &mut W)
@@ -42,10 +49,10 @@ where
     };
     let outcome = run_threads(rt, alloc, reader, &mut written, PARAMS);
     let _ = writer.write_all(written.as_slice());
-    tell_outcome(writer, outcome);
+    tell_end(writer, outcome);
 }
 
-/// Serves the sessions of a script, settles what they leave by copies of the scripts, and prints the answers.
+/// Serves the sessions of a script, settles what they leave, and prints the answers.
 pub fn serve_and_settle<S, R, W>(rt: &S, alloc: Global, reader: &mut R, writer: &mut W)
 where
     S: Threads + Wait + Sync,
@@ -58,22 +65,11 @@ where
     };
     let outcome = serve_script(rt, alloc, reader, &mut written);
     let _ = writer.write_all(written.as_slice());
-    tell_outcome(writer, outcome);
+    tell_end(writer, outcome);
 }
 
-/// Prints how a run ended.
-fn tell_outcome<W: Write>(writer: &mut W, outcome: Result<(), ThreadsFault>) {
-    match outcome {
-        Ok(()) => {
-            let _ = writer.write(b"done\n");
-        }
-        Err(fault) => {
-            let _ = tell(writer, &fault);
-        }
-    }
-}
-
-/// Serves a script's sessions, appends the answers to a text, and then whether copies of the scripts settle with them.
+/// Serves a script's sessions, and appends the answers to a text, and then whether what the sessions leave is settled with the
+/// same calls and answers. The script is parsed once more for that, as `serve` takes the calls.
 fn serve_script<S, R>(
     rt: &S,
     alloc: Global,
@@ -84,47 +80,69 @@ where
     S: Threads + Wait + Sync,
     R: Read,
 {
-    let (setup, scripts) = read_plan(alloc, reader)?.split(alloc)?;
-    let asked = copy_of(alloc, &setup)?;
-    let copies = copies_of(alloc, scripts.as_slice())?;
-    let closed = serve(rt, alloc, PARAMS, setup, scripts, &())?;
-    append_closed(written, &closed)?;
-    if is_settled(&closed, &asked, copies.as_slice()) {
-        append_settled(written)?;
+    let script = match read_script(alloc, reader) {
+        Ok(script) => script,
+        Err(fault) => return Err(ThreadsFault::Run(RunFault::from(fault))),
+    };
+    let closed = serve_calls(rt, alloc, script.as_slice())?;
+    append_closed(alloc, script.as_slice(), &closed, written)
+}
+
+/// Serves the sessions of a script.
+fn serve_calls<S>(rt: &S, alloc: Global, script: &[u8]) -> Result<Closed<LogStore>, ThreadsFault>
+where
+    S: Threads + Wait + Sync,
+    requires { length script.now ≤ 1048576 }
+{
+    let (setup, scripts) = calls_of(alloc, script)?;
+    Ok(serve(rt, alloc, PARAMS, setup, scripts, &())?)
+}
+
+/// The calls of the setup of a script, and those of each session.
+fn calls_of(alloc: Global, script: &[u8]) -> Result<(Script, Vec<Script>), ThreadsFault>
+    requires { length script.now ≤ 1048576 }
+{
+    let plan = match parse_script(alloc, script) {
+        Ok(plan) => plan,
+        Err(fault) => return Err(ThreadsFault::Run(RunFault::Script(fault))),
+    };
+    Ok(plan.split(alloc)?)
+}
+
+/// Appends the answers to the setup and to each session of a script, and whether they are settled.
+fn append_closed<F: FileStore + Drop>(
+    alloc: Global,
+    script: &[u8],
+    closed: &Closed<F>,
+    out: &mut Vec<u8>,
+) -> Result<(), ThreadsFault>
+    requires { length script.now ≤ 1048576 }
+{
+    let (setup, scripts) = calls_of(alloc, script)?;
+    let answers = closed.setup.as_slice();
+    let transcripts = closed.transcripts.as_slice();
+    append_transcripts(out, answers, transcripts)?;
+    if is_settled(
+        &closed.volume,
+        &setup,
+        answers,
+        scripts.as_slice(),
+        transcripts,
+    ) {
+        append(out, b"settled\n")?;
     }
     Ok(())
 }
 
-/// Appends that the run is settled.
-fn append_settled(out: &mut Vec<u8>) -> Result<(), RunFault> {
-    out.extend_from_slice(b"settled\n")?;
-    Ok(())
-}
-
-/// A script like this one.
-fn copy_of(alloc: Global, script: &Script) -> Result<Script, RunFault> {
-    let mut calls = Vec::new(alloc);
-    for (cred, request) in script.as_slice() {
-        let request = request.try_clone(alloc)?;
-        calls.push((*cred, request))?;
-    }
-    Ok(Script::from(calls))
-}
-
-/// Scripts like these.
-fn copies_of(alloc: Global, scripts: &[Script]) -> Result<Vec<Script>, RunFault> {
-    let mut copies = Vec::new(alloc);
-    for script in scripts {
-        copies.push(copy_of(alloc, script)?)?;
-    }
-    Ok(copies)
-}
-
-/// Appends the answers to the setup and to each session.
-fn append_closed(out: &mut Vec<u8>, closed: &Closed<LogStore>) -> Result<(), RunFault> {
-    append_answers(out, 0, closed.setup.as_slice())?;
+/// Appends the lines of the answers to the setup and to each session.
+fn append_transcripts(
+    out: &mut Vec<u8>,
+    answers: &[Answer],
+    transcripts: &[Vec<Answer>],
+) -> Result<(), RunFault> {
+    append_answers(out, 0, answers)?;
     let mut session = 0u8;
-    for transcript in &closed.transcripts {
+    for transcript in transcripts {
         session = session.saturating_add(1);
         append_answers(out, session, transcript.as_slice())?;
     }
@@ -139,12 +157,22 @@ fn append_answers(out: &mut Vec<u8>, session: u8, answers: &[Answer]) -> Result<
     Ok(())
 }
 
-/// Whether the journal is an interleaving of these scripts with the answers.
-fn is_settled(closed: &Closed<LogStore>, setup: &Script, scripts: &[Script]) -> bool {
-    let answers = closed.setup.as_slice();
-    let transcripts = closed.transcripts.as_slice();
-    if scripts.len() > 8 || transcripts.len() > 8 {
+/// Appends bytes to a text.
+fn append(out: &mut Vec<u8>, bytes: &[u8]) -> Result<(), RunFault> {
+    out.extend_from_slice(bytes)?;
+    Ok(())
+}
+
+/// Whether a volume's journal is an interleaving of what was asked and answered.
+fn is_settled<F: FileStore + Drop>(
+    volume: &Volume<F>,
+    setup: &Script,
+    answers: &[Answer],
+    scripts: &[Script],
+    transcripts: &[Vec<Answer>],
+) -> bool {
+    if scripts.len() > SESSIONS_MAX || transcripts.len() > SESSIONS_MAX {
         return false;
     }
-    settle(&closed.volume, setup, answers, scripts, transcripts).is_ok()
+    settle(volume, setup, answers, scripts, transcripts).is_ok()
 }

@@ -1,6 +1,7 @@
 //! Lines for what came of a call.
 
-use std::fmt::Debug;
+use lfs_audit::tell::tell;
+use std::fmt::{Debug, Display};
 use std::io::Write;
 
 /// Writes what was asked for, and that it was given or why it was not, and says whether it was refused.
@@ -41,6 +42,18 @@ pub fn on_the_way<T, E: Debug + Drop, W: Write>(
         Err(error) => {
             let _ = writeln!(writer, "{what} {error:?}");
             None
+        }
+    }
+}
+
+/// Writes how a run ended.
+pub fn tell_end<E: Display + Drop, W: Write>(writer: &mut W, outcome: Result<(), E>) {
+    match outcome {
+        Ok(()) => {
+            let _ = writer.write(b"done\n");
+        }
+        Err(fault) => {
+            let _ = tell(writer, &fault);
         }
     }
 }

@@ -1,8 +1,10 @@
 //! Volumes over both stores, and runs of calls and of steps on them.
 
-use crate::asked::{Asked, Memory, calls};
+use crate::asked::{Asked, calls};
 use crate::looking::{Looked, tell_answer};
-use crate::told::{kept, told};
+use crate::told::{kept, on_the_way, told};
+use lfs_audit::fault::RunFault;
+use lfs_audit::run::fresh_volume;
 use lfs_cleaner::wanting::superuser;
 use lfs_logstore::LogStore;
 use lfs_model::journal::Call;
@@ -27,19 +29,12 @@ const LEAST: Params = Params {
 const LOOKS: &[&str] = &["stat /\n"];
 
 /// A volume over the plain store.
-fn new_plain(alloc: Global) -> Result<Volume<FlatFiles>, Memory> {
-    let Ok(files) = FlatFiles::new(alloc, 16) else {
-        return Err(Memory);
+fn new_plain(alloc: Global) -> Result<Volume<FlatFiles>, RunFault> {
+    let files = match FlatFiles::new(alloc, LEAST.inodes) {
+        Ok(files) => files,
+        Err(fault) => return Err(RunFault::Format(fault)),
     };
-    Ok(Volume::new(alloc, files, 256)?)
-}
-
-/// A volume over the log store.
-fn new_log(alloc: Global) -> Result<Volume<LogStore>, Memory> {
-    let Ok(store) = LogStore::format(alloc, LEAST) else {
-        return Err(Memory);
-    };
-    Ok(Volume::new(alloc, store, LEAST.journal)?)
+    Ok(Volume::new(alloc, files, LEAST.journal)?)
 }
 
 /// A volume over the plain store at which these lines look, asked for once more where memory was refused.
@@ -62,10 +57,10 @@ pub fn log<W: Write>(
     writer: &mut W,
     lines: &'static [&'static str],
 ) -> Option<Looked<LogStore>> {
-    let first = kept(writer, "log-volume", new_log(alloc));
+    let first = kept(writer, "log-volume", fresh_volume(alloc, LEAST));
     let volume = match first {
         Some(volume) => volume,
-        None => kept(writer, "log-volume", new_log(alloc))?,
+        None => kept(writer, "log-volume", fresh_volume(alloc, LEAST))?,
     };
     Some(Looked::new(volume, lines))
 }
@@ -118,16 +113,15 @@ fn tell_answers<W: Write>(writer: &mut W, answers: &[Answer]) {
 fn made<W: Write>(alloc: Global, writer: &mut W, script: &str) -> Option<Vec<Call>> {
     for _ in 0..2 {
         let asked = calls(alloc, writer, script)?;
-        if let Ok(made) = run_calls(alloc, asked) {
+        if let Some(made) = on_the_way(writer, "calls", run_calls(alloc, asked)) {
             return Some(made);
         }
-        let _ = writeln!(writer, "calls Memory");
     }
     None
 }
 
 /// Calls as a run takes them.
-fn run_calls(alloc: Global, asked: Vec<Asked>) -> Result<Vec<Call>, Memory> {
+fn run_calls(alloc: Global, asked: Vec<Asked>) -> Result<Vec<Call>, RunFault> {
     let mut made = Vec::with_capacity(alloc, asked.len())?;
     for (session, cred, request) in asked {
         made.push(Call {
@@ -145,8 +139,7 @@ fn run_steps<W: Write>(alloc: Global, writer: &mut W, looked: &mut Looked<LogSto
         let Some(asked) = calls(alloc, writer, "stat /a\n") else {
             return;
         };
-        let Ok(steps) = two_steps(alloc, asked) else {
-            let _ = writeln!(writer, "calls Memory");
+        let Some(steps) = on_the_way(writer, "calls", two_steps(alloc, asked)) else {
             continue;
         };
         let is_refused = told(writer, "run-steps", looked.volume.run_steps(steps));
@@ -158,7 +151,7 @@ fn run_steps<W: Write>(alloc: Global, writer: &mut W, looked: &mut Looked<LogSto
 }
 
 /// These calls as steps, and one of the cleaner's.
-fn two_steps(alloc: Global, asked: Vec<Asked>) -> Result<Vec<Step>, Memory> {
+fn two_steps(alloc: Global, asked: Vec<Asked>) -> Result<Vec<Step>, RunFault> {
     let mut steps = Vec::with_capacity(alloc, 2)?;
     for (session, cred, request) in asked {
         let act = Act::User(request);

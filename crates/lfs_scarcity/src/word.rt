@@ -3,7 +3,7 @@
 use std::io::Read;
 
 /// What is done.
-#[derive(Clone, Copy, Debug)]
+#[derive(Clone, Copy)]
 pub enum Word {
     /// The script behind the first line is run.
     Run,
