@@ -18,8 +18,9 @@ each word prints and how many allocations it takes with ample memory, and once f
   for; that the volume then is as it was before (the lines that look at it say so); and that the same, asked for again, is
   answered as with ample memory.
 
-A word is done where each of its allocations failed once, and so did three more, which it doesn't make. The status is 1
-where a case is another, or no allocation of a word was refused.
+A word is done where each of its allocations failed once, and so did three more, which it doesn't make. On threads those are
+tried that are made near to where the threads begin; there, which allocation is the Nth changes from run to run. The status is
+1 where a case is another, or no allocation of a word was refused.
 """
 import argparse
 import os
@@ -39,6 +40,10 @@ OWN = 1
 OWN_OF_RUNS = 2
 # Allocations behind the last that a word makes, which are let fail too.
 BEHIND = 3
+# Of the words on threads it is known how many allocations are made before the first thread. Up to some of these the script is
+# parsed, as by `script`; so those are tried that stand so near to where the threads begin.
+BEFORE_THREADS = 60
+BEHIND_THREADS = 100
 
 RUN = """as 0 0
 create /a 0644
@@ -289,6 +294,13 @@ def measured(words):
     return ample
 
 
+def numbers_of(word, count):
+    """Which allocations of a word are let fail, of so many."""
+    if word in ON_THREADS:
+        return range(max(0, count - BEFORE_THREADS), count + BEHIND_THREADS)
+    return range(0, count + BEHIND)
+
+
 def main():
     parser = argparse.ArgumentParser()
     parser.add_argument("--most", type=int, default=NEVER)
@@ -301,13 +313,13 @@ def main():
         parser.error("no such word: " + ", ".join(unknown))
     begun = time.monotonic()
     ample = measured(words)
-    room = {word: min(count + BEHIND, asked.most) for word, (_, count) in ample.items()}
+    numbers = {word: numbers_of(word, count)[:asked.most:asked.every] for word, (_, count) in ample.items()}
     # Which allocation of a case fails: those before it are spent, or the word's.
-    failing = max(room.values()) + OWN_OF_RUNS + 1
+    failing = max(places.stop for places in numbers.values()) + OWN_OF_RUNS + 1
     cases = {}
     for word in words:
         own = OWN_OF_RUNS if word in RUNS else OWN
-        for number in range(0, room[word], asked.every):
+        for number in numbers[word]:
             cases["%s-%04d" % (word, number)] = "%d %s\n%s" % (failing - 1 - own - number, word, SCRIPTS[word])
     found, last = tried(cases, failing)
     failed = False
