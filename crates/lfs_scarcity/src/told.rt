@@ -1,6 +1,5 @@
 //! Lines for what came of a call.
 
-use lfs_audit::tell::tell;
 use std::fmt::{Debug, Display};
 use std::io::Write;
 
@@ -46,14 +45,14 @@ pub fn on_the_way<T, E: Debug + Drop, W: Write>(
     }
 }
 
-/// Writes how a run ended.
+/// Writes how a run ended, a fault as the line that `lfsd` tells it by.
 pub fn tell_end<E: Display + Drop, W: Write>(writer: &mut W, outcome: Result<(), E>) {
     match outcome {
         Ok(()) => {
             let _ = writer.write(b"done\n");
         }
         Err(fault) => {
-            let _ = tell(writer, &fault);
+            let _ = writeln!(writer, "lfsd: {fault}");
         }
     }
 }
