@@ -1,5 +1,5 @@
 #!/usr/bin/env python3
-"""Lets one allocation of each thing that lfs_scarcity does fail, the first, the second and so on, and judges what came of it.
+"""Lets one allocation of each thing that lfs_scarcity does fail, the first and so on, and judges what came of it.
 
 fail-allocations.py [--most N] [--every K] [WORD..] does so for these words of the program, or for all that it knows. With
 --most only the first N allocations of each word are let fail, with --every only each K-th. RT names the command to run in
