@@ -1,26 +1,28 @@
 #!/usr/bin/env python3
 """Lets one allocation of each thing that lfs_scarcity does fail, the first and so on, and judges what came of it.
 
-fail-allocations.py [--most N] [--every K] [WORD..] does so for these words of the program, or for all that it knows. With
---most only the first N allocations of each word are let fail, with --every only each K-th. RT names the command to run in
-place of `rt`.
+fail-allocations.py [--most N] [--every K] [WORD..] does so for these words of the program, or for all that it
+knows. With --most only the first N allocations of each word are let fail, with --every only each K-th. RT names the
+command to run in place of `rt`.
 
-A case is one word with one allocation that fails. `rt try` can let one alone fail, the same of each case, so a case spends
-as many before its word as it takes to come to it: the program reads how many. The program is built twice, once to see what
-each word prints and how many allocations it takes with ample memory, and once for all cases. Of each case the script asks
+A case is one word with one allocation that fails. `rt try` can let one alone fail, the same of each case, so a case
+spends as many before its word as it takes to come to it: the program reads how many. The program is built twice,
+once to see what each word prints and how many allocations it takes with ample memory, and once for all cases. Of
+each case the script asks
 
 - that the run ends with status 0, alike on the interpreter and compiled (on threads compiled alone);
-- of `run`, that it prints what it prints with ample memory, or that a Read is refused NoMemory, left out of the report
-  and nothing else is, or one line: `no memory`, `script line N: Memory` or `format Memory`;
-- of `threads` and `serve` the same, also of a List and with `serve Thread`; what the cleaner did is not compared, since it
-  depends on who is first, and a ring may be lost;
-- of each other word, that the lines are those with ample memory, but that at most one is the named refusal of what was asked
-  for; that the volume then is as it was before (the lines that look at it say so); and that the same, asked for again, is
-  answered as with ample memory.
+- of `run`, that it prints what it prints with ample memory, or that a Read is refused NoMemory, left out of the
+  report and nothing else is, or that it ends in `no memory`, `script line N: Memory`
+  or `format Memory`;
+- of `threads` and `serve` the same, also of a List and with `serve Thread`; what the cleaner did is not compared,
+  since it depends on who is first, and a ring may be lost;
+- of each other word, that the lines are those with ample memory, but that at most one is the named refusal of what
+  was asked for; that the volume then is as it was before (the lines that look at it say so); and that the same,
+  asked for again, is answered as with ample memory.
 
-A word is done where each of its allocations failed once, and so did three more, which it doesn't make. On threads those are
-tried that are made near to where the threads begin; there, which allocation is the Nth changes from run to run. The status is
-1 where a case is another, or no allocation of a word was refused.
+A word is done where each of its allocations failed once, and so did three more, which it doesn't make. On threads
+those are tried that are made near to where the threads begin; there, which allocation is the Nth changes from run
+to run. The status is 1 where a case is another, or no allocation of a word was refused.
 """
 import argparse
 import os
@@ -34,14 +36,14 @@ CRATE = os.path.join(os.path.dirname(os.path.abspath(__file__)), "..", "crates",
 
 # More than the program spends at most.
 NEVER = 100_000
-# Allocations of the program itself, before and behind those that are spent: the vector that keeps them; of the words that
-# run a script the room of the writer too.
+# Allocations of the program itself, before and behind those that are spent: the vector that keeps them; of the
+# words that run a script the room of the writer too.
 OWN = 1
 OWN_OF_RUNS = 2
 # Allocations behind the last that a word makes, which are let fail too.
 BEHIND = 3
-# Of the words on threads it is known how many allocations are made before the first thread. Up to some of these the script is
-# parsed, as by `script`; so those are tried that stand so near to where the threads begin.
+# Of the words on threads it is known how many allocations are made before the first thread. Up to some of these
+# the script is parsed, as by `script`; so those are tried that stand so near to where the threads begin.
 BEFORE_THREADS = 60
 BEHIND_THREADS = 100
 
@@ -156,7 +158,8 @@ NAMED = {
 CHANGES_OF_PLAIN = ["create", "write", "length", "rename"]
 # Of the looks a Read alone takes memory.
 LOOK_THAT_SHOWS = "look bytes "
-# What is asked for on the way, of which nothing is printed where it is given, and behind which no volume is looked at.
+# What is asked for on the way, of which nothing is printed where it is given, and behind which no volume is
+# looked at.
 ON_THE_WAY = {"calls", "script", "request", "answer"}
 # The lines that look at a volume.
 LOOKS = ("look ", "entries ")
@@ -164,7 +167,7 @@ SHOWN = re.compile(r"([0-9]+) (bytes|names) ")
 
 
 def tried(cases, failing):
-    """Runs `rt try` on cases, names with inputs, and gives of each its text, its ending and its allocations, and how it ended."""
+    """Runs `rt try` on cases, names with inputs; gives the text, ending and allocations of each, and the last line."""
     with tempfile.TemporaryDirectory() as folder:
         for name, text in cases.items():
             with open(os.path.join(folder, name), "w", encoding="ascii") as file:
@@ -186,7 +189,8 @@ def tried(cases, failing):
         elif name is not None:
             lines.append(line)
     if len(found) != len(cases):
-        sys.exit(done.stdout.decode("utf-8", "replace")[-4000:] + "rt try told of %d of %d cases" % (len(found), len(cases)))
+        told = done.stdout.decode("utf-8", "replace")[-4000:]
+        sys.exit(told + "rt try told of %d of %d cases" % (len(found), len(cases)))
     return found, last
 
 
@@ -234,7 +238,7 @@ def is_refused_once(word, lines, ample):
 
 
 def without_shown(lines, ample):
-    """The ample lines of a run, with that line refused for want of memory that is refused in these; the report without it."""
+    """The ample lines of a run, with that line refused NoMemory that is so in these, and the report without it."""
     for place, line in enumerate(ample[:len(lines)]):
         shown = SHOWN.match(line)
         if shown and lines[place] == shown.group(1) + " refused NoMemory":
@@ -256,8 +260,9 @@ def masked(lines):
 
 
 def is_run(word, lines, ample):
-    """Whether lines are those of a run that was refused memory once: a fault, or a call that shows something refused. Of what
-    was written before `no memory` nothing is promised but that it is the first of the lines."""
+    """Whether lines are those of a run that was refused memory once: a fault, or something shown that is refused.
+
+    Of what was written before `no memory` nothing is promised but that it is the first of the lines."""
     fault = FAULT_ON_THREADS if word in ON_THREADS else FAULT
     if lines and fault.match(lines[-1]):
         before = lines[:-1]

@@ -1,5 +1,5 @@
-//! A volume that is looked at between the calls made on it. What looks leave in the journal is counted apart, so that it can
-//! be told how long the journal is without them.
+//! A volume that is looked at between the calls made on it. What looks leave in the journal is counted apart, so
+//! that it can be told how long the journal is without them.
 
 use crate::asked::calls;
 use lfs_model::journal::CleanerAnswer;
@@ -33,8 +33,8 @@ impl<F: FileStore + Drop> Looked<F> {
         }
     }
 
-    /// Looks: makes the call of each of its lines, and writes how it was answered, how long the journal is without looks,
-    /// the clean segments and the level.
+    /// Looks: makes the call of each of its lines, and writes how it was answered, how long the journal is without
+    /// looks, the clean segments and the level.
     pub fn look<W: Write>(&mut self, alloc: Global, writer: &mut W) {
         for line in self.lines {
             self.look_at(alloc, writer, line);

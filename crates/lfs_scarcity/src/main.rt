@@ -1,6 +1,7 @@
-//! Does one thing after so many allocations as its first line says, and prints what came of it: for runs in which one
-//! allocation fails. The first line is `SPEND WORD`; the script that a word wants that runs or parses one stands behind it.
-//! Nothing here knows which allocation fails. Where a call is refused for want of memory it is made again.
+//! Does one thing after so many allocations as its first line says, and prints what came of it: for runs in which
+//! one allocation fails. The first line is `SPEND WORD`; the script that a word wants that runs or parses one stands
+//! behind it. Nothing here knows which allocation fails. Where a call is refused for want of memory it is made
+//! again.
 #![tactic(auto)]
 
 mod asked;

@@ -35,8 +35,8 @@ const ROOM: usize = 16_384;
 /// The most sessions of a run.
 const SESSIONS_MAX: usize = 8;
 
-/// Runs a script with its sessions on threads, over a writer whose room is taken before, and prints what was written and how
-/// the run ended.
+/// Runs a script with its sessions on threads, over a writer whose room is taken before, and prints what was written
+/// and how the run ended.
 pub fn threads<S, R, W>(rt: &S, alloc: Global, reader: &mut R, writer: &mut W)
 where
     S: Threads + Wait + Sync,
@@ -68,8 +68,8 @@ where
     tell_end(writer, outcome);
 }
 
-/// Serves a script's sessions, and appends the answers to a text, and then whether what the sessions leave is settled with the
-/// same calls and answers. The script is parsed once more for that, as `serve` takes the calls.
+/// Serves a script's sessions, and appends the answers to a text, and then whether what the sessions leave is
+/// settled with the same calls and answers. The script is parsed once more for that, as `serve` takes the calls.
 fn serve_script<S, R>(
     rt: &S,
     alloc: Global,

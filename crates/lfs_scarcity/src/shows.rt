@@ -1,5 +1,5 @@
-//! Calls that take memory themselves: what shows a file's bytes, a directory's names or the ifile; and each change of the
-//! plain store.
+//! Calls that take memory themselves: what shows a file's bytes, a directory's names or the ifile; and each change
+//! of the plain store.
 
 use crate::volumes::{log, plain};
 use lfs_cleaner::wanting::superuser;
