@@ -5,8 +5,7 @@ use Rattle.lfs_types.specs.declared.fault.FormatFault.TheVariants as faults
 use Rattle.lfs_staging.specs.Opening.{IsOpening, IsTooFew, IsTooMany}
 use Rattle.lfs_staging.specs.Store.{IsSettled}
 use Rattle.lfs_staging.specs.declared.parts.Parts.{Parts}
-use Rattle.lfs_logstore.specs.Cleaning.{GivesAddresses, GivesIfile, GivesInfos, Reclaims}
-use Rattle.lfs_logstore.specs.Marking.{WritesAgain}
+use Rattle.lfs_logstore.specs.CleanerCalls.{log_calls}
 use Rattle.lfs_logstore.specs.States.{opening_state, state_of}
 use Rattle.lfs_volume.specs.Cleanings.{Cleaner, cleaner_of}
 use Rattle.lfs_server.specs.Serving.{IsInRange}
@@ -17,7 +16,7 @@ use Rattle.lfs_audit.specs.declared.fault.RunFault.TheVariants.{Format, Memory, 
 
 -- the log store as a kind of store
 abbrev pub log_cleaner : Cleaner Parts
-log_cleaner = cleaner_of state_of IsSettled GivesIfile GivesInfos GivesAddresses WritesAgain Reclaims
+log_cleaner = cleaner_of state_of IsSettled log_calls
 
 -- A log store of so many segments, inode numbers and frames was just laid out: it shows the opening tree; a summary and the
 -- block with the root's record are written and nothing else, no frame is taken, and nothing waits.

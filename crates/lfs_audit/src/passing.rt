@@ -22,7 +22,7 @@ pub fn run_step<F: CleanedStore + Drop>(
     text: &mut Vec<u8>,
 ) -> Result<(), AllocError>
     ensures { OnOk result (Tells
-        (cleaner_of F.state F.is_settled F.gives_ifile F.gives_infos F.gives_addresses F.writes_again F.reclaims)
+        (cleaner_of F.state F.is_settled F.cleaner)
         volume.old volume.new step.session step.cred step.act text.old.items text.new.items) }
 {
     let Step { session, cred, act } = step;
@@ -42,7 +42,7 @@ fn call<F: CleanedStore + Drop>(
     text: &mut Vec<u8>,
 ) -> Result<(), AllocError>
     ensures { OnOk result (Tells
-        (cleaner_of F.state F.is_settled F.gives_ifile F.gives_infos F.gives_addresses F.writes_again F.reclaims)
+        (cleaner_of F.state F.is_settled F.cleaner)
         volume.old volume.new session cred.now (Act.User request) text.old.items text.new.items) }
 {
     let answer = volume.call(session, cred, request);
@@ -59,7 +59,7 @@ fn clean_line<F: CleanedStore + Drop>(
     text: &mut Vec<u8>,
 ) -> Result<(), AllocError>
     ensures { OnOk result (Tells
-        (cleaner_of F.state F.is_settled F.gives_ifile F.gives_infos F.gives_addresses F.writes_again F.reclaims)
+        (cleaner_of F.state F.is_settled F.cleaner)
         volume.old volume.new session cred.now (Act.Cleaner call) text.old.items text.new.items) }
 {
     clean(volume, session, cred, call.into_call(), text)?;
@@ -75,7 +75,7 @@ fn clean<F: CleanedStore + Drop>(
     text: &mut Vec<u8>,
 ) -> Result<CleanerAnswer, AllocError>
     ensures { IfOk result (λ answer. Cleans
-        (cleaner_of F.state F.is_settled F.gives_ifile F.gives_infos F.gives_addresses F.writes_again F.reclaims)
+        (cleaner_of F.state F.is_settled F.cleaner)
         volume.old volume.new session cred.now call answer text.old.items text.new.items) }
 {
     let kind = CleanerKind::of(&call);
@@ -92,7 +92,7 @@ fn pass<F: CleanedStore + Drop>(
     text: &mut Vec<u8>,
 ) -> Result<(), AllocError>
     ensures { OnOk result (Tells
-        (cleaner_of F.state F.is_settled F.gives_ifile F.gives_infos F.gives_addresses F.writes_again F.reclaims)
+        (cleaner_of F.state F.is_settled F.cleaner)
         volume.old volume.new session cred.now Act.Pass text.old.items text.new.items) }
 {
     let mut pass = Pass::new();

@@ -74,7 +74,7 @@ pub fn run_over<F: CleanedStore + Drop, R: Read, W: Write>(
     requires { volume.old.journal ≡ [] }
     ensures written { OnOk result (IfSome (R.remaining reader.old) (λ script. (text : List ℕ)
         × IsOutput
-        (cleaner_of F.state F.is_settled F.gives_ifile F.gives_infos F.gives_addresses F.writes_again F.reclaims)
+        (cleaner_of F.state F.is_settled F.cleaner)
         script volume.old.limit volume.old.store text
         × Appends (W.contents writer.old) (W.contents writer.new) text)) }
     ensures fault { IfErr result (IsFaultOf (R.remaining reader.old)) }
@@ -107,7 +107,7 @@ pub fn run_plan<F: CleanedStore + Drop, W: Write>(
     requires { volume.old.journal ≡ [] }
     ensures written { OnOk result ((text : List ℕ)
         × IsRun
-        (cleaner_of F.state F.is_settled F.gives_ifile F.gives_infos F.gives_addresses F.writes_again F.reclaims)
+        (cleaner_of F.state F.is_settled F.cleaner)
         volume.old.limit volume.old.store steps.items text
         × Appends (W.contents writer.old) (W.contents writer.new) text) }
     ensures fault { IfErr result MayHaveWritten }
@@ -125,7 +125,7 @@ fn print_steps<F: CleanedStore + Drop, W: Write>(
     writer: &mut W,
 ) -> Result<(), RunFault>
     ensures written { OnOk result (Writes
-        (cleaner_of F.state F.is_settled F.gives_ifile F.gives_infos F.gives_addresses F.writes_again F.reclaims)
+        (cleaner_of F.state F.is_settled F.cleaner)
         volume.old volume.new steps.items
         (append_known (W.contents writer.old) text.old.items)
         (append_known (W.contents writer.new) text.new.items)) }

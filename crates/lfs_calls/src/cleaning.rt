@@ -12,7 +12,7 @@ use std::alloc::AllocError;
 impl<F: CleanedStore> Tree<F> {
     /// The bytes of the ifile.
     pub fn ifile_bytes(&self) -> Result<Vec<u8>, AllocError>
-        ensures given { IfOk result (λ bytes. F.gives_ifile self.now bytes.items) }
+        ensures given { IfOk result (λ bytes. F.cleaner.gives_ifile self.now bytes.items) }
         ensures size { IfOk result
             (λ bytes. length bytes.items ≡ ifile_size (F.state self.now).shape) }
     {
@@ -21,7 +21,7 @@ impl<F: CleanedStore> Tree<F> {
 
     /// The infos of a dirty segment, in the order of the log. After a fault the list is not to be read.
     pub fn infos(&self, segment: u32, infos: &mut InfoList) -> Result<(), CleanFault>
-        ensures given { F.gives_infos self.now segment result infos.new }
+        ensures given { F.cleaner.gives_infos self.now segment result infos.new }
         ensures fault { IfErr result IsListingFault }
     {
         self.store.infos(segment, infos)
@@ -29,7 +29,7 @@ impl<F: CleanedStore> Tree<F> {
 
     /// Sets each address to the present one: 0 where the number, the version or the block is not in use, or has none.
     pub fn bmapv(&self, infos: &mut [BlockInfo])
-        ensures given { F.gives_addresses self.now infos.old infos.new }
+        ensures given { F.cleaner.gives_addresses self.now infos.old infos.new }
         ensures same_length { length infos.new ≡ length infos.old }
     {
         self.store.bmapv(infos);
@@ -38,7 +38,7 @@ impl<F: CleanedStore> Tree<F> {
     /// Writes again, at the end of the log, each named block whose present address is the one given and not 0, and says
     /// how many.
     pub fn markv(&mut self, marks: &MarkList) -> Result<u32, CleanFault>
-        ensures given { F.writes_again self.old marks.now result self.new }
+        ensures given { F.cleaner.writes_again self.old marks.now result self.new }
         ensures few { IfOk result (λ count. count ≤ length marks.now) }
         ensures fault { IfErr result IsMarkingFault }
         ensures content { (F.state self.new).content ≡ (F.state self.old).content }
@@ -49,7 +49,7 @@ impl<F: CleanedStore> Tree<F> {
 
     /// Makes a dirty segment without live bytes clean.
     pub fn segclean(&mut self, segment: u32) -> Result<(), CleanFault>
-        ensures given { F.reclaims self.old segment result self.new }
+        ensures given { F.cleaner.reclaims self.old segment result self.new }
         ensures fault { IfErr result IsReclaimFault }
         ensures refused { OnErr result (self.new ≡ self.old) }
         ensures cleaned { OnOk result (F.state self.new ≡ with_clean_segment (F.state self.old)) }

@@ -38,12 +38,12 @@ pub fn talk<F: CleanedStore + ShowsLog + Drop, V: Watch<F>, R: Read, W: Write>(
     watch: &mut V,
 ) -> Result<(), RunFault>
     ensures written { OnOk result (IsTalk
-        (talker_of (cleaner_of F.state F.is_settled F.gives_ifile F.gives_infos F.gives_addresses F.writes_again F.reclaims)
+        (talker_of (cleaner_of F.state F.is_settled F.cleaner)
         F.map_text F.segment_text)
         volume.old volume.new (R.remaining reader.old) (R.remaining reader.new)
         (W.contents writer.old) (W.contents writer.new)) }
     ensures so_far { IfErr result (λ fault. fault ≡ Read → HasHeardSoFar
-        (talker_of (cleaner_of F.state F.is_settled F.gives_ifile F.gives_infos F.gives_addresses F.writes_again F.reclaims)
+        (talker_of (cleaner_of F.state F.is_settled F.cleaner)
         F.map_text F.segment_text)
         volume.old volume.new (R.remaining reader.old) (R.remaining reader.new)
         (W.contents writer.old) (W.contents writer.new)) }
@@ -63,12 +63,12 @@ fn hear_all<F: CleanedStore + ShowsLog + Drop, V: Watch<F>, R: Read, W: Write>(
     watch: &mut V,
 ) -> Result<(), RunFault>
     ensures heard { OnOk result (HasHeardAll
-        (talker_of (cleaner_of F.state F.is_settled F.gives_ifile F.gives_infos F.gives_addresses F.writes_again F.reclaims)
+        (talker_of (cleaner_of F.state F.is_settled F.cleaner)
         F.map_text F.segment_text)
         volume.old volume.new (R.remaining reader.old) (R.remaining reader.new)
         (W.contents writer.old) (W.contents writer.new)) }
     ensures so_far { IfErr result (λ fault. fault ≡ Read → HasHeardSoFar
-        (talker_of (cleaner_of F.state F.is_settled F.gives_ifile F.gives_infos F.gives_addresses F.writes_again F.reclaims)
+        (talker_of (cleaner_of F.state F.is_settled F.cleaner)
         F.map_text F.segment_text)
         volume.old volume.new (R.remaining reader.old) (R.remaining reader.new)
         (W.contents writer.old) (W.contents writer.new)) }
@@ -93,7 +93,7 @@ fn hear_next<F: CleanedStore + ShowsLog + Drop, V: Watch<F>, R: Read, W: Write>(
     speaker: &mut Speaker,
 ) -> Result<bool, RunFault>
     ensures next { IfOk result (λ goes_on. goes_on ≡ true → HearsNext
-        (talker_of (cleaner_of F.state F.is_settled F.gives_ifile F.gives_infos F.gives_addresses F.writes_again F.reclaims)
+        (talker_of (cleaner_of F.state F.is_settled F.cleaner)
         F.map_text F.segment_text)
         volume.old volume.new speaker.old speaker.new (R.remaining reader.old) (R.remaining reader.new)
         (W.contents writer.old) (W.contents writer.new)) }
@@ -129,7 +129,7 @@ fn hear_line<F: CleanedStore + ShowsLog + Drop, V: Watch<F>, W: Write>(
     line: &[u8],
 ) -> Result<bool, RunFault>
     ensures told { IfOk result (λ goes_on. goes_on ≡ true → IsTold
-        (talker_of (cleaner_of F.state F.is_settled F.gives_ifile F.gives_infos F.gives_addresses F.writes_again F.reclaims)
+        (talker_of (cleaner_of F.state F.is_settled F.cleaner)
         F.map_text F.segment_text)
         volume.old volume.new speaker.old speaker.new (heard_of line.now)
         (W.contents writer.old) (W.contents writer.new)) }

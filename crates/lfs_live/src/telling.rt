@@ -66,7 +66,7 @@ pub fn answer<F: CleanedStore + ShowsLog + Drop>(
     ensures { IfOk result (λ told. MatchOption told
         ((heard_of line.now ≡ heard.Dot Quit) × (volume.new ≡ volume.old))
         (λ text. Hears
-        (talker_of (cleaner_of F.state F.is_settled F.gives_ifile F.gives_infos F.gives_addresses F.writes_again F.reclaims)
+        (talker_of (cleaner_of F.state F.is_settled F.cleaner)
         F.map_text F.segment_text)
         volume.old speaker.old (heard_of line.now) text.items volume.new speaker.new)) }
 {
@@ -90,7 +90,7 @@ fn obey<F: CleanedStore + Drop>(
     line: Line,
 ) -> Result<Vec<u8>, AllocError>
     ensures { IfOk result (λ text. Does
-        (cleaner_of F.state F.is_settled F.gives_ifile F.gives_infos F.gives_addresses F.writes_again F.reclaims)
+        (cleaner_of F.state F.is_settled F.cleaner)
         volume.old speaker.old line text.items volume.new speaker.new) }
 {
     match line {
@@ -110,7 +110,7 @@ fn make<F: CleanedStore + Drop>(
     act: Act,
 ) -> Result<Vec<u8>, AllocError>
     ensures { IfOk result (λ text. Tells
-        (cleaner_of F.state F.is_settled F.gives_ifile F.gives_infos F.gives_addresses F.writes_again F.reclaims)
+        (cleaner_of F.state F.is_settled F.cleaner)
         volume.old volume.new speaker.now.session speaker.now.cred act [] text.items) }
 {
     let Speaker { session, cred } = *speaker;

@@ -1,3 +1,4 @@
+pub mod CleanerCalls
 pub mod Cleaning
 pub mod Marking
 pub mod States

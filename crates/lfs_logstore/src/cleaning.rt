@@ -39,18 +39,9 @@ impl LogStore {
 }
 
 impl CleanedStore for LogStore {
-    ghost use Rattle.lfs_logstore.specs.Cleaning.{GivesAddresses, GivesIfile, GivesInfos, Reclaims};
-    ghost use Rattle.lfs_logstore.specs.Marking.{WritesAgain};
+    ghost use Rattle.lfs_logstore.specs.CleanerCalls.{log_calls};
 
-    ghost gives_ifile = { GivesIfile };
-
-    ghost gives_infos = { GivesInfos };
-
-    ghost gives_addresses = { GivesAddresses };
-
-    ghost writes_again = { WritesAgain };
-
-    ghost reclaims = { Reclaims };
+    ghost cleaner = { log_calls };
 
     fn ifile_bytes(&self) -> Result<Vec<u8>, AllocError>
         ensures given { IfOk result (λ bytes. GivesIfile self.now bytes.items) }

@@ -1,8 +1,19 @@
 -- What holds of every store that a cleaner cleans: its faults, and what becomes clean.
-use Rattle.std.specs.Prelude.{ℕ, ◌+◌, ◌*◌}
+use Rattle.std.specs.Prelude.{ℕ, ◌+◌, ◌*◌, List, Result}
 use Rattle.lfs_types.specs.StoreStates.{Shape, StoreState}
+use Rattle.lfs_types.specs.declared.cleaner.BlockInfo.{BlockInfo}
 use Rattle.lfs_types.specs.declared.cleaner.CleanFault.{CleanFault}
 use Rattle.lfs_types.specs.declared.cleaner.CleanFault.TheVariants.{NoSuchSegment, Active, NotDirty, Live, NoSpace}
+
+-- What the calls of a store's cleaner may answer: whether bytes are those of the ifile; whether a call for the infos of a
+-- segment may have this result, and leave this list; whether infos become these, each with its present address; whether
+-- blocks may be written again, and a segment be made clean, with this result, from one state of the store to another.
+pub record CleanerCalls (F : Type 0) : Type 1 where
+  pub gives_ifile : F → List ℕ → Type 0
+  pub gives_infos : F → ℕ → Result (Unit {0}) CleanFault → List BlockInfo → Type 0
+  pub gives_addresses : F → List BlockInfo → List BlockInfo → Type 0
+  pub writes_again : F → List BlockInfo → Result ℕ CleanFault → F → Type 0
+  pub reclaims : F → ℕ → Result (Unit {0}) CleanFault → F → Type 0
 
 -- how many bytes an ifile has: a header, and an entry for each segment and for each inode number
 abbrev pub ifile_size : Shape → ℕ

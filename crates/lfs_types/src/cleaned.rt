@@ -1,10 +1,8 @@
 //! The trait of a file store that a cleaner cleans.
 
-ghost use Rattle.std.specs.Prelude.{◌≡◌, ◌≤◌, ℕ, List, Result, length, IfErr, IfOk, OnErr, OnOk};
-ghost use Rattle.lfs_types.specs.Cleaned.{IsListingFault, IsMarkingFault, IsReclaimFault, ifile_size, with_clean_segment};
+ghost use Rattle.std.specs.Prelude.{◌≡◌, ◌≤◌, length, IfErr, IfOk, OnErr, OnOk};
+ghost use Rattle.lfs_types.specs.Cleaned.{CleanerCalls, IsListingFault, IsMarkingFault, IsReclaimFault, ifile_size, with_clean_segment};
 ghost use Rattle.lfs_types.specs.StoreStates.{Follows};
-ghost use Rattle.lfs_types.specs.declared.cleaner.BlockInfo.{BlockInfo};
-ghost use Rattle.lfs_types.specs.declared.cleaner.CleanFault.{CleanFault};
 
 use crate::cleaner::{BlockInfo, CleanFault, InfoList, MarkList};
 use crate::store::FileStore;
@@ -14,37 +12,29 @@ use std::alloc::AllocError;
 /// that read what its cleaner reads of the ifile and of a segment's summaries). What a call answers exactly, each store
 /// says by relations of its own; none of these calls changes the content.
 pub trait CleanedStore: FileStore {
-    /// Whether bytes are those of the ifile.
-    ghost gives_ifile: { Self → List ℕ → Type 0 };
-    /// Whether a call for the infos of a segment may have this result, and leave this list.
-    ghost gives_infos: { Self → ℕ → Result (Unit {0}) CleanFault → List BlockInfo → Type 0 };
-    /// Whether infos become these, each with its present address.
-    ghost gives_addresses: { Self → List BlockInfo → List BlockInfo → Type 0 };
-    /// Whether blocks may be written again with this result, from one state of the store to another.
-    ghost writes_again: { Self → List BlockInfo → Result ℕ CleanFault → Self → Type 0 };
-    /// Whether a segment may be made clean with this result, from one state of the store to another.
-    ghost reclaims: { Self → ℕ → Result (Unit {0}) CleanFault → Self → Type 0 };
+    /// What each of the calls may answer, and how it leaves the store.
+    ghost cleaner: { CleanerCalls Self };
 
     /// The bytes of the ifile.
     fn ifile_bytes(&self) -> Result<Vec<u8>, AllocError>
-        ensures given { IfOk result (λ bytes. gives_ifile self.now bytes.items) }
+        ensures given { IfOk result (λ bytes. cleaner.gives_ifile self.now bytes.items) }
         ensures size { IfOk result (λ bytes. length bytes.items
             ≡ ifile_size (Self.state self.now).shape) };
 
     /// The infos of a dirty segment, in the order of the log. After a fault the list is not to be read.
     fn infos(&self, segment: u32, infos: &mut InfoList) -> Result<(), CleanFault>
-        ensures given { gives_infos self.now segment result infos.new }
+        ensures given { cleaner.gives_infos self.now segment result infos.new }
         ensures fault { IfErr result IsListingFault };
 
     /// Sets each address to the present one: 0 where the number, the version or the block is not in use, or has none.
     fn bmapv(&self, infos: &mut [BlockInfo])
-        ensures given { gives_addresses self.now infos.old infos.new }
+        ensures given { cleaner.gives_addresses self.now infos.old infos.new }
         ensures same_length { length infos.new ≡ length infos.old };
 
     /// Writes again, at the end of the log, each named block whose present address is the one given and not 0, and says
     /// how many.
     fn markv(&mut self, marks: &MarkList) -> Result<u32, CleanFault>
-        ensures given { writes_again self.old marks.now result self.new }
+        ensures given { cleaner.writes_again self.old marks.now result self.new }
         ensures few { IfOk result (λ count. count ≤ length marks.now) }
         ensures fault { IfErr result IsMarkingFault }
         ensures content { (Self.state self.new).content ≡ (Self.state self.old).content }
@@ -52,7 +42,7 @@ pub trait CleanedStore: FileStore {
 
     /// Makes a dirty segment without live bytes clean.
     fn segclean(&mut self, segment: u32) -> Result<(), CleanFault>
-        ensures given { reclaims self.old segment result self.new }
+        ensures given { cleaner.reclaims self.old segment result self.new }
         ensures fault { IfErr result IsReclaimFault }
         ensures refused { OnErr result (self.new ≡ self.old) }
         ensures cleaned { OnOk result (Self.state self.new

@@ -1,13 +1,13 @@
 -- What a cleaner's call is answered over a store, and how it leaves the store.
 use Rattle.std.specs.Prelude.{◌≡◌, ◌≢◌, ℕ, ◌+◌, ◌^◌, ◌<◌, ◌≤◌, List, Result, Ok, Err, IfSome, length}
 use Rattle.lfs_types.specs.Caller.{Caller}
-use Rattle.lfs_types.specs.Cleaned.{with_clean_segment}
+use Rattle.lfs_types.specs.Cleaned.{CleanerCalls, with_clean_segment}
 use Rattle.lfs_types.specs.StoreStates.{Follows, StoreState}
 use Rattle.lfs_types.specs.declared.answer.Resource.TheVariants.{NoMemory}
 use Rattle.lfs_types.specs.declared.cleaner.BlockInfo.{BlockInfo}
 use Rattle.lfs_types.specs.declared.cleaner.CleanFault.{CleanFault}
 use Rattle.lfs_types.specs.declared.cleaner.CleanerCall.{CleanerCall}
-use Rattle.lfs_types.specs.declared.cleaner.CleanerCall.TheVariants as calls
+use Rattle.lfs_types.specs.declared.cleaner.CleanerCall.TheVariants as call
 use Rattle.lfs_types.specs.declared.rule.Denial.{Denial}
 use Rattle.lfs_types.specs.declared.rule.Rule.TheVariants.{IsSuperuser}
 use Rattle.lfs_model.specs.declared.journal.CleanerAnswer.{CleanerAnswer}
@@ -20,25 +20,11 @@ use Rattle.lfs_model.specs.Runs.{cleans, kind_of, outcome_of}
 pub record Cleaner (F : Type 0) : Type 1 where
   pub state : F → StoreState
   pub is_settled : F → Type 0
-  pub gives_ifile : F → List ℕ → Type 0
-  pub gives_infos : F → ℕ → Result (Unit {0}) CleanFault → List BlockInfo → Type 0
-  pub gives_addresses : F → List BlockInfo → List BlockInfo → Type 0
-  pub writes_again : F → List BlockInfo → Result ℕ CleanFault → F → Type 0
-  pub reclaims : F → ℕ → Result (Unit {0}) CleanFault → F → Type 0
+  pub calls : CleanerCalls F
 
 -- such a kind of store, of its parts
-abbrev pub cleaner_of : {F : Type 0} → (F → StoreState) → (F → Type 0) → (F → List ℕ → Type 0) → (F → ℕ → Result (Unit {0}) CleanFault → List BlockInfo → Type 0)
-    → (F → List BlockInfo → List BlockInfo → Type 0) → (F → List BlockInfo → Result ℕ CleanFault → F → Type 0)
-    → (F → ℕ → Result (Unit {0}) CleanFault → F → Type 0) → Cleaner F
-cleaner_of state is_settled gives_ifile gives_infos gives_addresses writes_again reclaims = record {
-  state = state;
-  is_settled = is_settled;
-  gives_ifile = gives_ifile;
-  gives_infos = gives_infos;
-  gives_addresses = gives_addresses;
-  writes_again = writes_again;
-  reclaims = reclaims;
-}
+abbrev pub cleaner_of : {F : Type 0} → (F → StoreState) → (F → Type 0) → CleanerCalls F → Cleaner F
+cleaner_of state is_settled calls = record { state = state; is_settled = is_settled; calls = calls }
 
 -- the denial of a cleaner's call
 abbrev pub not_superuser : Denial
@@ -47,16 +33,16 @@ not_superuser = record { rule = IsSuperuser; path = 0; at = 0 }
 -- A cleaner's call of the superuser may be answered so, from one store to another: as the store's call gives it. The
 -- bytes of the ifile alone may want memory. The calls that only read leave the store as it was.
 abbrev pub IsDone : {F : Type 0} → Cleaner F → F → CleanerCall → CleanerAnswer → F → Type 0
-IsDone r old calls.Ifile (Ifile bytes) new = r.gives_ifile old bytes × (new ≡ old)
-IsDone r old calls.Ifile (Refused NoMemory) new = new ≡ old
-IsDone r old (calls.Infos segment) (Infos infos) new = r.gives_infos old segment (Ok tt) infos × (new ≡ old)
-IsDone r old (calls.Infos segment) (Fault fault) new = ((infos : List BlockInfo) × r.gives_infos old segment (Err fault) infos) × (new ≡ old)
-IsDone r old (calls.Bmapv infos) (Bmapv given) new = r.gives_addresses old infos given × (new ≡ old)
-IsDone r old (calls.Markv marks) (Marked count) new = r.writes_again old marks (Ok count) new
-IsDone r old (calls.Markv marks) (Fault fault) new = r.writes_again old marks (Err fault) new
-IsDone r old (calls.Segclean segment) Cleaned new = r.reclaims old segment (Ok tt) new
-IsDone r old (calls.Segclean segment) (Fault fault) new = r.reclaims old segment (Err fault) new
-IsDone r old call answer new = ⊥
+IsDone r old call.Ifile (Ifile bytes) new = r.calls.gives_ifile old bytes × (new ≡ old)
+IsDone r old call.Ifile (Refused NoMemory) new = new ≡ old
+IsDone r old (call.Infos segment) (Infos infos) new = r.calls.gives_infos old segment (Ok tt) infos × (new ≡ old)
+IsDone r old (call.Infos segment) (Fault fault) new = ((infos : List BlockInfo) × r.calls.gives_infos old segment (Err fault) infos) × (new ≡ old)
+IsDone r old (call.Bmapv infos) (Bmapv given) new = r.calls.gives_addresses old infos given × (new ≡ old)
+IsDone r old (call.Markv marks) (Marked count) new = r.calls.writes_again old marks (Ok count) new
+IsDone r old (call.Markv marks) (Fault fault) new = r.calls.writes_again old marks (Err fault) new
+IsDone r old (call.Segclean segment) Cleaned new = r.calls.reclaims old segment (Ok tt) new
+IsDone r old (call.Segclean segment) (Fault fault) new = r.calls.reclaims old segment (Err fault) new
+IsDone r old asked answer new = ⊥
 
 -- a cleaner's call of this caller may be answered so: it is denied exactly where the caller isn't the superuser
 abbrev pub IsCleanerAnswer : {F : Type 0} → Cleaner F → F → Caller → CleanerCall → CleanerAnswer → F → Type 0

@@ -23,7 +23,7 @@ pub fn cleaned<F: CleanedStore>(
     call: CleanerCall,
 ) -> CleanerAnswer
     ensures answered { IsCleanerAnswer
-        (cleaner_of F.state F.is_settled F.gives_ifile F.gives_infos F.gives_addresses F.writes_again F.reclaims)
+        (cleaner_of F.state F.is_settled F.cleaner)
         store.old cred.now call result store.new }
     ensures cleaned { IsCleaned (F.state store.old) (F.state store.new) cred.now call result }
 {
@@ -40,7 +40,7 @@ pub fn cleaned<F: CleanedStore>(
 /// The answer to a superuser's call: what the store's call gives.
 fn done<F: CleanedStore>(store: &mut Tree<F>, call: CleanerCall) -> CleanerAnswer
     ensures done { IsDone
-        (cleaner_of F.state F.is_settled F.gives_ifile F.gives_infos F.gives_addresses F.writes_again F.reclaims)
+        (cleaner_of F.state F.is_settled F.cleaner)
         store.old call result store.new }
     ensures cleaned { (caller : Caller) → caller.uid ≡ 0
         → IsCleaned (F.state store.old) (F.state store.new) caller call result }
@@ -86,7 +86,7 @@ pub fn outcome(answer: &CleanerAnswer) -> Option<CleanerOutcome>
 
 /// The bytes of the ifile, where there is memory for them and a u32 counts them.
 fn ifile<F: CleanedStore>(store: &Tree<F>) -> Option<Bytes>
-    ensures given { IfSome result (λ bytes. F.gives_ifile store.now bytes) }
+    ensures given { IfSome result (λ bytes. F.cleaner.gives_ifile store.now bytes) }
     ensures size { IfSome result (λ bytes. length bytes ≡ ifile_size (F.state store.now).shape) }
     ensures counted { IfSome result (λ bytes. length bytes < 2 ^ 32) }
 {
@@ -100,8 +100,8 @@ fn ifile<F: CleanedStore>(store: &Tree<F>) -> Option<Bytes>
 /// The infos of a segment.
 fn infos<F: CleanedStore>(store: &Tree<F>, segment: u32) -> Result<InfoList, CleanFault>
     ensures given { MatchResult result
-        (λ infos. F.gives_infos store.now segment (Ok tt) infos)
-        (λ fault. (infos : List BlockInfo) × F.gives_infos store.now segment (Err fault) infos) }
+        (λ infos. F.cleaner.gives_infos store.now segment (Ok tt) infos)
+        (λ fault. (infos : List BlockInfo) × F.cleaner.gives_infos store.now segment (Err fault) infos) }
     ensures bounds { MatchResult result (λ infos. length infos ≤ INFO_LIMIT) IsListingFault }
 {
     let mut infos = InfoList::empty();
@@ -112,7 +112,7 @@ fn infos<F: CleanedStore>(store: &Tree<F>, segment: u32) -> Result<InfoList, Cle
 
 /// The infos with their present addresses.
 fn addresses<F: CleanedStore>(store: &Tree<F>, infos: InfoList) -> InfoList
-    ensures given { F.gives_addresses store.now infos result }
+    ensures given { F.cleaner.gives_addresses store.now infos result }
     ensures few { length result ≤ INFO_LIMIT }
 {
     let mut items = infos.into_items();

@@ -260,8 +260,7 @@ impl<F: CleanedStore + Drop> Volume<F> {
         ensures shown { let old = F.state self.old.store in
             IsVolume old (world_of old.shape.numbers self.old.journal) }
         ensures answered { length self.old.journal < self.old.limit → IsCleanerAnswer
-            (cleaner_of F.state F.is_settled F.gives_ifile F.gives_infos F.gives_addresses
-            F.writes_again F.reclaims)
+            (cleaner_of F.state F.is_settled F.cleaner)
             self.old.store cred.now call result self.new.store }
         ensures entered { self.new.journal ≡ self.old.journal
             ++ kept_cleaning session cred.now call result }
@@ -289,8 +288,7 @@ impl<F: CleanedStore + Drop> Volume<F> {
     /// first. Without the cleaner's steps the users' would have the same answers.
     pub fn run_steps(&mut self, steps: Vec<Step>) -> Result<Vec<StepAnswer>, RunMemory>
         ensures each { IfOk result (λ answers. AreSteps
-            (cleaner_of F.state F.is_settled F.gives_ifile F.gives_infos F.gives_addresses
-            F.writes_again F.reclaims)
+            (cleaner_of F.state F.is_settled F.cleaner)
             self.old.limit self.old.journal self.old.store
             steps.items answers.items self.new.store) }
         ensures entered { IfOk result (λ answers. self.new.journal
@@ -318,8 +316,7 @@ impl<F: CleanedStore + Drop> Volume<F> {
     /// Makes one step, as `call` or `clean` does.
     fn make(&mut self, step: Step) -> StepAnswer
         ensures made { IsActMade
-            (cleaner_of F.state F.is_settled F.gives_ifile F.gives_infos F.gives_addresses
-            F.writes_again F.reclaims)
+            (cleaner_of F.state F.is_settled F.cleaner)
             self.old.limit self.old.journal self.old.store
             step.cred step.act result self.new.store }
         ensures entered { self.new.journal ≡ self.old.journal ++ kept_step step result }

@@ -57,15 +57,13 @@ impl FileStore for Unswept {
 impl CleanedStore for Unswept {
     ghost use Rattle.std.specs.Prelude.{⊤};
 
-    ghost gives_ifile = { λ _ _. ⊤ };
-
-    ghost gives_infos = { λ _ _ _ _. ⊤ };
-
-    ghost gives_addresses = { λ _ _ _. ⊤ };
-
-    ghost writes_again = { λ _ _ _ _. ⊤ };
-
-    ghost reclaims = { λ _ _ _ _. ⊤ };
+    ghost cleaner = { record {
+        gives_ifile = λ _ _. ⊤;
+        gives_infos = λ _ _ _ _. ⊤;
+        gives_addresses = λ _ _ _. ⊤;
+        writes_again = λ _ _ _ _. ⊤;
+        reclaims = λ _ _ _ _. ⊤
+    } };
 
     fn ifile_bytes(&self) -> Result<Vec<u8>, AllocError> {
         Err(AllocError)

@@ -8,7 +8,7 @@ use Rattle.lfs_audit.proofs.passing.call.Goals as goal
 pub returns : goal.returns
 returns g c =
     let s = g.F.CleanedStore in
-    let r = cleaner_of g.F.FileStore.state g.F.FileStore.is_settled s.gives_ifile s.gives_infos s.gives_addresses s.writes_again s.reclaims in
+    let r = cleaner_of g.F.FileStore.state g.F.FileStore.is_settled s.cleaner in
     let old = c.args.volume.now in
     let new = c.call-answer.new.self in
     let e = c.call-answer.ensures in

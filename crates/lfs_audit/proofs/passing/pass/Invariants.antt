@@ -6,7 +6,7 @@ use Rattle.lfs_audit.proofs.passing.pass.Given as goal
 abbrev pub invariant-loop-call : goal.invariant-loop-call
 invariant-loop-call g l =
     let s = g.F.CleanedStore in
-    IsPassing (cleaner_of g.F.FileStore.state g.F.FileStore.is_settled s.gives_ifile s.gives_infos s.gives_addresses s.writes_again s.reclaims)
+    IsPassing (cleaner_of g.F.FileStore.state g.F.FileStore.is_settled s.cleaner)
     l.fn.volume l.volume l.session l.cred l.pass l.last l.fn.text.items l.text.items
 
 abbrev pub decreases-loop-call : goal.decreases-loop-call

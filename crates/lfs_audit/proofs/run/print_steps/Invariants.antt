@@ -6,6 +6,6 @@ use Rattle.lfs_audit.proofs.run.print_steps.Given as goal
 abbrev pub invariant-loop-step : goal.invariant-loop-step
 invariant-loop-step g l =
     let s = g.F.CleanedStore in
-    Writes (cleaner_of g.F.FileStore.state g.F.FileStore.is_settled s.gives_ifile s.gives_infos s.gives_addresses s.writes_again s.reclaims)
+    Writes (cleaner_of g.F.FileStore.state g.F.FileStore.is_settled s.cleaner)
     l.fn.volume l.volume l.yielded
     (append_known (g.W.Write.contents l.fn.writer) l.fn.text.items) (append_known (g.W.Write.contents l.writer) l.text.items)

@@ -5,7 +5,7 @@ use Rattle.lfs_volume.proofs.cleaning.cleaned.Goals as goal
 
 pub returns-clause-answered : goal.returns-clause-answered
 returns-clause-answered g c =
-    let r = cleaner_of g.F.FileStore.state g.F.FileStore.is_settled g.F.CleanedStore.gives_ifile g.F.CleanedStore.gives_infos g.F.CleanedStore.gives_addresses g.F.CleanedStore.writes_again g.F.CleanedStore.reclaims in
+    let r = cleaner_of g.F.FileStore.state g.F.FileStore.is_settled g.F.CleanedStore.cleaner in
     answered_done r c.args.store.now c.args.cred.now c.args.call c.done.result c.done.new.store (search rules) c.done.ensures.done
 
 pub returns-clause-cleaned : goal.returns-clause-cleaned

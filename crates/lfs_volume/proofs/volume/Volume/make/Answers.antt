@@ -9,7 +9,7 @@ use Rattle.lfs_volume.proofs.volume.Volume.make.Goals as goal
 pub returns-in-User-clause-made : goal.returns-in-User-clause-made
 returns-in-User-clause-made g c =
     let s = g.F.CleanedStore in
-    let r = cleaner_of g.F.FileStore.state g.F.FileStore.is_settled s.gives_ifile s.gives_infos s.gives_addresses s.writes_again s.reclaims in
+    let r = cleaner_of g.F.FileStore.state g.F.FileStore.is_settled s.cleaner in
     let old = c.args.self.now in
     let new = c.call.new.self in
     let e = c.call.ensures in

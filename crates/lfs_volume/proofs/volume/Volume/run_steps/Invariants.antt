@@ -9,7 +9,7 @@ abbrev pub invariant-loop-step : goal.invariant-loop-step
 invariant-loop-step g l =
     let r = g.F.CleanedStore in
     record {
-      each : AreSteps (cleaner_of g.F.FileStore.state g.F.FileStore.is_settled r.gives_ifile r.gives_infos r.gives_addresses r.writes_again r.reclaims) l.fn.self.limit l.fn.self.journal l.fn.self.store l.yielded l.answers.items l.self.store;
+      each : AreSteps (cleaner_of g.F.FileStore.state g.F.FileStore.is_settled r.cleaner) l.fn.self.limit l.fn.self.journal l.fn.self.store l.yielded l.answers.items l.self.store;
       entered : l.self.journal ≡ l.fn.self.journal ++ kept_steps l.yielded l.answers.items;
       legal : IsJournal (g.F.FileStore.state l.self.store) l.self.level l.self.journal l.self.limit;
       all : l.yielded ++ l.step-iterator.rest.items ≡ l.fn.steps.items;
