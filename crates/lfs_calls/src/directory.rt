@@ -40,7 +40,9 @@ pub fn look_up<F: FileStore>(store: &mut Tree<F>, dir: u32, size: u64, name: &Na
     found
 }
 
-/// The number that a directory of this size lists under a name, by its blocks.
+/// The number that a directory of this size lists under a name, by its blocks. It stands apart, so that a walk along known
+/// names is short.
+#[inline(never)]
 fn search<F: FileStore>(store: &mut Tree<F>, dir: u32, size: u64, name: &Name) -> Option<u32>
     requires { HasBlocks (F.state store.old).content dir size }
     ensures found { result ≡ number_in name.now (listed

@@ -81,6 +81,16 @@ impl<F: FileStore> Tree<F> {
         if let Some(attrs) = self.attributes.look(ino) {
             return Some(attrs);
         }
+        self.read_attrs(ino)
+    }
+
+    /// The attributes of a number as the store shows them, if it is in use, which are known from now on. It stands apart,
+    /// so that a walk along known numbers is short.
+    #[inline(never)]
+    fn read_attrs(&mut self, ino: u32) -> Option<Attrs>
+        ensures attrs { result ≡ shown_attrs (F.state self.old).content ino }
+        ensures same { self.new ≡ self.old }
+    {
         let attrs = self.store.attrs(ino)?;
         self.attributes.enter(ino, &attrs);
         Some(attrs)

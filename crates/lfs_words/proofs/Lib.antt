@@ -1,6 +1,7 @@
 pub mod Appended
 pub mod CallerBack
 pub mod FaultLemmas
+pub mod FirstByte
 pub mod FlagDigits
 pub mod GroupLists
 pub mod HexDigits

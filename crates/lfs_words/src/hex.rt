@@ -108,8 +108,7 @@ fn decoded(alloc: Global, digits: &[u8]) -> Result<Vec<u8>, AllocError>
     ensures spelled { IfOk result (λ bytes. hex_text bytes.items ≡ digits.now) }
     ensures read { IfOk result (λ bytes. hex_bytes digits.now ≡ bytes.items) }
 {
-    let mut bytes = Vec::new(alloc);
-    bytes.resize(digits.len() / 2, 0)?;
+    let mut bytes = Vec::from_elem(alloc, 0, digits.len() / 2)?;
     decode(bytes.as_mut_slice(), digits);
     Ok(bytes)
 }

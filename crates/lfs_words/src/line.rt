@@ -7,6 +7,7 @@ ghost use Rattle.lfs_words.specs.Wording.{is_bare};
 ghost use Rattle.lfs_words.specs.declared.fault.FaultKind.TheVariants.{Bytes};
 
 use crate::fault::FaultKind;
+use memchr::memchr;
 use std::str;
 
 /// A text up to its first line feed, and what is behind it.
@@ -23,7 +24,7 @@ pub fn cut_line(text: &[u8]) -> Option<(&[u8], &[u8])>
 fn line_feed_at(text: &[u8]) -> Option<usize>
     ensures { result ≡ position (λ b. b == 10) text.now }
 {
-    text.iter().position(|byte| *byte == b'\n')
+    memchr(b'\n', text)
 }
 
 /// The text of a line, whose bytes are from 0x20 to 0x7E.

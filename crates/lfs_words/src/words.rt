@@ -5,10 +5,17 @@ ghost use Rattle.std.specs.List.{slice_split};
 ghost use Rattle.lfs_words.specs.Wording.{no_word, one_word, two_words, three_words};
 
 use crate::fault::FaultKind;
+use smallvec::SmallVec;
 use std::alloc::{AllocError, Global};
 
+/// So many pieces of a text lie in the value itself and take no memory.
+const INLINE_PIECES: usize = 8;
+
+/// The pieces of a text.
+pub type Pieces<'a> = SmallVec<&'a str, INLINE_PIECES>;
+
 /// What stands between the separators of a text.
-pub fn pieces<'a>(alloc: Global, text: &'a str, separator: char) -> Result<Vec<&'a str>, AllocError>
+pub fn pieces<'a>(alloc: Global, text: &'a str, separator: char) -> Result<Pieces<'a>, AllocError>
     requires { separator < 128 }
     ensures { IfOk result (λ v. map (λ x. x.now) v.items ≡ slice_split (λ b. b == separator) text.now) }
 {
