@@ -50,7 +50,8 @@ pub(crate) fn land_records(parts: &mut Parts)
         → Expects parts.old.log.memory (inodes_entry ∷ rest) → Expects parts.new.log.memory rest }
 {
     let first = parts.waiting.len().saturating_sub(SLOT_COUNT);
-    let block = packed(&parts.waiting.as_slice()[first..]);
+    let oldest = parts.waiting.oldest();
+    let block = packed(oldest.as_slice());
     let address = append_block(parts, &block);
     while parts.waiting.len() > first {
         let slot = parts.waiting.len() - 1 - first;

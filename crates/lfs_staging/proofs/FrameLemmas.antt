@@ -58,11 +58,7 @@ part_most (e ∷ es) ys apart there =
     subst IsSome (sym (block_other e.0 k ys other)) (there k (subst IsSome (sym (cond-false _ _ _ other)) in_rest))) in
     omega arith
 
--- where what waits waited, no more frames do
-pub locked_most : (c d : Contents) → IsContents d → ((k : Key) → IsLocked k d → IsLocked k c) → length d.locked ≤ length c.locked
-locked_most c d formed only = part_most d.locked c.locked (locked_apart d formed) only
-
--- and fewer where a key waits no more
+-- where what waits waited and a key waits no more, fewer frames do
 pub locked_less : (c d : Contents) (key : Key) → IsContents d → ((k : Key) → IsLocked k d → IsLocked k c) → IsLocked key c → block_in key d.locked ≡ None
     → length d.locked + 1 ≤ length c.locked
 locked_less c d key formed only was gone =

@@ -10,6 +10,7 @@ pub mod files;
 mod format;
 pub mod keys;
 pub mod making;
+pub mod oldest;
 pub mod parts;
 pub mod reading;
 pub mod records;

@@ -1,24 +1,30 @@
 //! The records that wait to be written, told apart by number.
 
-ghost use Rattle.std.specs.Prelude.{◌≡◌, ◌<◌, ◌∷◌, ◌++◌, ◌==◌, [], IfOk, IsSome, length, vec_capacity};
+ghost use Rattle.std.specs.Prelude.{◌≡◌, ◌-◌, ◌<◌, ◌∷◌, ◌++◌, ◌==◌, [], IfOk, IsSome, drop, length};
 ghost use Rattle.std.specs.Option.{is_some};
+ghost use Rattle.std.specs.VecDeque.{deque_capacity};
 ghost use Rattle.lfs_types.specs.Ranges.{most_inodes};
+ghost use Rattle.lfs_log.specs.declared.packing.TheConstants.{SLOT_COUNT};
 ghost use Rattle.lfs_staging.specs.Addressing.{Replaces, replaced};
 ghost use Rattle.lfs_staging.specs.Waiting.{waiting_in, without};
 
+use crate::oldest::{Oldest, oldest_of};
 use lfs_inodes::inode::Inode;
+use lfs_log::packing::SLOT_COUNT;
 use lfs_types::limits::MOST_INODES;
 use std::alloc::{AllocError, Global};
+use std::collections::VecDeque;
 use std::marker::Model;
 
 /// The greatest number of inode records that wait to be written (this project's profile).
 pub const WAITING_LIMIT: usize = 64;
 
 /// At most `WAITING_LIMIT` inode records, each of another number, newest first. Contracts see a list.
-/// That a number has none is told without a search.
+/// That a number has none is told without a search, and a record at either end comes and goes without
+/// a move of the others.
 #[derive(Drop)]
 pub struct Records {
-    records: Vec<Inode>,
+    records: VecDeque<Inode>,
     // For each number whether one of the records is of it.
     waits: Vec<bool>,
 }
@@ -29,18 +35,18 @@ impl Model for Records {
 
     ghost Value = { List Inode };
 
-    ghost use Rattle.std.specs.Vec.{vec_capacity};
+    ghost use Rattle.std.specs.VecDeque.{deque_capacity};
     ghost use Rattle.lfs_staging.specs.Waiting.{IsRecords};
 
     ghost view = { λ r. r.records.items };
 
-    ghost invariant = { λ r. IsRecords r.records.items r.waits.items (vec_capacity r.records) };
+    ghost invariant = { λ r. IsRecords r.records.items r.waits.items (deque_capacity r.records) };
 }
 
 /// Takes the first record of a number off a list.
-fn drop_record(records: &mut Vec<Inode>, number: u32)
+fn drop_record(records: &mut VecDeque<Inode>, number: u32)
     ensures items { records.new.items ≡ without number records.old.items }
-    ensures capacity { vec_capacity records.new ≡ vec_capacity records.old }
+    ensures capacity { deque_capacity records.new ≡ deque_capacity records.old }
 {
     for place in 0..records.len() {
         if records[place].number == number {
@@ -51,44 +57,31 @@ fn drop_record(records: &mut Vec<Inode>, number: u32)
 }
 
 /// Takes the first record of a number off a list, where it is known whether there is one.
-fn drop_known(records: &mut Vec<Inode>, number: u32, waits: bool)
+fn drop_known(records: &mut VecDeque<Inode>, number: u32, waits: bool)
     requires { waits ≡ is_some (waiting_in records.old.items number) }
     ensures items { records.new.items ≡ without number records.old.items }
-    ensures capacity { vec_capacity records.new ≡ vec_capacity records.old }
+    ensures capacity { deque_capacity records.new ≡ deque_capacity records.old }
 {
     if waits {
         drop_record(records, number);
     }
 }
 
-/// Puts a record first on a list that has room.
-fn put_first(records: &mut Vec<Inode>, inode: Inode)
-    requires { length records.old.items < vec_capacity records.old }
-    ensures items { records.new.items ≡ inode ∷ records.old.items }
-    ensures capacity { vec_capacity records.new ≡ vec_capacity records.old }
-{
-    match records.insert(0, inode) {
-        Ok(()) => {}
-        Err(_) => unreachable!(),
-    }
-}
-
 /// The first record of a number on a list, if there is one.
-fn find_record(records: &[Inode], number: u32) -> Option<Inode>
-    ensures { result ≡ waiting_in records.now number }
+fn find_record(records: &VecDeque<Inode>, number: u32) -> Option<Inode>
+    ensures { result ≡ waiting_in records.now.items number }
 {
     records.iter().find(|inode| inode.number == number).copied()
 }
 
 /// Puts a record in the place of the one of its number.
-fn replace_record(records: &mut Vec<Inode>, changed: Inode)
+fn replace_record(records: &mut VecDeque<Inode>, changed: Inode)
     requires { IsSome (waiting_in records.old.items changed.number) }
     ensures items { records.new.items ≡ replaced records.old.items changed }
     ensures record { Replaces records.old.items records.new.items changed }
-    ensures capacity { vec_capacity records.new ≡ vec_capacity records.old }
+    ensures capacity { deque_capacity records.new ≡ deque_capacity records.old }
 {
     let place = records
-        .as_slice()
         .iter()
         .position(|inode| inode.number == changed.number);
     match place {
@@ -102,7 +95,7 @@ impl Records {
     pub fn new(alloc: Global) -> Result<Records, AllocError>
         ensures { IfOk result (λ records. records ≡ []) }
     {
-        let records = Vec::with_capacity(alloc, WAITING_LIMIT)?;
+        let records = VecDeque::with_capacity(alloc, WAITING_LIMIT)?;
         let waits = Vec::from_elem(alloc, false, MOST_INODES as usize)?;
         Ok(Records { records, waits })
     }
@@ -121,11 +114,13 @@ impl Records {
         self.records.is_empty()
     }
 
-    /// All records, newest first.
-    pub fn as_slice(&self) -> &[Inode]
-        ensures { result.now ≡ self.now }
+    /// The records that have waited longest: the last of them, at most `SLOT_COUNT`, in their order.
+    /// There must be one.
+    pub fn oldest(&self) -> Oldest
+        requires { 0 < length self.now }
+        ensures { result ≡ drop (length self.now - SLOT_COUNT) self.now }
     {
-        &self.records
+        oldest_of(&self.records)
     }
 
     /// The record of a number, if there is one.
@@ -155,7 +150,7 @@ impl Records {
         let number = inode.number;
         let waits = self.has(number);
         drop_known(&mut self.records, number, waits);
-        put_first(&mut self.records, inode);
+        self.records.push_front_reserved(inode);
         self.waits[number as usize] = true;
     }
 
@@ -183,7 +178,7 @@ impl Records {
         requires { 0 < length self.old }
         ensures { self.old ≡ self.new ++ result ∷ [] }
     {
-        match self.records.pop() {
+        match self.records.pop_back() {
             Some(inode) => {
                 self.waits[inode.number as usize] = false;
                 inode

@@ -12,18 +12,12 @@ loop-parts-init c =
 
 pub settle_record-requires-clause-stands : goal.settle_record-requires-clause-stands
 settle_record-requires-clause-stands c = λ front v items.
-    let listed = c.as_slice.result.now in
     let first = c.saturating_sub-first.result in
-    let value : listed ≡ c.args.parts.now.waiting = c.as_slice.ensures in
-    let left = length-drop first listed in
-    let whole : take (length listed - first) (drop first listed) ≡ drop first listed = take_all (length listed - first) (drop first listed) (omega arith) in
-    let same : take (length listed - first) (drop first listed) ≡ drop first c.args.parts.now.waiting = whole ∙ ap (drop first) value in
-    let count = ap (λ (vs : List Inode). length vs) value in
-    let many = ap (λ (vs : List Inode). length vs) whole in
+    let same : c.as_slice.result.now ≡ drop first c.args.parts.now.waiting = c.as_slice.ensures.value ∙ c.oldest.ensures in
     let test = c.loop-parts-test.true in
     record_stands c.args.parts.now c.append_block-address.new.parts c.loop-parts.parts first c.append_block-address.result _ _ _ front v
     c.requires.staged.whole.parts.laid_out c.append_block-address.ensures.put (c.append_block-address.ensures.named _ _ c.requires.expected.expects)
-    same (omega arith) c.packed-block.ensures.reading c.packed-block.ensures.records c.loop-parts.invariant
+    same c.as_slice.ensures.fits c.packed-block.ensures.reading c.packed-block.ensures.records c.loop-parts.invariant
     (omega (arith, c.len-in-loop-parts.ensures)) (omega (arith, c.len-in-loop-parts-2.ensures)) items
 
 pub loop-parts-preserved : goal.loop-parts-preserved
