@@ -1,6 +1,4 @@
-use Rattle.std.proofs.Common.{◌≡◌, ◌-◌, List, length, take, drop, ap, ◌∙◌, arith}
-use Rattle.std.proofs.lemmas.List.{length-drop, take_all}
-use Rattle.lfs_inodes.specs.declared.inode.Inode.{Inode}
+use Rattle.std.proofs.Common.{◌≡◌, ◌-◌, length, drop, ap, ◌∙◌, arith}
 use Rattle.lfs_segments.specs.Memory.{SegmentMemory, next_address}
 use Rattle.lfs_segwrite.proofs.RecordsLemmas.{recording_begins, recording_more, record_stands}
 use Rattle.lfs_segwrite.proofs.records.land_records.Goals as goal
@@ -13,7 +11,9 @@ loop-parts-init c =
 pub settle_record-requires-clause-stands : goal.settle_record-requires-clause-stands
 settle_record-requires-clause-stands c = λ front v items.
     let first = c.saturating_sub-first.result in
-    let same : c.as_slice.result.now ≡ drop first c.args.parts.now.waiting = c.as_slice.ensures.value ∙ c.oldest.ensures in
+    let waiting = c.args.parts.now.waiting in
+    let begins : length waiting - 4 ≡ first = omega arith in
+    let same : c.as_slice.result.now ≡ drop first waiting = c.as_slice.ensures.value ∙ c.oldest-oldest.ensures ∙ ap (λ n. drop n waiting) begins in
     let test = c.loop-parts-test.true in
     record_stands c.args.parts.now c.append_block-address.new.parts c.loop-parts.parts first c.append_block-address.result _ _ _ front v
     c.requires.staged.whole.parts.laid_out c.append_block-address.ensures.put (c.append_block-address.ensures.named _ _ c.requires.expected.expects)
