@@ -19,7 +19,7 @@ use Rattle.lfs_view.specs.declared.cells.Kind.{Kind}
 use Rattle.lfs_view.specs.declared.cells.Kind.TheVariants.{Label, Summary, Block, Records, Unwritten}
 use Rattle.lfs_view.specs.declared.life.Life.{Life}
 use Rattle.lfs_view.specs.declared.life.Life.TheVariants.{Live, Partly, Dead}
-use Rattle.lfs_view.specs.declared.records.Seen.{Seen}
+use Rattle.lfs_view.specs.declared.records.LoggedRecord.{LoggedRecord}
 use Rattle.lfs_view.specs.declared.walk.Standing.{Standing}
 use Rattle.lfs_view.specs.declared.walk.Standing.TheVariants as standing
 
@@ -44,36 +44,36 @@ is_there None version address slot = false
 is_there (Some place) version address slot = (place.addr == address) && ((place.slot == slot) && (place.version == version))
 
 -- a record that stands in a slot of the block at an address, and whether it is the present one of its number
-abbrev pub seen_of : Parts → ℕ → ℕ → ℕ × ℕ → Seen
-seen_of p address slot key = record {
+abbrev pub logged_of : Parts → ℕ → ℕ → ℕ × ℕ → LoggedRecord
+logged_of p address slot key = record {
   number = key.0;
   version = key.1;
   present = present p key.0 key.1 Inodes;
   is_live = is_there (place_of p.log.tables key.0) key.1 address slot;
 }
 
-abbrev pub seen_at : Parts → ℕ → ℕ → Option Seen
-seen_at p address slot = option_map (seen_of p address slot) (record_at p.log.memory address slot)
+abbrev pub logged_at : Parts → ℕ → ℕ → Option LoggedRecord
+logged_at p address slot = option_map (logged_of p address slot) (record_at p.log.memory address slot)
 
 -- one for a record
-abbrev pub found_one : Option Seen → ℕ
+abbrev pub found_one : Option LoggedRecord → ℕ
 found_one None = 0
-found_one (Some seen) = 1
+found_one (Some logged) = 1
 
 -- one for a present record
-abbrev pub live_one : Option Seen → ℕ
+abbrev pub live_one : Option LoggedRecord → ℕ
 live_one None = 0
-live_one (Some seen) = if seen.is_live then 1 else 0
+live_one (Some logged) = if logged.is_live then 1 else 0
 
 -- how many records stand in the block at an address
 abbrev pub found_at : Parts → ℕ → ℕ
 found_at p address =
-    found_one (seen_at p address 0) + found_one (seen_at p address 1) + found_one (seen_at p address 2) + found_one (seen_at p address 3)
+    found_one (logged_at p address 0) + found_one (logged_at p address 1) + found_one (logged_at p address 2) + found_one (logged_at p address 3)
 
 -- how many of them are the present ones
 abbrev pub live_at : Parts → ℕ → ℕ
 live_at p address =
-    live_one (seen_at p address 0) + live_one (seen_at p address 1) + live_one (seen_at p address 2) + live_one (seen_at p address 3)
+    live_one (logged_at p address 0) + live_one (logged_at p address 1) + live_one (logged_at p address 2) + live_one (logged_at p address 3)
 
 -- what is seen of a block that an entry names: of a file's block its present address, of an inode block its records
 abbrev pub named_kind : Parts → ℕ → SummaryEntry → LogicalBlock → Kind

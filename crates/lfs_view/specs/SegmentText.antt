@@ -7,14 +7,14 @@ use Rattle.lfs_segments.specs.declared.entry.SummaryEntry.{SummaryEntry}
 use Rattle.lfs_segments.specs.Entry.{block_number}
 use Rattle.lfs_log.specs.Parts.{live_of, state_of}
 use Rattle.lfs_staging.specs.declared.parts.Parts.{Parts}
-use Rattle.lfs_view.specs.Cells.{block_life, cells_of, life_among, record_life, seen_at}
+use Rattle.lfs_view.specs.Cells.{block_life, cells_of, life_among, record_life, logged_at}
 use Rattle.lfs_view.specs.MapText.{line_of, state_word}
 use Rattle.lfs_view.specs.declared.cells.Cell.{Cell}
 use Rattle.lfs_view.specs.declared.cells.Kind.{Kind}
 use Rattle.lfs_view.specs.declared.cells.Kind.TheVariants.{Label, Summary, Block, Records, Unwritten}
 use Rattle.lfs_view.specs.declared.life.Life.{Life}
 use Rattle.lfs_view.specs.declared.life.Life.TheVariants.{Live, Partly, Dead}
-use Rattle.lfs_view.specs.declared.records.Seen.{Seen}
+use Rattle.lfs_view.specs.declared.records.LoggedRecord.{LoggedRecord}
 
 abbrev pub life_word : Life → List ℕ
 life_word Live = codes "live"
@@ -35,21 +35,21 @@ block_words address e present =
     ∷ life_word (block_life address present) ∷ []
 
 -- a record: the number and the version of its file, its slot, its present address, live or dead
-abbrev pub record_words : ℕ → Seen → List (List ℕ)
-record_words slot seen =
-    codes "record" ∷ decimal seen.number ∷ decimal seen.version ∷ decimal slot ∷ decimal seen.present
-    ∷ life_word (record_life seen.is_live) ∷ []
+abbrev pub record_words : ℕ → LoggedRecord → List (List ℕ)
+record_words slot logged =
+    codes "record" ∷ decimal logged.number ∷ decimal logged.version ∷ decimal slot ∷ decimal logged.present
+    ∷ life_word (record_life logged.is_live) ∷ []
 
 -- the line of a record that stands in a slot
-abbrev pub seen_line : ℕ → ℕ → Option Seen → List ℕ
-seen_line address slot None = []
-seen_line address slot (Some seen) = line_of (decimal address) (record_words slot seen)
+abbrev pub logged_line : ℕ → ℕ → Option LoggedRecord → List ℕ
+logged_line address slot None = []
+logged_line address slot (Some logged) = line_of (decimal address) (record_words slot logged)
 
 -- those of a block of records
 abbrev pub records_lines : Parts → ℕ → List ℕ
 records_lines p address =
-    seen_line address 0 (seen_at p address 0) ++ seen_line address 1 (seen_at p address 1)
-    ++ seen_line address 2 (seen_at p address 2) ++ seen_line address 3 (seen_at p address 3)
+    logged_line address 0 (logged_at p address 0) ++ logged_line address 1 (logged_at p address 1)
+    ++ logged_line address 2 (logged_at p address 2) ++ logged_line address 3 (logged_at p address 3)
 
 -- The lines of what stands at an address: none where nothing was written. A summary is told with how many blocks follow it,
 -- a block of records with how many of how many are the present ones, and then each of them.

@@ -4,7 +4,7 @@ ghost use Rattle.std.specs.Prelude.{◌≡◌, ◌*◌, ◌<◌};
 ghost use Rattle.lfs_types.specs.declared.limits.TheConstants.{SEGMENT_BLOCKS};
 ghost use Rattle.lfs_ifile.specs.Tables.{place_of};
 ghost use Rattle.lfs_staging.specs.Store.{IsStore};
-ghost use Rattle.lfs_view.specs.Cells.{found_at, found_one, is_there, live_at, live_one, present, seen_at};
+ghost use Rattle.lfs_view.specs.Cells.{found_at, found_one, is_there, live_at, live_one, present, logged_at};
 
 use lfs_log::packing::inode_in;
 use lfs_segments::entry::LogicalBlock;
@@ -13,7 +13,7 @@ use lfs_types::cleaner::BlockInfo;
 
 /// A record in a block of records.
 #[derive(Clone, Copy, PartialEq, Eq, Debug)]
-pub struct Seen {
+pub struct LoggedRecord {
     /// The number of its file.
     pub number: u32,
     /// The version of its file.
@@ -55,15 +55,15 @@ fn is_there(parts: &Parts, number: u32, version: u32, address: u32, slot: usize)
 }
 
 /// The record in a slot of the block at an address, if one is there.
-pub fn seen_at(parts: &Parts, address: u32, slot: usize) -> Option<Seen>
+pub fn logged_at(parts: &Parts, address: u32, slot: usize) -> Option<LoggedRecord>
     requires store { IsStore parts.now }
     requires inside { address < parts.now.log.memory.segments * SEGMENT_BLOCKS }
     requires slot { slot < 4 }
-    ensures { result ≡ seen_at parts.now address slot }
+    ensures { result ≡ logged_at parts.now address slot }
 {
     let inode = inode_in(parts.log.block(address), slot)?;
     let (number, version) = (inode.number, inode.version);
-    Some(Seen {
+    Some(LoggedRecord {
         number,
         version,
         present: present(parts, number, version, LogicalBlock::Inodes),
@@ -72,23 +72,23 @@ pub fn seen_at(parts: &Parts, address: u32, slot: usize) -> Option<Seen>
 }
 
 /// One for a record.
-fn found_one(seen: Option<Seen>) -> u32
-    ensures value { result ≡ found_one seen }
+fn found_one(logged: Option<LoggedRecord>) -> u32
+    ensures value { result ≡ found_one logged }
     ensures few { result < 2 }
 {
-    match seen {
+    match logged {
         Some(_) => 1,
         None => 0,
     }
 }
 
 /// One for a present record.
-fn live_one(seen: Option<Seen>) -> u32
-    ensures value { result ≡ live_one seen }
+fn live_one(logged: Option<LoggedRecord>) -> u32
+    ensures value { result ≡ live_one logged }
     ensures few { result < 2 }
 {
-    match seen {
-        Some(Seen { is_live: true, .. }) => 1,
+    match logged {
+        Some(LoggedRecord { is_live: true, .. }) => 1,
         _ => 0,
     }
 }
@@ -100,10 +100,10 @@ pub fn counts_at(parts: &Parts, address: u32) -> (u32, u32)
     ensures found { result.0 ≡ found_at parts.now address }
     ensures live { result.1 ≡ live_at parts.now address }
 {
-    let first = seen_at(parts, address, 0);
-    let second = seen_at(parts, address, 1);
-    let third = seen_at(parts, address, 2);
-    let fourth = seen_at(parts, address, 3);
+    let first = logged_at(parts, address, 0);
+    let second = logged_at(parts, address, 1);
+    let third = logged_at(parts, address, 2);
+    let fourth = logged_at(parts, address, 3);
     (
         found_one(first) + found_one(second) + found_one(third) + found_one(fourth),
         live_one(first) + live_one(second) + live_one(third) + live_one(fourth),

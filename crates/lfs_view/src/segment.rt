@@ -5,14 +5,14 @@ ghost use Rattle.std.specs.List.{flat_map};
 ghost use Rattle.lfs_types.specs.declared.limits.TheConstants.{SEGMENT_BLOCKS};
 ghost use Rattle.lfs_staging.specs.Store.{IsStore};
 ghost use Rattle.lfs_words.specs.Wording.{spaced};
-ghost use Rattle.lfs_view.specs.Cells.{IsIn, life_among, seen_at};
+ghost use Rattle.lfs_view.specs.Cells.{IsIn, life_among, logged_at};
 ghost use Rattle.lfs_view.specs.MapText.{line_of};
-ghost use Rattle.lfs_view.specs.SegmentText.{block_word, block_words, cell_lines, kind_lines, known_text, life_word, record_words, records_lines, seen_line, segment_text, use_words};
+ghost use Rattle.lfs_view.specs.SegmentText.{block_word, block_words, cell_lines, kind_lines, known_text, life_word, record_words, records_lines, logged_line, segment_text, use_words};
 
 use crate::cells::{Cell, Kind, walked};
 use crate::life::Life;
 use crate::map::state_word;
-use crate::records::{Seen, seen_at};
+use crate::records::{LoggedRecord, logged_at};
 use lfs_segments::entry::{LogicalBlock, SummaryEntry};
 use lfs_staging::parts::Parts;
 use lfs_words::append::{push_decimal, push_number, push_word};
@@ -181,35 +181,40 @@ fn push_records(out: &mut Vec<u8>, parts: &Parts, address: u32) -> Result<(), Al
     requires inside { address < parts.now.log.memory.segments * SEGMENT_BLOCKS }
     ensures { OnOk result (out.new.items ≡ out.old.items ++ records_lines parts.now address) }
 {
-    push_seen(out, address, 0, seen_at(parts, address, 0))?;
-    push_seen(out, address, 1, seen_at(parts, address, 1))?;
-    push_seen(out, address, 2, seen_at(parts, address, 2))?;
-    push_seen(out, address, 3, seen_at(parts, address, 3))
+    push_logged(out, address, 0, logged_at(parts, address, 0))?;
+    push_logged(out, address, 1, logged_at(parts, address, 1))?;
+    push_logged(out, address, 2, logged_at(parts, address, 2))?;
+    push_logged(out, address, 3, logged_at(parts, address, 3))
 }
 
 /// Appends the line of the record in a slot, if one is there.
-fn push_seen(
+fn push_logged(
     out: &mut Vec<u8>,
     address: u32,
     slot: u32,
-    seen: Option<Seen>,
+    logged: Option<LoggedRecord>,
 ) -> Result<(), AllocError>
-    ensures { OnOk result (out.new.items ≡ out.old.items ++ seen_line address slot seen) }
+    ensures { OnOk result (out.new.items ≡ out.old.items ++ logged_line address slot logged) }
 {
-    match seen {
+    match logged {
         Some(record) => push_record(out, address, slot, record),
         None => Ok(()),
     }
 }
 
 /// Appends the line of a record.
-fn push_record(out: &mut Vec<u8>, address: u32, slot: u32, seen: Seen) -> Result<(), AllocError>
+fn push_record(
+    out: &mut Vec<u8>,
+    address: u32,
+    slot: u32,
+    logged: LoggedRecord,
+) -> Result<(), AllocError>
     ensures { OnOk result (out.new.items
-        ≡ out.old.items ++ line_of (decimal address) (record_words slot seen)) }
+        ≡ out.old.items ++ line_of (decimal address) (record_words slot logged)) }
 {
     push_decimal(out, u64::from(address))?;
-    push_named(out, "record", seen.number, seen.version, slot)?;
-    push_present(out, seen.present, Life::of_record(seen.is_live))
+    push_named(out, "record", logged.number, logged.version, slot)?;
+    push_present(out, logged.present, Life::of_record(logged.is_live))
 }
 
 /// The word of whether what was written is of use.

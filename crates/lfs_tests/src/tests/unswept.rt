@@ -58,11 +58,11 @@ impl CleanedStore for Unswept {
     ghost use Rattle.std.specs.Prelude.{⊤};
 
     ghost cleaner = { record {
-        gives_ifile = λ _ _. ⊤;
-        gives_infos = λ _ _ _ _. ⊤;
-        gives_addresses = λ _ _ _. ⊤;
-        writes_again = λ _ _ _ _. ⊤;
-        reclaims = λ _ _ _ _. ⊤
+      gives_ifile = λ _ _. ⊤;
+      gives_infos = λ _ _ _ _. ⊤;
+      gives_addresses = λ _ _ _. ⊤;
+      writes_again = λ _ _ _ _. ⊤;
+      reclaims = λ _ _ _ _. ⊤;
     } };
 
     fn ifile_bytes(&self) -> Result<Vec<u8>, AllocError> {
