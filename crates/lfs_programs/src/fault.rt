@@ -1,11 +1,11 @@
-//! Why the program ends with status 1.
+//! Why `lfs_shell` ends with status 1.
 
 use lfs_audit::fault::RunFault;
 use thiserror::Error;
 
-/// Why the program ends with status 1.
+/// Why `lfs_shell` ends with status 1.
 #[derive(Clone, Copy, Debug, Error)]
-pub(crate) enum ShellFault {
+pub enum ShellFault {
     /// The talk ended by a fault. No film is written.
     #[error("{0}")]
     Talk(RunFault),

@@ -1,0 +1,9 @@
+//! What the programs do, over the arguments of an environment and any reader and writers: `lfsd` and `lfs_shell`.
+#![tactic(auto)]
+
+pub mod fault;
+mod filming;
+pub mod refusing;
+pub mod server;
+pub mod shell;
+mod words;
