@@ -2,6 +2,7 @@
 
 mod film;
 mod passes;
+mod programs;
 mod scripts;
 mod sessions;
 mod steps;

@@ -41,7 +41,7 @@ fn page_of(rt: &impl Abort, alloc: Global, mut talk: &[u8]) -> Vec<u8> {
 }
 
 /// Asserts that a page has these frames behind that of the fresh log, and no other.
-fn expect_frames(rt: &impl Abort, alloc: Global, page: &[u8], frames: &str) {
+pub(super) fn expect_frames(rt: &impl Abort, alloc: Global, page: &[u8], frames: &str) {
     let page = str::from_utf8(page).expect(rt, "a text");
     let mut wanted = String::new(alloc);
     push(rt, &mut wanted, FRESH);
@@ -64,12 +64,13 @@ const FRESH: &str = "<script id=\"film\" type=\"application/json\">
 ";
 
 /// A talk of six lines, of which three change nothing.
-const TALK: &[u8] = b"create /a 0644\nstat /a\nsync\n\nsync\nwrite /a end 78\n";
+pub(super) const TALK: &[u8] = b"create /a 0644\nstat /a\nsync\n\nsync\nwrite /a end 78\n";
 
 /// The frames of its other lines. The root's block waits, with the records of the root and of the file; `sync` writes
 /// the block and one block of both records, 512 and 256 bytes, and the record before is dead. A byte makes one block of
 /// data wait.
-const FRAMES: &str = "[1,\"create /a 0644\",\"0 ok\\u000a\",\"waiting 1 blocks 2 records\\u000a\"]
+pub(super) const FRAMES: &str =
+    "[1,\"create /a 0644\",\"0 ok\\u000a\",\"waiting 1 blocks 2 records\\u000a\"]
 [3,\"sync\",\"0 ok\\u000a\",\"waiting 0 blocks 0 records\\u000a\"\
     ,\"   0 active   768 LSrSDR..........................................................\\u000a\"]
 [6,\"write /a end 78\",\"0 ok\\u000a\",\"waiting 1 blocks 1 records\\u000a\"]

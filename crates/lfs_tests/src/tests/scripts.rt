@@ -3,7 +3,7 @@
 
 mod arguments;
 mod counts;
-mod fakes;
+pub(super) mod fakes;
 mod full;
 pub(super) mod log;
 mod passes;
@@ -20,10 +20,10 @@ use lfs_types::store::Params;
 use std::alloc::Global;
 use std::process::Abort;
 
-/// Asserts what is told of a fault, and that the status is 1.
+/// Asserts what is told of a fault.
 fn expect_told(rt: &impl Abort, alloc: Global, fault: ThreadsFault, text: &[u8]) {
     let mut writer = Vec::new(alloc);
-    expect_eq(rt, tell(&mut writer, &fault), 1);
+    tell(&mut writer, "lfsd", &fault).expect(rt, "a line");
     expect_eq(rt, writer.as_slice(), text);
 }
 

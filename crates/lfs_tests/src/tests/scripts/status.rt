@@ -3,7 +3,7 @@
 use super::fakes::Full;
 use crate::tests::expect_eq;
 use lfs_audit::fault::{RunFault, ThreadsFault};
-use lfs_audit::tell::{end, tell};
+use lfs_audit::tell::end;
 
 /// How runs end, and the status and the text of each.
 const ENDS: [(Result<(), ThreadsFault>, u8, &[u8]); 2] = [
@@ -19,7 +19,7 @@ const ENDS: [(Result<(), ThreadsFault>, u8, &[u8]); 2] = [
 fn status_of_a_run(rt: HostRuntime) {
     for (outcome, status, text) in ENDS {
         let mut told = Vec::new(rt.alloc());
-        expect_eq(&rt, end(&mut told, outcome), status);
+        expect_eq(&rt, end(&mut told, "lfsd", outcome), status);
         expect_eq(&rt, told.as_slice(), text);
     }
 }
@@ -31,7 +31,7 @@ fn tell_to_a_writer_that_fails(rt: HostRuntime) {
             writes,
             flushes: false,
         };
-        let fault = ThreadsFault::Run(RunFault::Read);
-        expect_eq(&rt, tell(&mut writer, &fault), 1);
+        let outcome = Err(ThreadsFault::Run(RunFault::Read));
+        expect_eq(&rt, end(&mut writer, "lfsd", outcome), 1);
     }
 }

@@ -1,0 +1,158 @@
+//! Files in memory, of which one can be made.
+
+use std::alloc::{Allocator, Global};
+use std::cell::{Cell, RefCell};
+use std::fs::{Metadata, OpenFile, OpenOptions};
+use std::io;
+use std::io::{ErrorKind, Read, Seek, SeekFrom, Write};
+use std::rt::Files;
+
+/// The path of the only file that can be made.
+const PATH: &str = "film.html";
+
+/// How often the file was made, and what was written to it.
+#[derive(Drop)]
+pub struct Disk {
+    made: Cell<u32>,
+    page: RefCell<Vec<u8>>,
+}
+
+impl Disk {
+    /// No file.
+    pub fn new(alloc: Global) -> Disk {
+        Disk {
+            made: Cell::new(0),
+            page: RefCell::new(Vec::new(alloc)),
+        }
+    }
+
+    /// Its files, which take no byte where it is full.
+    pub fn files(&self, is_full: bool) -> Shelf<'_> {
+        Shelf {
+            disk: self,
+            is_full,
+        }
+    }
+
+    /// How often the file was made.
+    pub fn made(&self) -> u32 {
+        self.made.get()
+    }
+
+    /// What was written to the file.
+    pub fn into_page(self) -> Vec<u8> {
+        let Disk { made: _, page } = self;
+        page.into_inner()
+    }
+}
+
+/// The files of a disk, and one of them that is open.
+#[derive(Clone, Copy)]
+pub struct Shelf<'a> {
+    disk: &'a Disk,
+    is_full: bool,
+}
+
+/// What no program asks for.
+fn unsupported<T>() -> io::Result<T> {
+    Err(io::Error::from(ErrorKind::Unsupported))
+}
+
+impl Read for Shelf<'_> {
+    fn read(&mut self, _buf: &mut [u8]) -> io::Result<usize> {
+        unsupported()
+    }
+}
+
+impl Write for Shelf<'_> {
+    fn write(&mut self, buf: &[u8]) -> io::Result<usize> {
+        if self.is_full {
+            return Err(io::Error::from(ErrorKind::StorageFull));
+        }
+        let Ok(mut page) = self.disk.page.try_borrow_mut() else {
+            return unsupported();
+        };
+        match page.extend_from_slice(buf) {
+            Ok(()) => Ok(buf.len()),
+            Err(_) => Err(io::Error::from(ErrorKind::OutOfMemory)),
+        }
+    }
+
+    fn flush(&mut self) -> io::Result<()> {
+        Ok(())
+    }
+}
+
+impl Seek for Shelf<'_> {
+    fn seek(&mut self, _to: SeekFrom) -> io::Result<u64> {
+        unsupported()
+    }
+}
+
+impl OpenFile for Shelf<'_> {
+    fn metadata(&self) -> io::Result<Metadata> {
+        unsupported()
+    }
+
+    fn set_len(&self, _size: u64) -> io::Result<()> {
+        unsupported()
+    }
+
+    fn sync_all(&self) -> io::Result<()> {
+        unsupported()
+    }
+
+    fn sync_data(&self) -> io::Result<()> {
+        unsupported()
+    }
+}
+
+impl<'a> Files for Shelf<'a> {
+    type File = Shelf<'a>;
+
+    type Dir = Shelf<'a>;
+
+    fn open_file(&self, _how: &OpenOptions, path: &str) -> io::Result<Shelf<'a>> {
+        if path != PATH {
+            return Err(io::Error::from(ErrorKind::NotFound));
+        }
+        self.disk.made.set(self.disk.made.get().saturating_add(1));
+        Ok(*self)
+    }
+
+    fn open_dir(&self, _path: &str) -> io::Result<Shelf<'a>> {
+        unsupported()
+    }
+
+    fn metadata(&self, _path: &str) -> io::Result<Metadata> {
+        unsupported()
+    }
+
+    fn symlink_metadata(&self, _path: &str) -> io::Result<Metadata> {
+        unsupported()
+    }
+
+    fn copy(&self, _from: &str, _to: &str) -> io::Result<u64> {
+        unsupported()
+    }
+
+    fn rename(&self, _from: &str, _to: &str) -> io::Result<()> {
+        unsupported()
+    }
+
+    fn remove_file(&self, _path: &str) -> io::Result<()> {
+        unsupported()
+    }
+
+    fn create_dir(&self, _path: &str) -> io::Result<()> {
+        unsupported()
+    }
+
+    fn remove_dir(&self, _path: &str) -> io::Result<()> {
+        unsupported()
+    }
+
+    fn remove_dir_all<B: Allocator>(&self, _alloc: B, _path: &str) -> io::Result<()> {
+        unsupported()
+    }
+}

@@ -1,0 +1,57 @@
+//! `lfs_shell`: talks, its usage faults, its help.
+
+use super::{Program, expect_ended, expect_help, expect_refused};
+
+/// Lines, the second of which is none.
+const LINES: &[u8] = b"create /a 0644\nnonsense\n.quit\nstat /a\n";
+
+/// What is told of them.
+const TOLD: &str = "0 ok\nfault Words\nentries 1\nserved 1\ndenied 0\nrefused 0\ncleaner 0\n";
+
+#[test]
+fn shell_talks(rt: HostRuntime) {
+    let alloc = rt.alloc();
+    let wanted = (0, TOLD, "");
+    expect_ended(&rt, alloc, Program::Shell, &[b"lfs_shell"], LINES, wanted);
+}
+
+/// What is told of two lines where the journal has room for one entry.
+const FULL: &str =
+    "0 ok\n0 refused JournalFull\nentries 1\nserved 1\ndenied 0\nrefused 0\ncleaner 0\n";
+
+#[test]
+fn shell_takes_numbers(rt: HostRuntime) {
+    let words: &[&[u8]] = &[b"lfs_shell", b"--journal=1", b"--frames", b"32"];
+    let wanted = (0, FULL, "");
+    let input = b"create /a 0644\nstat /a\n";
+    expect_ended(&rt, rt.alloc(), Program::Shell, words, input, wanted);
+}
+
+/// Words that are refused, and a part of what is told.
+const REFUSED: [(&[&[u8]], &str); 6] = [
+    (&[b"lfs_shell", b"script"], "error: "),
+    (&[b"lfs_shell", b"--threads"], "--threads"),
+    (&[b"lfs_shell", b"--film"], "--film"),
+    (&[b"lfs_shell", b"--journal=1000001"], "1..=1000000"),
+    (
+        &[b"lfs_shell", b"--journal=+1"],
+        "--journal takes a number of decimal digits alone, from 1 to 1000000",
+    ),
+    (&[b"lfs_shell", b"\xc3\x28"], "the arguments must be UTF-8"),
+];
+
+#[test]
+fn shell_refuses_words(rt: HostRuntime) {
+    for (words, part) in REFUSED {
+        expect_refused(&rt, rt.alloc(), Program::Shell, words, part);
+    }
+}
+
+/// What its help tells of, among others.
+const HELP: &[&str] = &["lfs_shell", "6 to 1024", "1 to 1000000", "--film", ".quit"];
+
+#[test]
+fn shell_helps(rt: HostRuntime) {
+    let words: &[&[u8]] = &[b"lfs_shell", b"--help"];
+    expect_help(&rt, rt.alloc(), Program::Shell, words, HELP);
+}
