@@ -12,7 +12,7 @@ use Rattle.lfs_audit.specs.declared.fault.ThreadsFault.{ThreadsFault}
 use Rattle.lfs_audit.specs.declared.fault.ThreadsFault.TheVariants as threads
 use Rattle.lfs_programs.specs.Ends.{EndsUnasked}
 
--- a text is that of a run of a script as it was asked for: on the caller's thread, or each session on a thread of its own
+-- a text is that of a run of a script as was asked: on the caller's thread, or each session on a thread of its own
 pub record IsAskedText (options : Options) (script text : List ℕ) : Type 0 where
   pub alone : options.threads ≡ false → IsLogOutput script options.params.segments options.params.inodes options.params.frames options.params.journal text
   pub together : options.threads ≡ true → IsThreadsOutput script options.params.segments options.params.inodes options.params.journal text
@@ -38,15 +38,15 @@ pub record HasFailed (options : Options) (known start out : Option (List ℕ)) :
   pub cause : IsAskedFault options known fault
   pub unwritten : (MayHaveWrittenThreads fault → ⊥) → Keeps start out
 
--- A program that was asked for a run ends with this status: 0 where it is done and its text is written, of which nothing is
--- told; else 1, and the run ended in a fault.
+-- A program that was asked for a run ends with this status: 0 where it is done and its text is written, of which
+-- nothing is told; else 1, and the run ended in a fault.
 pub record EndsRun {D : Type 0} (options : Options) (known start out : Option (List ℕ)) (status : ℕ) (err_before err_after : D) : Type 0 where
   pub either : status ≤ 1
   pub done : status ≡ 0 → IsWritten options known start out × (err_after ≡ err_before)
   pub failed : status ≢ 0 → HasFailed options known start out
 
--- `lfsd` ends with this status by what it was asked for: options whose numbers are in their ranges, as a run of that kind
--- ends, or else nothing is read
+-- `lfsd` ends with this status by what it was asked for: options whose numbers are in their ranges, as a run of that
+-- kind ends, or else nothing is read
 pub record IsServerEnd {R W D : Type 0} (known start out : Option (List ℕ)) (status : ℕ) (in_before in_after : R) (out_before out_after : W) (err_before err_after : D) : Type 0 where
   pub asked : Result Options Error
   pub ranges : IfOk asked (λ options. IsInRange 100000 options.params)

@@ -38,24 +38,24 @@ abbrev pub IsShellFault : ShellOptions → ShellFault → Type 0
 IsShellFault options (Talk fault) = IsLogFault options.params.segments options.params.inodes options.params.frames fault
 IsShellFault options Film = IsSome options.film
 
--- A talk ended in a fault, which has its cause. Where a read failed, each line that was read by then is answered; where a film
--- was not written, all is.
+-- A talk ended in a fault, which has its cause. Where a read failed, each line that was read by then is answered; where
+-- a film was not written, all is.
 pub record HasBrokenOff (options : ShellOptions) (known start out : Option (List ℕ)) : Type 0 where
   pub fault : ShellFault
   pub cause : IsShellFault options fault
   pub so_far : fault ≡ Talk Read → HasTalkedSoFar options.params known start out
   pub answered : fault ≡ Film → HasTalked options.params known start out
 
--- A program that was asked for a talk ends with this status: 0 where it has its end, a film that is asked for is written to
--- a file, and nothing is told; else 1.
+-- A program that was asked for a talk ends with this status: 0 where it has its end, a film that is asked for is
+-- written to a file, and nothing is told; else 1.
 pub record EndsTalk {D F : Type 0} (contents : F → Option (List ℕ)) (options : ShellOptions) (known start out : Option (List ℕ)) (status : ℕ) (err_before err_after : D) : Type 0 where
   pub either : status ≤ 1
   pub done : status ≡ 0 → HasTalked options.params known start out × (err_after ≡ err_before)
   pub filmed : status ≡ 0 → IfSome options.film (λ _. IsFilmed contents)
   pub failed : status ≢ 0 → HasBrokenOff options known start out
 
--- `lfs_shell` ends with this status by what it was asked for: options whose numbers are in their ranges, as a talk ends, or
--- else nothing is read
+-- `lfs_shell` ends with this status by what it was asked for: options whose numbers are in their ranges, as a talk
+-- ends, or else nothing is read
 pub record IsShellEnd {R W D F : Type 0} (contents : F → Option (List ℕ)) (known start out : Option (List ℕ)) (status : ℕ) (in_before in_after : R) (out_before out_after : W) (err_before err_after : D) : Type 0 where
   pub asked : Result ShellOptions Error
   pub ranges : IfOk asked (λ options. IsInRange 1000000 options.params)

@@ -27,8 +27,8 @@ use std::thread::Threads;
 /// The program's name.
 const NAME: &str = "lfsd";
 
-/// Does what the arguments of an environment ask `lfsd` for, and gives the status with which it ends: 0 for a run that is
-/// done and for help, 1 for a fault, told in a line on standard error, 2 for words that are refused.
+/// Does what the arguments of an environment ask `lfsd` for, and gives the status with which it ends: 0 for a run that
+/// is done and for help, 1 for a fault, told in a line on standard error, 2 for words that are refused.
 pub fn lfsd<E, S, R, W, D>(env: &E, rt: &S, stdin: &mut R, stdout: &mut W, stderr: &mut D) -> u8
 where
     E: Env + AllocGlobal,

@@ -23,9 +23,9 @@ use std::rt::Files;
 /// The program's name.
 const NAME: &str = "lfs_shell";
 
-/// Does what the arguments of an environment ask `lfs_shell` for, and gives the status with which it ends: 0 for a talk that
-/// has its end, with its film written where one is asked for, and for help; 1 for a fault, told in a line on standard error;
-/// 2 for words that are refused.
+/// Does what the arguments of an environment ask `lfs_shell` for, and gives the status with which it ends: 0 for a talk
+/// that has its end, with its film written where one is asked for, and for help; 1 for a fault, told in a line on
+/// standard error; 2 for words that are refused.
 pub fn lfs_shell<E, F, R, W, D>(
     env: &E,
     files: &F,

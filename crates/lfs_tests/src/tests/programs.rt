@@ -122,8 +122,8 @@ fn has_part(bytes: &[u8], part: &str) -> bool {
     }
 }
 
-/// Asserts that a program refuses these words with status 2, whatever it might read, tells so with this part on standard
-/// error, and writes nothing else.
+/// Asserts that a program refuses these words with status 2, whatever it might read, tells so with this part on
+/// standard error, and writes nothing else.
 fn expect_refused<S: Abort + Threads + Wait + Sync>(
     rt: &S,
     alloc: Global,
