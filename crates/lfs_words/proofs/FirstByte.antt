@@ -1,7 +1,7 @@
 -- Where a search finds the first byte of a text.
-use Rattle.std.proofs.Common.{◌≡◌, ◌==◌, ℕ, ◌<◌, List, length, Option, None, Some, sym, ◌∙◌, arith, ap}
+use Rattle.std.proofs.Common.{◌≡◌, ◌==◌, ℕ, List, length, Option, None, Some, sym, ◌∙◌, arith, ap}
 use Rattle.std.specs.Prelude.{nat_lt}
-use Rattle.std.specs.List.{position, position_or_len}
+use Rattle.std.specs.List.{position}
 use Rattle.std.proofs.lemmas.Bool.{cond-false, cond-true, false_from_ne_true, le-ltb, lt-ltb}
 use Rattle.std.proofs.lemmas.List.Sums.{position_or_len_is}
 use Rattle.memchr.specs.Find.{IsFirstByte, is_byte}
