@@ -27,7 +27,7 @@ use Rattle.lfs_volume.specs.Cleanings.{Cleaner}
 use Rattle.lfs_volume.specs.Seen.{Seen}
 use Rattle.lfs_volume.specs.StepRuns.{AreSteps, IsActMade}
 use Rattle.lfs_audit.specs.Output.{IsRun}
-use Rattle.lfs_audit.specs.Runs.{AreAsked, Cleans, IsAsked, IsPassing, Passes, Runs, Tells, Writes, call_line, call_step, cleaning_step, first_pass, lines_text}
+use Rattle.lfs_audit.specs.Runs.{AreAsked, TellsCleaning, IsAsked, IsPassing, Passes, Runs, TellsLine, WritesLines, call_line, call_step, cleaning_step, first_pass, lines_text}
 
 -- ---- steps
 
@@ -135,7 +135,7 @@ text-joined before middle after lines more all first then joined =
 -- a user's call was made
 pub call_tells : {F : Type 0} (r : Cleaner F) (old new : Seen F) (session : ℕ) (caller : Caller) (request : Request) (answer : Answer) (before after : List ℕ)
     → Runs r old new (call_step session caller request ∷ []) (told.User answer ∷ []) → after ≡ before ++ answer_line session answer
-    → Tells r old new session caller (plan.User request) before after
+    → TellsLine r old new session caller (plan.User request) before after
 call_tells r old new session caller request answer before after ran printed = record {
   made = call_step session caller request ∷ [];
   answers = told.User answer ∷ [];
@@ -146,7 +146,7 @@ call_tells r old new session caller request answer before after ran printed = re
 
 -- a call of the cleaner was made
 pub cleaning_tells : {F : Type 0} (r : Cleaner F) (old new : Seen F) (session : ℕ) (caller : Caller) (call : CleanerCall) (answer : CleanerAnswer) (before after : List ℕ)
-    → Cleans r old new session caller call answer before after → Tells r old new session caller (plan.Cleaner call) before after
+    → TellsCleaning r old new session caller call answer before after → TellsLine r old new session caller (plan.Cleaner call) before after
 cleaning_tells r old new session caller call answer before after cleans = record {
   made = cleaning_step session caller call ∷ [];
   answers = told.Cleaner answer ∷ [];
@@ -198,7 +198,7 @@ pass_begins r v session caller pass last text ready none left = record {
 pub pass_goes_on : {F : Type 0} (r : Cleaner F) (old middle new : Seen F) (session : ℕ) (caller : Caller) (pass : Pass) (last : Option CleanerAnswer)
     (call : CleanerCall) (answer : CleanerAnswer) (next : Pass) (before text after : List ℕ)
     → IsPassing r old middle session caller pass last before text → Steps pass last (Some call) next → calls_left next < calls_left pass
-    → Cleans r middle new session caller call answer text after → IsPassing r old new session caller next (Some answer) before after
+    → TellsCleaning r middle new session caller call answer text after → IsPassing r old new session caller next (Some answer) before after
 unfolding cleaning_tells
 pass_goes_on r old middle new session caller pass last call answer next before text after passing steps fewer cleans =
     let one = cleaning_step session caller call ∷ [] in
@@ -216,7 +216,7 @@ pass_goes_on r old middle new session caller pass last call answer next before t
 
 -- a pass makes no call any more
 pub pass_ends : {F : Type 0} (r : Cleaner F) (old new : Seen F) (session : ℕ) (caller : Caller) (pass : Pass) (last : Option CleanerAnswer) (next : Pass) (before after : List ℕ)
-    → IsPassing r old new session caller pass last before after → Steps pass last None next → Tells r old new session caller plan.Pass before after
+    → IsPassing r old new session caller pass last before after → Steps pass last None next → TellsLine r old new session caller plan.Pass before after
 pass_ends r old new session caller pass last next before after passing ends = record {
   made = passing.made;
   answers = passing.answers;
@@ -266,7 +266,7 @@ collected (Some x) (Some y) old new lines line p grown =
     rw grown (sym (append_assoc y old line) ∙ ap (λ (xs : List ℕ). xs ++ line) p ∙ append_assoc x lines line)
 
 -- no line was done
-pub writes_none : {F : Type 0} (r : Cleaner F) (v : Seen F) (start : Option (List ℕ)) → Writes r v v [] start start
+pub writes_none : {F : Type 0} (r : Cleaner F) (v : Seen F) (start : Option (List ℕ)) → WritesLines r v v [] start start
 writes_none r v start = record {
   made = [];
   answers = [];
@@ -277,8 +277,8 @@ writes_none r v start = record {
 
 -- a further line was done, its answers' lines were collected, and perhaps a piece was written
 pub writes_more : {F : Type 0} (r : Cleaner F) (old middle new : Seen F) (steps : List Step) (step : Step) (start known left : Option (List ℕ)) (text after : List ℕ)
-    → Writes r old middle steps start (append_known known text) → Tells r middle new step.session step.cred step.act text after
-    → Keeps (append_known known after) left → Writes r old new (steps ++ step ∷ []) start left
+    → WritesLines r old middle steps start (append_known known text) → TellsLine r middle new step.session step.cred step.act text after
+    → Keeps (append_known known after) left → WritesLines r old new (steps ++ step ∷ []) start left
 writes_more r old middle new steps step start known left text after writes tells keeps =
     let lines = lines_text writes.made writes.answers in
     let more = lines_text tells.made tells.answers in
@@ -316,7 +316,7 @@ from_start (Some x) (Some v) text p = p ∙ ap (λ (xs : List ℕ). xs ++ text) 
 
 -- the lines of a plan were done on a volume without entries, and all is written
 pub whole_run : {F : Type 0} (r : Cleaner F) (old new : Seen F) (steps : List Step) (empty text : List ℕ) (start known left : Option (List ℕ))
-    → old.journal ≡ [] → Writes r old new steps (append_known start empty) (append_known known text) → empty ≡ []
+    → old.journal ≡ [] → WritesLines r old new steps (append_known start empty) (append_known known text) → empty ≡ []
     → IsLegal (r.state new.store).shape.numbers (r.state new.store).shape.segments new.journal opening_world × Appends (append_known known text) left (report_text new.journal)
     → (all : List ℕ) × IsRun r old.limit old.store steps all × Appends start left all
 whole_run {F} r old new steps empty text start known left none writes nothing (lawful, reported) =

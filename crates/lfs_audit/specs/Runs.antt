@@ -100,12 +100,12 @@ pub record Runs {F : Type 0} (r : Cleaner F) (old new : Seen F) (made : List Mad
   pub shape : (r.state new.store).shape ≡ (r.state old.store).shape
 
 -- a volume became this one by a call of the cleaner, whose answer's line was added to a text
-pub record Cleans {F : Type 0} (r : Cleaner F) (old new : Seen F) (session : ℕ) (caller : Caller) (call : CleanerCall) (answer : CleanerAnswer) (before after : List ℕ) : Type 0 where
+pub record TellsCleaning {F : Type 0} (r : Cleaner F) (old new : Seen F) (session : ℕ) (caller : Caller) (call : CleanerCall) (answer : CleanerAnswer) (before after : List ℕ) : Type 0 where
   pub ran : Runs r old new (cleaning_step session caller call ∷ []) (told.Cleaner answer ∷ [])
   pub printed : after ≡ before ++ cleaner_line session (kind_of call) answer
 
 -- a volume became this one by what a line of a plan asks for, and the lines of the answers were added to a text
-pub record Tells {F : Type 0} (r : Cleaner F) (old new : Seen F) (session : ℕ) (caller : Caller) (act : Act) (before after : List ℕ) : Type 0 where
+pub record TellsLine {F : Type 0} (r : Cleaner F) (old new : Seen F) (session : ℕ) (caller : Caller) (act : Act) (before after : List ℕ) : Type 0 where
   pub made : List Made
   pub answers : List StepAnswer
   pub asked : IsAsked session caller act made answers
@@ -124,7 +124,7 @@ pub record IsPassing {F : Type 0} (r : Cleaner F) (old new : Seen F) (session : 
 
 -- a volume became this one by what the lines of a plan ask for, and what a writer is known to hold or to get became
 -- longer by the lines of the answers
-pub record Writes {F : Type 0} (r : Cleaner F) (old new : Seen F) (steps : List Step) (start known : Option (List ℕ)) : Type 0 where
+pub record WritesLines {F : Type 0} (r : Cleaner F) (old new : Seen F) (steps : List Step) (start known : Option (List ℕ)) : Type 0 where
   pub made : List Made
   pub answers : List StepAnswer
   pub asked : AreAsked steps made answers

@@ -2,7 +2,7 @@
 
 ghost use Rattle.std.specs.Prelude.{◌≡◌, IfOk, OnOk};
 ghost use Rattle.lfs_volume.specs.Cleanings.{cleaner_of};
-ghost use Rattle.lfs_audit.specs.Runs.{Cleans, Tells};
+ghost use Rattle.lfs_audit.specs.Runs.{TellsCleaning, TellsLine};
 
 use lfs_model::journal::{CleanerAnswer, CleanerKind};
 use lfs_print::print::{append_answer, append_cleaner};
@@ -21,7 +21,7 @@ pub fn run_step<F: CleanedStore + Drop>(
     step: Step,
     text: &mut Vec<u8>,
 ) -> Result<(), AllocError>
-    ensures { OnOk result (Tells
+    ensures { OnOk result (TellsLine
         (cleaner_of F.state F.is_settled F.cleaner)
         volume.old volume.new step.session step.cred step.act text.old.items text.new.items) }
 {
@@ -41,7 +41,7 @@ fn call<F: CleanedStore + Drop>(
     request: Request,
     text: &mut Vec<u8>,
 ) -> Result<(), AllocError>
-    ensures { OnOk result (Tells
+    ensures { OnOk result (TellsLine
         (cleaner_of F.state F.is_settled F.cleaner)
         volume.old volume.new session cred.now (Act.User request) text.old.items text.new.items) }
 {
@@ -58,7 +58,7 @@ fn clean_line<F: CleanedStore + Drop>(
     call: HeldCall,
     text: &mut Vec<u8>,
 ) -> Result<(), AllocError>
-    ensures { OnOk result (Tells
+    ensures { OnOk result (TellsLine
         (cleaner_of F.state F.is_settled F.cleaner)
         volume.old volume.new session cred.now (Act.Cleaner call) text.old.items text.new.items) }
 {
@@ -74,7 +74,7 @@ fn clean<F: CleanedStore + Drop>(
     call: CleanerCall,
     text: &mut Vec<u8>,
 ) -> Result<CleanerAnswer, AllocError>
-    ensures { IfOk result (λ answer. Cleans
+    ensures { IfOk result (λ answer. TellsCleaning
         (cleaner_of F.state F.is_settled F.cleaner)
         volume.old volume.new session cred.now call answer text.old.items text.new.items) }
 {
@@ -91,7 +91,7 @@ fn pass<F: CleanedStore + Drop>(
     cred: &Cred,
     text: &mut Vec<u8>,
 ) -> Result<(), AllocError>
-    ensures { OnOk result (Tells
+    ensures { OnOk result (TellsLine
         (cleaner_of F.state F.is_settled F.cleaner)
         volume.old volume.new session cred.now Act.Pass text.old.items text.new.items) }
 {

@@ -9,7 +9,7 @@ ghost use Rattle.lfs_print.specs.ReportText.{report_text};
 ghost use Rattle.lfs_volume.specs.Cleanings.{cleaner_of};
 ghost use Rattle.lfs_audit.specs.Faults.{IsFaultOf, IsRead, IsReadingFault, MayHaveWritten};
 ghost use Rattle.lfs_audit.specs.Output.{IsOutput, IsRun};
-ghost use Rattle.lfs_audit.specs.Runs.{Writes};
+ghost use Rattle.lfs_audit.specs.Runs.{WritesLines};
 ghost use Rattle.lfs_audit.specs.Scripts.{IsFreshLog, IsLayoutFault, IsLogOutput, IsScriptFault};
 
 use crate::fault::RunFault;
@@ -124,7 +124,7 @@ fn print_steps<F: CleanedStore + Drop, W: Write>(
     text: &mut Vec<u8>,
     writer: &mut W,
 ) -> Result<(), RunFault>
-    ensures written { OnOk result (Writes
+    ensures written { OnOk result (WritesLines
         (cleaner_of F.state F.is_settled F.cleaner)
         volume.old volume.new steps.items
         (append_known (W.contents writer.old) text.old.items)

@@ -4,11 +4,11 @@ use Rattle.std.proofs.lemmas.Option.{same_Some}
 use Rattle.lfs_ifile.specs.declared.segment.SegState.TheVariants.{Clean, Dirty, Active}
 use Rattle.lfs_bmap.specs.declared.blocks.TheConstants.{BLOCK_CODES}
 use Rattle.lfs_bmap.specs.Counting.{seg_of, units, total, weight_of, live_bytes, placed}
-use Rattle.lfs_bmap.specs.Log.{Owner, LogState, owner_of, HasPlace, IsPlace, clean_unit, AreSegments, IsLog, SameKeys, SameUse, Writes, Assigns, MayTake, Renews}
+use Rattle.lfs_bmap.specs.Log.{Owner, LogState, owner_of, IsPlaced, IsPlace, clean_unit, AreSegments, IsLog, SameKeys, SameUse, Writes, Assigns, MayTake, Renews}
 use Rattle.lfs_bmap.proofs.CountingLemmas.{total-same, weight-none, weight-here, placed-cases, live-same, live-placed}
 
 -- one owner a place
-pub one_owner : (l : LogState) (spare n c m d : ℕ) → IsLog l spare → HasPlace l n c → HasPlace l m d → l.at n c ≡ l.at m d → (n ≡ m) × (c ≡ d)
+pub one_owner : (l : LogState) (spare n c m d : ℕ) → IsLog l spare → IsPlaced l n c → IsPlaced l m d → l.at n c ≡ l.at m d → (n ≡ m) × (c ≡ d)
 one_owner l spare n c m d log p q e =
     let same : owner_of l n c ≡ owner_of l m d = same_Some _ _ (sym (log.keys n c p).owned ∙ ap l.owner e ∙ (log.keys m d q).owned) in
     (ap (λ (o : Owner). o.number) same, ap (λ (o : Owner). o.code) same)
@@ -32,12 +32,12 @@ below_from_seg place segments h = omega arith
 
 -- What two logs with the same keys share.
 module _ (old new : LogState) (keys : SameKeys old new) where
-  pub had_place : (n c : ℕ) → HasPlace new n c → HasPlace old n c
+  pub had_place : (n c : ℕ) → IsPlaced new n c → IsPlaced old n c
   had_place n c h =
       let low : n < old.numbers = subst (λ m. n < m) keys.numbers h.number_below in
       record { number_below = low; code_below = h.code_below; somewhere = λ none. h.somewhere (keys.places n c low h.code_below ∙ none) }
 
-  pub place_kept : (n c : ℕ) → HasPlace new n c → new.at n c ≡ old.at n c
+  pub place_kept : (n c : ℕ) → IsPlaced new n c → new.at n c ≡ old.at n c
   place_kept n c h = keys.places n c (had_place n c h).number_below h.code_below
 
   pub owner_kept : (n c : ℕ) → n < old.numbers → owner_of old n c ≡ owner_of new n c
@@ -109,10 +109,10 @@ module _ (old new : LogState) (spare number code place : ℕ) (log : IsLog old s
       ∙ ap (λ m. live_bytes m BLOCK_CODES new.at s) (sym h.numbers)
 
   -- another key has a place as before
-  placed_other : (n c : ℕ) → HasPlace new n c → new.at n c ≡ old.at n c → IsPlace new n c (new.at n c)
+  placed_other : (n c : ℕ) → IsPlaced new n c → new.at n c ≡ old.at n c → IsPlace new n c (new.at n c)
   placed_other n c there same =
       let less : n < old.numbers = subst (λ m. n < m) h.numbers there.number_below in
-      let was : HasPlace old n c = record { number_below = less; code_below = there.code_below; somewhere = λ none. there.somewhere (same ∙ none) } in
+      let was : IsPlaced old n c = record { number_below = less; code_below = there.code_below; somewhere = λ none. there.somewhere (same ∙ none) } in
       let p = log.keys n c was in
       subst (IsPlace new n c) (sym same) (record {
         in_volume = subst (λ m. old.at n c < 256 * m) (sym h.segments) p.in_volume;
@@ -188,7 +188,7 @@ renewed_log old new spare number log h = record {
   keys = λ n c there.
       let less : n < old.numbers = subst (λ m. n < m) h.numbers there.number_below in
       let same : new.at n c ≡ old.at n c = h.places n c less there.code_below in
-      let was : HasPlace old n c = record { number_below = less; code_below = there.code_below; somewhere = λ none. there.somewhere (same ∙ none) } in
+      let was : IsPlaced old n c = record { number_below = less; code_below = there.code_below; somewhere = λ none. there.somewhere (same ∙ none) } in
       let other : n ≢ number = λ e. was.somewhere (ap (λ m. old.at m c) e ∙ h.nowhere c there.code_below) in
       let p = log.keys n c was in
       subst (IsPlace new n c) (sym same) (record {

@@ -3,7 +3,7 @@ use Rattle.std.proofs.Common.{◌≡◌, ◌≢◌, ℕ, ◌/◌, ◌<◌, ◌�
 use Rattle.std.proofs.lemmas.Bool.{cases_eq, cases_lt, cond-true, cond-false, eq-eqb, ne_eqb, lt-ltb, le-ltb, and_from, and_left, and_right}
 use Rattle.lfs_bmap.specs.declared.blocks.TheConstants.{BLOCK_CODES}
 use Rattle.lfs_bmap.specs.Counting.{seg_of}
-use Rattle.lfs_bmap.specs.Log.{LogState, HasPlace, IsLog, SameKeys, SameUse, MayTake, Assigns, Opens, Renews}
+use Rattle.lfs_bmap.specs.Log.{LogState, IsPlaced, IsLog, SameKeys, SameUse, MayTake, Assigns, Opens, Renews}
 use Rattle.lfs_bmap.specs.Moves.{present_address, DirtyIn, Moves, StaysDirty}
 use Rattle.lfs_bmap.proofs.CountingLemmas.{placed-cases}
 use Rattle.lfs_bmap.proofs.LogLemmas.{dirty_not_active}
@@ -19,14 +19,14 @@ module _ (Within : ℕ → Type 0) where
     places = λ n k there within. p.places n k (between n k there within) (inside n k there within) ∙ q.places n k there within;
     versions = λ n k there within. p.versions n k (between n k there within) (inside n k there within) ∙ q.versions n k there within;
   } where
-    between : (n k : ℕ) → HasPlace c n k → Within (seg_of (c.at n k)) → HasPlace b n k
+    between : (n k : ℕ) → IsPlaced c n k → Within (seg_of (c.at n k)) → IsPlaced b n k
     between n k there within = record {
       number_below = subst (λ m. n < m) q.numbers there.number_below;
       code_below = there.code_below;
       somewhere = λ none. there.somewhere (sym (q.places n k there within) ∙ none);
     }
 
-    inside : (n k : ℕ) → HasPlace c n k → Within (seg_of (c.at n k)) → Within (seg_of (b.at n k))
+    inside : (n k : ℕ) → IsPlaced c n k → Within (seg_of (c.at n k)) → Within (seg_of (b.at n k))
     inside n k there within = subst (λ p. Within (seg_of p)) (sym (q.places n k there within)) within
 
   -- where no key moves

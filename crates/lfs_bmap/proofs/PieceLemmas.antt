@@ -7,7 +7,7 @@ use borrow.Rule.Slice.PartMut.{put_mid}
 use Rattle.lfs_types.specs.Blocks.{zero_block}
 use Rattle.lfs_types.specs.Splicing.{splice, resized}
 use Rattle.lfs_types.specs.Stored.{slice_of}
-use Rattle.lfs_bmap.specs.Pieces.{joined, file_bytes, byte_at, IsPadded, Touches, byte_put, IsPut, IsCut, IsGot}
+use Rattle.lfs_bmap.specs.Pieces.{joined, file_bytes, byte_at, IsPadded, Touches, byte_put, IsPut, IsBlockCut, IsGot}
 
 -- A byte that is put, and one that is not.
 pub byte_put-new : (bytes : List ℕ) (start i old : ℕ) → start ≤ i → i < start + length bytes → byte_put bytes start i old ≡ get_or bytes (i - start) 0
@@ -182,7 +182,7 @@ untouched_put n start bytes block whole none = record {
 }
 
 -- What a cut of each block makes of the file, shorter or longer.
-module _ (old new : ℕ → List ℕ) (size other : ℕ) (padded : IsPadded old size) (cut : (n : ℕ) → IsCut n other (old n) (new n)) where
+module _ (old new : ℕ → List ℕ) (size other : ℕ) (padded : IsPadded old size) (cut : (n : ℕ) → IsBlockCut n other (old n) (new n)) where
   cut_byte : (i : ℕ) → byte_at new i ≡ (if nat_lt i other then byte_at old i else 0)
   cut_byte i =
       (cut (i / 512)).each (i % 512) (omega arith) ∙ ap (λ k. if nat_lt k other then byte_at old i else 0) (place_is i)
@@ -211,13 +211,13 @@ module _ (old new : ℕ → List ℕ) (size other : ℕ) (padded : IsPadded old 
       ]))
 
 -- A block before the cut stays; so does every block where the file gets longer; one behind it becomes zeros.
-pub below_cut : (n size : ℕ) (block : List ℕ) → length block ≡ 512 → 512 * n + 512 ≤ size → IsCut n size block block
+pub below_cut : (n size : ℕ) (block : List ℕ) → length block ≡ 512 → 512 * n + 512 ≤ size → IsBlockCut n size block block
 below_cut n size block whole below = record {
   whole = whole;
   each = λ k low. sym (cond-true _ _ _ (lt-ltb (512 * n + k) size (omega arith)));
 }
 
-pub longer_cut : (n size other : ℕ) (blocks : ℕ → List ℕ) → IsPadded blocks size → size ≤ other → IsCut n other (blocks n) (blocks n)
+pub longer_cut : (n size other : ℕ) (blocks : ℕ → List ℕ) → IsPadded blocks size → size ≤ other → IsBlockCut n other (blocks n) (blocks n)
 longer_cut n size other blocks padded longer = record {
   whole = padded.whole n;
   each = λ k low. elim (cases_lt (512 * n + k) other) [
@@ -230,7 +230,7 @@ longer_cut n size other blocks padded longer = record {
   ];
 }
 
-pub past_cut : (n size : ℕ) (block zeros : List ℕ) → length zeros ≡ 512 → ((k : ℕ) → k < 512 → get_or zeros k 0 ≡ 0) → size ≤ 512 * n → IsCut n size block zeros
+pub past_cut : (n size : ℕ) (block zeros : List ℕ) → length zeros ≡ 512 → ((k : ℕ) → k < 512 → get_or zeros k 0 ≡ 0) → size ≤ 512 * n → IsBlockCut n size block zeros
 past_cut n size block zeros whole all past = record {
   whole = whole;
   each = λ k low. all k low ∙ sym (cond-false _ _ _ (le-ltb (512 * n + k) size (omega arith)));

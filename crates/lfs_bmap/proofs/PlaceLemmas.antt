@@ -8,8 +8,8 @@ use Rattle.lfs_inodes.specs.Addresses.{cells}
 use Rattle.lfs_ifile.specs.declared.segment.SegState.TheVariants.{Clean}
 use Rattle.lfs_bmap.specs.declared.blocks.TheConstants.{BLOCK_CODES}
 use Rattle.lfs_bmap.specs.Counting.{seg_of, placed}
-use Rattle.lfs_bmap.specs.Log.{LogState, HasPlace, IsLog}
-use Rattle.lfs_bmap.specs.Ways.{way_of, code_at, IsKnown}
+use Rattle.lfs_bmap.specs.Log.{LogState, IsPlaced, IsLog}
+use Rattle.lfs_bmap.specs.Ways.{way_of, code_at, HasWay}
 use Rattle.lfs_bmap.specs.Reading.{Tree, address, read, data_block, IsUnread, SameReadings, Stages, Lands, Clears, places}
 use Rattle.lfs_bmap.proofs.CountingLemmas.{placed-cases, placed-here, placed-code, placed-number}
 use Rattle.lfs_bmap.proofs.ReadingLemmas.{address-root, data_leaf, staged_others, staged_bytes, landed_address, landed_addresses, landed_data, cleared_address, cleared_addresses}
@@ -38,10 +38,10 @@ data_block-same old new h n = data_block-alike old new n (λ low. h.bytes (way_o
 
 -- other bytes that wait for a data block change that block alone
 module _ (old new : Tree) (n : ℕ) (bytes : List ℕ) (below : n < FILE_BLOCKS) (h : Stages old new (way_of (131 + n)) bytes) where
-  leaf : (i : ℕ) → IsKnown (i ∷ way_of (131 + n)) → ⊥
+  leaf : (i : ℕ) → HasWay (i ∷ way_of (131 + n)) → ⊥
   leaf = data_leaf (131 + n) (omega arith)
 
-  known_data : IsKnown (way_of (131 + n))
+  known_data : HasWay (way_of (131 + n))
   known_data = way_of-known (131 + n) (omega arith)
 
   pub data_block-staged : data_block new n ≡ bytes
@@ -53,7 +53,7 @@ module _ (old new : Tree) (n : ℕ) (bytes : List ℕ) (below : n < FILE_BLOCKS)
       (λ e. ne (let same : 131 + m ≡ 131 + n = same_code (131 + m) (131 + n) e in omega arith)))
 
 -- no data block changes where a block lands
-pub data_block-landed : (old new : Tree) (i : ℕ) (up : List ℕ) (a : ℕ) → IsKnown (i ∷ up) → Lands old new i up a → IsUnread old a → (n : ℕ) → data_block new n ≡ data_block old n
+pub data_block-landed : (old new : Tree) (i : ℕ) (up : List ℕ) (a : ℕ) → HasWay (i ∷ up) → Lands old new i up a → IsUnread old a → (n : ℕ) → data_block new n ≡ data_block old n
 data_block-landed old new i up a known h unread n =
     data_block-alike old new n (λ low. landed_data old new i up a known h unread (131 + n) (omega arith) (omega arith))
 
@@ -82,8 +82,8 @@ module _ (numbers : ℕ) (records : ℕ → ℕ) (old new : ℕ → Tree) (numbe
 -- So after a block landed, and after one was given back.
 module _ (numbers : ℕ) (records : ℕ → ℕ) (old new : ℕ → Tree) (number code i : ℕ) (up : List ℕ) (way : way_of code ≡ i ∷ up) (below : code < BLOCK_CODES)
     (same : (n : ℕ) → n < numbers → n ≢ number → SameReadings (old n) (new n)) where
-  known_block : IsKnown (i ∷ up)
-  known_block = subst IsKnown way (way_of-known code below)
+  known_block : HasWay (i ∷ up)
+  known_block = subst HasWay way (way_of-known code below)
 
   other_way : (c : ℕ) → c ≢ code → way_of c ≢ i ∷ up
   other_way c ne e = ne (same_code c code (e ∙ sym way))
@@ -123,7 +123,7 @@ record_places numbers records others old new number place same here there n c le
     ]
 
 -- A place that a key has is at no address from the log's end on.
-pub end_unowned : (l : LogState) (spare n c a : ℕ) → IsLog l spare → HasPlace l n c → l.next ≤ a → a < 64 * l.active + 64 → l.at n c / 4 ≢ a
+pub end_unowned : (l : LogState) (spare n c a : ℕ) → IsLog l spare → IsPlaced l n c → l.next ≤ a → a < 64 * l.active + 64 → l.at n c / 4 ≢ a
 end_unowned l spare n c a log there from to e =
     let begin : 64 * l.active ≤ l.next = log.segments.from in
     let segment : seg_of (l.at n c) ≡ l.active = omega arith in
@@ -146,7 +146,7 @@ unowned_unread records trees n a some away way known e =
 -- end on, and in a clean segment.
 module _ (l : LogState) (spare : ℕ) (records : ℕ → ℕ) (trees : ℕ → Tree) (log : IsLog l spare)
     (at : (n c : ℕ) → n < l.numbers → c < BLOCK_CODES → l.at n c ≡ places records trees n c) where
-  key_at : (n a : ℕ) → n < l.numbers → a ≢ 0 → (c : ℕ) → c < BLOCK_CODES → places records trees n c ≡ 4 * a → HasPlace l n c × (l.at n c ≡ 4 * a)
+  key_at : (n a : ℕ) → n < l.numbers → a ≢ 0 → (c : ℕ) → c < BLOCK_CODES → places records trees n c ≡ 4 * a → IsPlaced l n c × (l.at n c ≡ 4 * a)
   key_at n a low some c below e =
       let is : l.at n c ≡ 4 * a = at n c low below ∙ e in
       (record { number_below = low; code_below = below; somewhere = λ none. some (omega arith) }, is)

@@ -5,12 +5,12 @@ use Rattle.lfs_ifile.specs.declared.segment.SegState.{SegState}
 use Rattle.lfs_ifile.specs.declared.segment.SegState.TheVariants.{Clean, Dirty, Active}
 use Rattle.lfs_bmap.specs.declared.blocks.TheConstants.{BLOCK_CODES}
 use Rattle.lfs_bmap.specs.Counting.{seg_of, units, total, weight_of}
-use Rattle.lfs_bmap.specs.Log.{LogState, HasPlace, IsPlace, clean_unit, AreSegments, IsLog, MayTake, Opens, Cleans, IsEmptyLog}
+use Rattle.lfs_bmap.specs.Log.{LogState, IsPlaced, IsPlace, clean_unit, AreSegments, IsLog, MayTake, Opens, Cleans, IsEmptyLog}
 use Rattle.lfs_bmap.proofs.CountingLemmas.{total-changed, total-part, total-zero, weight-none, weight-here, weight-elsewhere, live-none, live-part, live-empty}
 use Rattle.lfs_bmap.proofs.LogLemmas.{had_place, place_kept, owner_kept, counted_kept, active_not_clean, dirty_not_clean, dirty_not_active, seg_below}
 
 -- a place in a segment that is not clean is not in the one that is
-pub not_in_clean : (l : LogState) (spare segment : ℕ) → IsLog l spare → l.state segment ≡ Clean → (n c : ℕ) → HasPlace l n c → seg_of (l.at n c) ≢ segment
+pub not_in_clean : (l : LogState) (spare segment : ℕ) → IsLog l spare → l.state segment ≡ Clean → (n c : ℕ) → IsPlaced l n c → seg_of (l.at n c) ≢ segment
 not_in_clean l spare segment log clean n c h e = (log.keys n c h).not_clean (ap l.state e ∙ clean)
 
 -- a clean segment has no live bytes
@@ -21,7 +21,7 @@ clean_is_empty l spare segment log inside clean =
     not_in_clean l spare segment log clean n c (record { number_below = low; code_below = below; somewhere = some }))
 
 -- a segment without live bytes has no key
-pub empty_has_none : (l : LogState) (spare segment : ℕ) → IsLog l spare → segment < l.segments → l.live segment ≡ 0 → (n c : ℕ) → HasPlace l n c → seg_of (l.at n c) ≢ segment
+pub empty_has_none : (l : LogState) (spare segment : ℕ) → IsLog l spare → segment < l.segments → l.live segment ≡ 0 → (n c : ℕ) → IsPlaced l n c → seg_of (l.at n c) ≢ segment
 empty_has_none l spare segment log inside empty n c h =
     live-empty l.numbers BLOCK_CODES l.at segment (sym (log.counted segment inside) ∙ empty) n c h.number_below h.code_below h.somewhere
 
@@ -69,7 +69,7 @@ module _ (old new : LogState) (spare segment : ℕ) (log : IsLog old spare) (h :
     clean_count = opened_count;
   }
 
-  opened_place : (n c : ℕ) → HasPlace new n c → IsPlace new n c (new.at n c)
+  opened_place : (n c : ℕ) → IsPlaced new n c → IsPlace new n c (new.at n c)
   opened_place n c there =
       let was = had_place old new h.keys n c there in
       let place = log.keys n c was in
@@ -132,7 +132,7 @@ module _ (old new : LogState) (spare segment : ℕ) (log : IsLog old spare) (h :
     clean_count = cleaned_count;
   }
 
-  cleaned_place : (n c : ℕ) → HasPlace new n c → IsPlace new n c (new.at n c)
+  cleaned_place : (n c : ℕ) → IsPlaced new n c → IsPlace new n c (new.at n c)
   cleaned_place n c there =
       let was = had_place old new h.keys n c there in
       let place = log.keys n c was in
@@ -176,7 +176,7 @@ module _ (l : LogState) (h : IsEmptyLog l) where
       let clean = h.clean in
       omega arith
 
-  no_place : (n c : ℕ) → HasPlace l n c → ⊥
+  no_place : (n c : ℕ) → IsPlaced l n c → ⊥
   no_place n c there = there.somewhere (h.nowhere n c there.number_below there.code_below)
 
   pub empty_log : IsLog l 0
@@ -224,7 +224,7 @@ taken_fits l spare number code place log may =
     let to = log.segments.to in
     omega arith
 
-pub left_fits : (l : LogState) (spare number code : ℕ) → IsLog l spare → HasPlace l number code → 128 * units code ≤ l.live (seg_of (l.at number code))
+pub left_fits : (l : LogState) (spare number code : ℕ) → IsLog l spare → IsPlaced l number code → 128 * units code ≤ l.live (seg_of (l.at number code))
 left_fits l spare number code log there =
     let inside = seg_below (l.at number code) l.segments (log.keys number code there).in_volume in
     let part = live-part l.numbers BLOCK_CODES l.at (seg_of (l.at number code)) number code there.number_below there.code_below in

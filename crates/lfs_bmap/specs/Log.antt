@@ -34,7 +34,7 @@ abbrev pub owner_of : LogState → ℕ → ℕ → Owner
 owner_of l number code = record { number = number; version = l.version number; code = code }
 
 -- a key of the volume that has a place
-pub record HasPlace (l : LogState) (number code : ℕ) : Type 0 where
+pub record IsPlaced (l : LogState) (number code : ℕ) : Type 0 where
   pub number_below : number < l.numbers
   pub code_below : code < BLOCK_CODES
   pub somewhere : l.at number code ≢ 0
@@ -66,7 +66,7 @@ pub record AreSegments (l : LogState) : Type 0 where
 -- written first, and then keys take their places there.
 pub record IsLog (l : LogState) (spare : ℕ) : Type 0 where
   pub segments : AreSegments l
-  pub keys : (number code : ℕ) → HasPlace l number code → IsPlace l number code (l.at number code)
+  pub keys : (number code : ℕ) → IsPlaced l number code → IsPlace l number code (l.at number code)
   pub counted : (s : ℕ) → s < l.segments → l.live s ≡ live_bytes l.numbers BLOCK_CODES l.at s
   pub spared : l.live l.active + spare ≤ 512 * (l.next - SEGMENT_BLOCKS * l.active)
 

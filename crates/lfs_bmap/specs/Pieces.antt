@@ -39,7 +39,7 @@ pub record IsPut (n start : ℕ) (bytes old new : List ℕ) : Type 0 where
       → slice_index new k ≡ byte_put bytes start (BLOCK_SIZE * n + k) (slice_index old k)
 
 -- what block n has at and past a size is zero, and its other bytes stay
-pub record IsCut (n size : ℕ) (old new : List ℕ) : Type 0 where
+pub record IsBlockCut (n size : ℕ) (old new : List ℕ) : Type 0 where
   pub whole : length new ≡ BLOCK_SIZE
   pub each : (k : ℕ) → k < BLOCK_SIZE
       → slice_index new k ≡ (if nat_lt (BLOCK_SIZE * n + k) size then slice_index old k else 0)

@@ -1,7 +1,7 @@
 //! A file as its blocks: which blocks some of its bytes fall into, and which bytes of a block.
 
 ghost use Rattle.std.specs.Prelude.{◌≡◌, ℕ, ◌+◌, ◌-◌, ◌*◌, ◌/◌, ◌<◌, ◌≤◌, ◌^◌, min, length};
-ghost use Rattle.lfs_bmap.specs.Pieces.{Touches, IsPut, IsCut, IsGot};
+ghost use Rattle.lfs_bmap.specs.Pieces.{Touches, IsPut, IsBlockCut, IsGot};
 
 use lfs_types::block::{BLOCK_SIZE, Block};
 use std::ops::Range;
@@ -56,7 +56,7 @@ pub fn put_piece(block: &mut Block, index: u32, start: u64, bytes: &[u8])
 
 /// Zeroes what block `index` has at and past `size` of its file.
 pub fn cut_piece(block: &mut Block, index: u32, size: u64)
-    ensures { IsCut index size block.old block.new }
+    ensures { IsBlockCut index size block.old block.new }
 {
     let kept = piece_of(index, 0, size).to;
     block[kept..].fill(0);

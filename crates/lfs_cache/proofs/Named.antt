@@ -5,7 +5,7 @@ use Rattle.std.proofs.lemmas.List.{get_or-set_same, get_or-set_other, get_or_pas
 use Rattle.std.proofs.lemmas.Bool.{cases_lt, cases_eq}
 use Rattle.lfs_cache.specs.declared.key.Key.{Key}
 use Rattle.lfs_cache.specs.Keys.{start_of}
-use Rattle.lfs_cache.specs.Index.{key_at, frame_at, IsFree, IsReached, IsIndex, IsNamed}
+use Rattle.lfs_cache.specs.Index.{key_at, frame_at, IsFree, IsReached, IsIndex, AreIndexed}
 use Rattle.lfs_cache.proofs.Places.{count_none, entered_new, entered_old, entered_count, entered_bound}
 
 no_key : {X : Type 0} (o : Option X) (k : X) → o ≡ None → o ≡ Some k → ⊥
@@ -15,7 +15,7 @@ pub none_of : {X : Type 0} (o : Option X) → ((x : X) → o ≡ Some x → ⊥)
 none_of None h = refl
 none_of (Some x) h = absurd (h x refl)
 
-pub named_first : (keys : List (Option Key)) (ps : List (Option ℕ)) → length ps ≡ 6 * length keys → ((p : ℕ) → frame_at ps p ≡ None) → IsNamed keys ps 0 0
+pub named_first : (keys : List (Option Key)) (ps : List (Option ℕ)) → length ps ≡ 6 * length keys → ((p : ℕ) → frame_at ps p ≡ None) → AreIndexed keys ps 0 0
 named_first keys ps sized none = record {
   sized = sized;
   inside = λ p f is. absurd (no_key (frame_at ps p) f (none p) is);
@@ -24,7 +24,7 @@ named_first keys ps sized none = record {
   room = omega arith;
 }
 
-pub named_none : (keys : List (Option Key)) (ps : List (Option ℕ)) (taken i : ℕ) → key_at keys i ≡ None → IsNamed keys ps taken i → IsNamed keys ps taken (i + 1)
+pub named_none : (keys : List (Option Key)) (ps : List (Option ℕ)) (taken i : ℕ) → key_at keys i ≡ None → AreIndexed keys ps taken i → AreIndexed keys ps taken (i + 1)
 named_none keys ps taken i none h = record {
   sized = h.sized;
   inside = h.inside;
@@ -38,7 +38,7 @@ some_same : {X : Type 0} (o : Option X) (a b : X) → o ≡ Some a → o ≡ Som
 some_same o a b e h = let same : Some a ≡ Some b = sym e ∙ h in cc
 
 pub named_more : (keys : List (Option Key)) (ps : List (Option ℕ)) (taken i s at : ℕ) (k : Key) → i < length keys → key_at keys i ≡ Some k → s ≡ start_of k (4 * length keys) → s ≤ at → IsFree ps s (at - s)
-    → IsNamed keys ps taken i → IsNamed keys (set ps at (Some i)) (taken + 1) (i + 1)
+    → AreIndexed keys ps taken i → AreIndexed keys (set ps at (Some i)) (taken + 1) (i + 1)
 named_more keys ps taken i s at k below is starts from free h = record {
   sized = length-set ps at (Some i) ∙ h.sized;
   inside = entered_bound ps i s at from free (length keys) below h.inside;
@@ -52,7 +52,7 @@ named_more keys ps taken i s at k below is starts from free h = record {
   room = let r = h.room in omega arith;
 }
 
-pub named_all : (keys : List (Option Key)) (ps : List (Option ℕ)) (taken : ℕ) → 0 < length keys → length keys ≤ 1024 → IsNamed keys ps taken (length keys) → IsIndex keys ps taken
+pub named_all : (keys : List (Option Key)) (ps : List (Option ℕ)) (taken : ℕ) → 0 < length keys → length keys ≤ 1024 → AreIndexed keys ps taken (length keys) → IsIndex keys ps taken
 named_all keys ps taken some bounded h = record {
   some = some;
   bounded = bounded;

@@ -14,7 +14,7 @@ use Rattle.lfs_recency.proofs.Lists.{length-without, times-taken_same, times-tak
 use Rattle.lfs_cache.specs.declared.key.Key.{Key}
 use Rattle.lfs_cache.specs.Keys.{same_key}
 use Rattle.lfs_cache.specs.Index.{key_at}
-use Rattle.lfs_cache.specs.Frames.{name_or, names_without, names_after, next_of, HasRoom, IsListed}
+use Rattle.lfs_cache.specs.Frames.{name_or, names_without, names_after, next_of, HasRoom, HoldsNoOther}
 use Rattle.lfs_cache.specs.Contents.{Contents, block_in, block_of, removed, locked_first, lru_first, used, used_by, filled, written, written_by, settled, settled_by, forgotten, forgotten_by, IsLocked, or_else, keys_of}
 use Rattle.lfs_cache.specs.Held.{name_at, entry_at, held_by, AreHeld, AreSized, IsCache}
 use Rattle.lfs_cache.proofs.Entries.{same_is, same_cases, without_absent, block_found, block_absent, block_missing}
@@ -108,7 +108,7 @@ module _ (l : FrameLists) (keys : List (Option Key)) (names : List Key) (capacit
   unlisted : times f l.locked ≡ 0 → names_without k names ≡ names
   unlisted none = names_stay l keys f names k inner is (whole_fronted l f h.are.whole low) none
 
-  pub names_unlisted : (bl : List (List ℕ)) → IsListed f k (record l { blocks = bl }) names
+  pub names_unlisted : (bl : List (List ℕ)) → HoldsNoOther f k (record l { blocks = bl }) names
   names_unlisted bl Locked some ne = absurd (ne refl)
   names_unlisted bl Lru some ne = unlisted (let one = once l h.are.whole f low in omega arith)
   names_unlisted bl Age some ne = unlisted (let one = once l h.are.whole f low in omega arith)

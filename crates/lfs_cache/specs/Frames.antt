@@ -36,8 +36,8 @@ names_after Age k ns = names_without k ns
 names_after Empty k ns = names_without k ns
 
 -- a list of LOCKED keys has not the key of a frame that is in another queue
-abbrev pub IsListed : ℕ → Key → FrameLists → List Key → Type 0
-IsListed frame key l names =
+abbrev pub HoldsNoOther : ℕ → Key → FrameLists → List Key → Type 0
+HoldsNoOther frame key l names =
     (q : Queue) → 0 < times frame (listed q l) → q ≢ Locked → names_without key names ≡ names
 
 -- the list of LOCKED keys has room for one that comes to a queue

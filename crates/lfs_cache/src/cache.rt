@@ -7,7 +7,7 @@ ghost use Rattle.lfs_recency.specs.declared.queue.Queue.TheVariants.{Locked, Lru
 ghost use Rattle.lfs_recency.specs.Lending.{with_block};
 ghost use Rattle.lfs_types.specs.Ranges.{least_frames, most_frames};
 ghost use Rattle.lfs_cache.specs.declared.key.Key.{Key};
-ghost use Rattle.lfs_cache.specs.Frames.{next_of, names_after, names_without, HasRoom, IsListed};
+ghost use Rattle.lfs_cache.specs.Frames.{next_of, names_after, names_without, HasRoom, HoldsNoOther};
 ghost use Rattle.lfs_cache.specs.Contents.{block_in, block_of, used, filled, written, settled, forgotten, IsLocked, keys_of, nothing_in, AreApart};
 ghost use Rattle.lfs_cache.specs.Changes.{KeepsBlocks, KeepsOthers, GainsOnly, IsContents};
 
@@ -48,7 +48,7 @@ impl Model for Cache {
 // searched only where the frame was LOCKED.
 fn move_first(frames: &mut Frames, locked: &mut Vec<Key>, frame: u32, key: Key, queue: Queue)
     requires in_range { frame < frame_count frames.old }
-    requires listed { IsListed frame key frames.old locked.old.items }
+    requires listed { HoldsNoOther frame key frames.old locked.old.items }
     requires room { HasRoom queue (length (names_without key locked.old.items)) (vec_capacity locked.old) }
     ensures frames { frames.new ≡ fronted frame queue frames.old }
     ensures whole { IsWhole frames.new }

@@ -9,7 +9,7 @@ use Rattle.lfs_types.specs.declared.attrs.Kind.TheVariants.{Directory}
 use Rattle.lfs_model.specs.World.{Rows, child, IsTree}
 use Rattle.lfs_model.specs.Rules.{reached}
 use Rattle.lfs_model.specs.Effects.{with_file, with_change}
-use Rattle.lfs_calls.specs.Content.{visible_bytes, visible, Shows, IsListing}
+use Rattle.lfs_calls.specs.Content.{visible_bytes, visible, Shows, ListsRows}
 use Rattle.lfs_model.proofs.Children.{child-stays}
 use Rattle.lfs_types.proofs.Maps.{get-insert_same, get-insert_other, each_value}
 use Rattle.lfs_calls.proofs.Visible.{Stored, shown_of}
@@ -41,10 +41,10 @@ module _ (c after : Content) (w : World) (shows : Shows c w) (tree : IsTree w.ro
         (λ apart. ap (option_map visible) (others q apart) ∙ shows.files q ∙ sym (ap (option_map (λ (x : Row). x.file)) (get-insert_other w.rows n (record r { file = visible file }) q apart)))
         (cases_eq q n);
     sizes = each_value c after n file written others (λ q g. IsLength g.kind (length g.bytes)) size (λ q g apart. shows.sizes q g);
-    listings = each_value c after n file written others (λ q g. g.kind ≡ Directory → IsListing rows_after q g.bytes)
+    listings = each_value c after n file written others (λ q g. g.kind ≡ Directory → ListsRows rows_after q g.bytes)
         (λ is.
         let was = shows.listings n f stored (sym kind ∙ is) in
-        subst (IsListing rows_after n) (sym (blocks (sym kind ∙ is)))
+        subst (ListsRows rows_after n) (sym (blocks (sym kind ∙ is)))
         (record { blocks = was.blocks; distinct = was.distinct; names = λ name. was.names name ∙ sym (same_children n name) }))
         (λ q g apart e is.
         let was = shows.listings q g e is in

@@ -20,7 +20,7 @@ use Rattle.lfs_calls.specs.declared.walking.Reached.{Reached}
 use Rattle.lfs_model.specs.World.{children, IsTree, file_at}
 use Rattle.lfs_model.specs.Rules.{front, last, reached}
 use Rattle.lfs_model.specs.Effects.{new_file, with_new, least_unused}
-use Rattle.lfs_calls.specs.Content.{Shows, IsListing, FitsNowhere, KeepsOthers, block_at, listed}
+use Rattle.lfs_calls.specs.Content.{Shows, ListsRows, FitsNowhere, KeepsOthers, block_at, listed}
 use Rattle.lfs_calls.specs.Makes.{CanEnter, EntersFirst, IsBlockOf, IsParent, IsRoom, ListsFirst, MakesFile}
 use Rattle.lfs_calls.specs.Names.{FindsNew, IsFound}
 use Rattle.lfs_model.specs.Steps.{AllUsed}
@@ -128,11 +128,11 @@ module _ {c : Content} {w : World} (shows : Shows c w) {path : List (List ℕ)} 
       entry_is : IsEntry (number, last path)
       entry_is = (AreEntries-middle (entries_of _) (number, last path) [] (subst AreEntries fits.adds fits.block.entries)).0
 
-      listing_after : IsListing (map.insert w.rows number new_row) dir.number (splice f.file.bytes room.off room.block)
+      listing_after : ListsRows (map.insert w.rows number new_row) dir.number (splice f.file.bytes room.off room.block)
       listing_after =
           let put : splice f.file.bytes room.off room.block ≡ put_over f.file.bytes (512 * k) room.block =
           splice-put_over f.file.bytes room.off room.block (omega (arith, room_size)) room_within ∙ ap (λ n. put_over f.file.bytes n room.block) fits.off in
-          subst (IsListing (map.insert w.rows number new_row) dir.number) (sym put)
+          subst (ListsRows (map.insert w.rows number new_row) dir.number) (sym put)
           (IsListing-added f.file.bytes k room.block room_size dir_length.1 at_file.within w.rows (map.insert w.rows number new_row) dir.number number (last path)
           (shows.listings dir.number f.file f.stored dir_kind) at_file.block at_file.adds entry_is is.free
           (child-new w.rows number new_row absent below is.free tree.unique)

@@ -13,7 +13,7 @@ use Rattle.lfs_dirs.specs.Changes.{AreEntries-distinct, number_in-Contains, used
 use Rattle.lfs_dirs.specs.Directory.{Entry, used_of}
 use Rattle.lfs_dirs.specs.Reading.{entries_of}
 use Rattle.lfs_model.specs.World.{Rows, child, children, IsChild}
-use Rattle.lfs_calls.specs.Content.{block_at, entries_below, listed, IsListing, left_of, FitsNowhere}
+use Rattle.lfs_calls.specs.Content.{block_at, entries_below, listed, ListsRows, left_of, FitsNowhere}
 use Rattle.lfs_model.proofs.Children.{child-is}
 use Rattle.lfs_types.specs.declared.limits.TheConstants.{FILE_BLOCKS}
 use Rattle.lfs_model.proofs.Members.{number_eq-Decides, children-has}
@@ -43,7 +43,7 @@ named_once rows parent p q m n c d same =
     let one : c.row ≡ d.row = cc (c.there, d.there, ap (map.get rows) same) in
     sym c.named ∙ ap (λ (r : Row). r.name) one ∙ d.named
 
-module _ (rows : Rows) (parent : ℕ) (bytes : List ℕ) (is : IsListing rows parent bytes) where
+module _ (rows : Rows) (parent : ℕ) (bytes : List ℕ) (is : ListsRows rows parent bytes) where
   -- an entry's number is that of the row that hangs there under its name
   listed-child : All (λ (e : Entry). child rows parent e.1 ≡ Some e.0) (listed bytes)
   listed-child k d within =
@@ -79,7 +79,7 @@ used_of-left_le None es = omega arith
 used_of-left_le (Some name) es = used_of-without_le name es
 
 -- where a new name fits nowhere, each of the 140 blocks has an entry, and each entry its row
-pub crowded : (rows : Rows) (parent : ℕ) (bytes : List ℕ) (taken : Option (List ℕ)) (name : List ℕ) → IsListing rows parent bytes → FitsNowhere bytes taken name → length name ≤ 255 → FILE_BLOCKS ≤ length (children rows parent)
+pub crowded : (rows : Rows) (parent : ℕ) (bytes : List ℕ) (taken : Option (List ℕ)) (name : List ℕ) → ListsRows rows parent bytes → FitsNowhere bytes taken name → length name ≤ 255 → FILE_BLOCKS ≤ length (children rows parent)
 crowded rows parent bytes taken name is nowhere short =
     let count : length bytes / 512 ≡ FILE_BLOCKS = omega (arith, nowhere.whole) in
     let many = entries_below-many bytes FILE_BLOCKS (λ k below.

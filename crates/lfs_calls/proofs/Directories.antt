@@ -9,7 +9,7 @@ use Rattle.lfs_types.specs.Tree.{File, World, Content}
 use Rattle.lfs_types.specs.declared.attrs.Attrs.{Attrs}
 use Rattle.lfs_types.specs.declared.attrs.Kind.TheVariants.{Directory}
 use Rattle.lfs_dirs.specs.Directory.{number_in}
-use Rattle.lfs_calls.specs.Content.{HasBlocks, IsDirectoryAt, Shows, IsListing, listed}
+use Rattle.lfs_calls.specs.Content.{HasBlocks, IsDirectoryAt, Shows, ListsRows, listed}
 use Rattle.lfs_calls.specs.Removes.{ListsName}
 use Rattle.lfs_types.proofs.Somewhere.{is_some_and, present}
 use Rattle.lfs_types.specs.declared.limits.TheConstants.{FILE_BYTES}
@@ -61,8 +61,8 @@ module _ {c : Content} {w : World} (shows : Shows c w) (n : ℕ) (a : Attrs) (sh
   bytes_length = subst (λ bs. IsLength Directory (length bs)) (sym file_bytes) file_length
 
   -- its bytes list the rows that hang in it
-  pub bytes_listing : IsListing w.rows n (bytes_of c n)
-  bytes_listing = subst (IsListing w.rows n) (sym file_bytes) (shows.listings n dir_file.file dir_file.stored file_kind)
+  pub bytes_listing : ListsRows w.rows n (bytes_of c n)
+  bytes_listing = subst (ListsRows w.rows n) (sym file_bytes) (shows.listings n dir_file.file dir_file.stored file_kind)
 
   -- it lists a name whose number it has
   pub lists_name : (name : List ℕ) → IsSome (number_in name (listed (bytes_of c n))) → ListsName c n a.size name

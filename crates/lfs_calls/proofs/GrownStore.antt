@@ -9,7 +9,7 @@ use Rattle.lfs_types.specs.declared.attrs.Kind.{Kind}
 use Rattle.lfs_types.specs.declared.attrs.Kind.TheVariants.{File as Regular, Directory}
 use Rattle.lfs_dirs.specs.Changes.{number_in-nil}
 use Rattle.lfs_model.specs.World.{Rows, child, IsTree}
-use Rattle.lfs_calls.specs.Content.{visible, Shows, IsListing, entries_below}
+use Rattle.lfs_calls.specs.Content.{visible, Shows, ListsRows, entries_below}
 use Rattle.lfs_model.proofs.Children.{child-answer, child-new_other}
 use Rattle.lfs_types.proofs.Maps.{get-insert_same, get-insert_other}
 use Rattle.lfs_types.proofs.Somewhere.{some_and}
@@ -30,7 +30,7 @@ module _ (c after : Content) (w : World) (shows : Shows c w) (tree : IsTree w.ro
     (written : map.get after row.parent ≡ Some (record f { bytes = bytes }))
     (others : (q : ℕ) → q ≢ n → q ≢ row.parent → map.get after q ≡ map.get c q)
     (size : IsLength Directory (length bytes))
-    (listing : IsListing (map.insert w.rows n row) row.parent bytes) where
+    (listing : ListsRows (map.insert w.rows n row) row.parent bytes) where
   abbrev grown : Rows
   grown = map.insert w.rows n row
 
@@ -64,18 +64,18 @@ module _ (c after : Content) (w : World) (shows : Shows c w) (tree : IsTree w.ro
       let here : map.get w.rows n ≡ Some up.value = sym (ap (map.get w.rows) h.hangs) ∙ up.is in
       absurd (cc))
 
-  lists_nothing : (bs : List ℕ) → bs ≡ [] → IsListing grown n bs
+  lists_nothing : (bs : List ℕ) → bs ≡ [] → ListsRows grown n bs
   unfolding entries_below
-  lists_nothing bs none = subst (IsListing grown n) (sym none) (record {
+  lists_nothing bs none = subst (ListsRows grown n) (sym none) (record {
     blocks = λ k h. absurd (omega arith);
     distinct = tt;
     names = λ name. number_in-nil name ∙ sym (childless name);
   })
 
-  listings_after : (q : ℕ) (g : File) → map.get after q ≡ Some g → g.kind ≡ Directory → IsListing grown q g.bytes
-  listings_after = at_each (λ q. (g : File) → map.get after q ≡ Some g → g.kind ≡ Directory → IsListing grown q g.bytes)
+  listings_after : (q : ℕ) (g : File) → map.get after q ≡ Some g → g.kind ≡ Directory → ListsRows grown q g.bytes
+  listings_after = at_each (λ q. (g : File) → map.get after q ≡ Some g → g.kind ≡ Directory → ListsRows grown q g.bytes)
       (λ g e _. let same : row.file ≡ g = cc in lists_nothing g.bytes (sym (ap (λ (x : File). x.bytes) same) ∙ empty))
-      (λ g e _. let same : record f { bytes = bytes } ≡ g = cc in subst (λ (x : File). IsListing grown row.parent x.bytes) same listing)
+      (λ g e _. let same : record f { bytes = bytes } ≡ g = cc in subst (λ (x : File). ListsRows grown row.parent x.bytes) same listing)
       (λ q apart away g e kind.
       let was = shows.listings q g (sym (others q apart away) ∙ e) kind in
       record {

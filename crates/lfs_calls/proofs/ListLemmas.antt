@@ -21,7 +21,7 @@ use Rattle.lfs_calls.specs.declared.walking.Reached.{Reached}
 use Rattle.lfs_model.specs.World.{Rows, IsTree}
 use Rattle.lfs_model.specs.Rules.{reached}
 use Rattle.lfs_model.specs.Effects.{answer_of, in_byte_order, names_in}
-use Rattle.lfs_calls.specs.Content.{block_at, entries_below, listed, IsListing, Shows}
+use Rattle.lfs_calls.specs.Content.{block_at, entries_below, listed, ListsRows, Shows}
 use Rattle.lfs_model.proofs.ByteOrder.{same_name, same_name-Decides, sorted-is-in_byte_order}
 use Rattle.lfs_model.proofs.Children.{IsUnique, child-is, child-answer}
 use Rattle.lfs_calls.proofs.Directories.{bytes_listing}
@@ -39,7 +39,7 @@ pub no_names_at_first : (bytes : List ℕ) → map (λ (e : Entry). e.1) (entrie
 unfolding entries_below
 no_names_at_first bytes = refl
 
-module _ (rows : Rows) (parent : ℕ) (bytes : List ℕ) (is : IsListing rows parent bytes) (unique : IsUnique rows) where
+module _ (rows : Rows) (parent : ℕ) (bytes : List ℕ) (is : ListsRows rows parent bytes) (unique : IsUnique rows) where
   abbrev names : List (List ℕ)
   names = map (λ (e : Entry). e.1) (listed bytes)
 

@@ -9,7 +9,7 @@ use Rattle.lfs_dirs.specs.Directory.{Entry, AreEntries, IsEntry, IsDirectoryBloc
 use Rattle.lfs_dirs.specs.Laws.{entries_of-short}
 use Rattle.lfs_dirs.specs.Reading.{entries_of}
 use Rattle.lfs_model.specs.World.{Rows, child}
-use Rattle.lfs_calls.specs.Content.{block_at, entries_below, listed, AreBlocks, IsListing}
+use Rattle.lfs_calls.specs.Content.{block_at, entries_below, listed, AreBlocks, ListsRows}
 use Rattle.lfs_types.proofs.Pieces.{put_over, piece-before, piece-here, piece-behind, length-put_over}
 
 -- ---- an entry put between others
@@ -144,7 +144,7 @@ module _ (bytes : List ℕ) (k : ℕ) (new : List ℕ) (size : length new ≡ 51
 
   -- the directory lists what it listed, and one row more
   module _ (rows changed : Rows) (parent number : ℕ) (name : List ℕ)
-      (old : IsListing rows parent bytes)
+      (old : ListsRows rows parent bytes)
       (block : IsDirectoryBlock new (entries_of new))
       (adds : entries_of new ≡ entries_of (block_at bytes k) ++ (number, name) ∷ [])
       (entry : IsEntry (number, name))
@@ -179,7 +179,7 @@ module _ (bytes : List ℕ) (k : ℕ) (new : List ℕ) (size : length new ≡ 51
         (cases_Bool (bytes_eq q name))
 
     -- the bytes with the block list the rows with the new one
-    pub IsListing-added : IsListing changed parent (put_over bytes (512 * k) new)
+    pub IsListing-added : ListsRows changed parent (put_over bytes (512 * k) new)
     IsListing-added = record {
       blocks = blocks_after old.blocks block;
       distinct = subst AreEntries (sym is_listed) (AreEntries-inserted (number, name) before after (subst AreEntries was_listed old.distinct) entry absent);

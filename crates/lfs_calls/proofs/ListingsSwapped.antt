@@ -9,7 +9,7 @@ use Rattle.lfs_dirs.specs.Directory.{Entry, AreEntries, number_in, renumbered}
 use Rattle.lfs_dirs.specs.Reading.{entries_of}
 use Rattle.lfs_calls.specs.declared.making.Room.{Room}
 use Rattle.lfs_model.specs.World.{Rows, child}
-use Rattle.lfs_calls.specs.Content.{block_at, entries_below, listed, AreBlocks, IsListing}
+use Rattle.lfs_calls.specs.Content.{block_at, entries_below, listed, AreBlocks, ListsRows}
 use Rattle.lfs_calls.specs.Renames.{IsSwap}
 use Rattle.lfs_calls.proofs.Listings.{entries_from, behind, old_listed, new_listed, blocks_after}
 use Rattle.lfs_calls.proofs.ListingsTaken.{absent_before, absent_after, AreEntries-front}
@@ -41,7 +41,7 @@ module _ (bytes name : List ℕ) (number : ℕ) (room : Room) (k : ℕ) (swap : 
       let long = length-put_over bytes (512 * k) room.block (omega (arith, swap.within)) in
       ap (λ (bs : List ℕ). length bs) swapped_put ∙ long ∙ omega (arith, swap.within, swap.block.size)
 
-  module _ (rows changed : Rows) (parent old : ℕ) (listing : IsListing rows parent bytes) (whole : length bytes % 512 ≡ 0)
+  module _ (rows changed : Rows) (parent old : ℕ) (listing : ListsRows rows parent bytes) (whole : length bytes % 512 ≡ 0)
       (was : child rows parent name ≡ Some old) (above : 0 < number) (fits : number < 2 ^ 32)
       (is : child changed parent name ≡ Some number) (others : (q : List ℕ) → name ≢ q → child changed parent q ≡ child rows parent q) where
     -- what is listed is what was listed, with another number for the name
@@ -56,7 +56,7 @@ module _ (bytes name : List ℕ) (number : ℕ) (room : Room) (k : ℕ) (swap : 
         ∙ ap (renumbered name number) (sym was)
 
     -- the bytes with the block list the rows that hang there after it
-    pub IsListing-swapped : IsListing changed parent (splice bytes room.off room.block)
+    pub IsListing-swapped : ListsRows changed parent (splice bytes room.off room.block)
     IsListing-swapped = record {
       blocks = subst AreBlocks (sym swapped_put) (blocks_after bytes k room.block swap.block.size whole within listing.blocks swap.block);
       distinct = subst AreEntries (sym swapped_listed) (AreEntries-renumbered name number (listed bytes) above fits listing.distinct);

@@ -10,7 +10,7 @@ use Rattle.lfs_dirs.specs.Directory.{Entry, AreEntries, has_name, number_in, wit
 use Rattle.lfs_dirs.specs.Reading.{entries_of}
 use Rattle.lfs_calls.specs.declared.making.Room.{Room}
 use Rattle.lfs_model.specs.World.{Rows, child, IsChild}
-use Rattle.lfs_calls.specs.Content.{block_at, entries_below, listed, AreBlocks, IsListing}
+use Rattle.lfs_calls.specs.Content.{block_at, entries_below, listed, AreBlocks, ListsRows}
 use Rattle.lfs_calls.specs.Removes.{IsTaking}
 use Rattle.lfs_model.proofs.Children.{IsUnique}
 use Rattle.lfs_calls.proofs.Listings.{entries_from, behind, old_listed, new_listed, blocks_after}
@@ -80,7 +80,7 @@ module _ (bytes name : List ℕ) (room : Room) (k : ℕ) (taking : IsTaking byte
       ap (λ (bs : List ℕ). length bs) taken_put ∙ long ∙ omega (arith, taking.within, taking.block.size)
 
 module _ (rows : Rows) (unique : IsUnique rows) (parent n : ℕ) (name : List ℕ) (hangs : IsChild rows parent name n)
-    (bytes : List ℕ) (listing : IsListing rows parent bytes) (whole : length bytes % 512 ≡ 0)
+    (bytes : List ℕ) (listing : ListsRows rows parent bytes) (whole : length bytes % 512 ≡ 0)
     (room : Room) (k : ℕ) (taking : IsTaking bytes name room k) where
   abbrev within : k ≤ length bytes / 512
   within = taken_within bytes name room k taking
@@ -100,7 +100,7 @@ module _ (rows : Rows) (unique : IsUnique rows) (parent n : ℕ) (name : List �
       ∙ ap (without name) (sym was)
 
   -- the bytes with the block list the rows without the one
-  pub IsListing-taken : IsListing (map.remove rows n) parent (splice bytes room.off room.block)
+  pub IsListing-taken : ListsRows (map.remove rows n) parent (splice bytes room.off room.block)
   IsListing-taken = record {
     blocks = subst AreBlocks (sym put) (blocks_after bytes k room.block taking.block.size whole within listing.blocks taking.block);
     distinct = subst AreEntries (sym taken_listed) (AreEntries-without name (listed bytes) listing.distinct);

@@ -17,7 +17,7 @@ use Rattle.lfs_dirs.specs.Reading.{entries_of}
 use Rattle.lfs_calls.specs.declared.making.Room.{Room}
 use Rattle.lfs_calls.specs.declared.renaming.Move.{Move}
 use Rattle.lfs_model.specs.World.{child, IsChild, IsTree}
-use Rattle.lfs_calls.specs.Content.{Shows, IsListing, FitsNowhere, block_at, left_of, listed}
+use Rattle.lfs_calls.specs.Content.{Shows, ListsRows, FitsNowhere, block_at, left_of, listed}
 use Rattle.lfs_calls.specs.Makes.{IsRoom, StandsIn, with_block}
 use Rattle.lfs_calls.specs.Removes.{IsTaking}
 use Rattle.lfs_calls.specs.Renames.{Leaves, block_put, name_left}
@@ -58,7 +58,7 @@ module _ {c : Content} {w : World} (shows : Shows c w) (tree : IsTree w.rows) {m
   pub hung : IsChild w.rows p old n
   hung = child-is w.rows p old n goes.hangs.hangs
 
-  old_listing : IsListing w.rows p old_bytes
+  old_listing : ListsRows w.rows p old_bytes
   old_listing = bytes_listing shows p move.removal.dir.attrs goes.hangs.shown_dir goes.hangs.directory
 
   -- and is listed there
@@ -114,8 +114,8 @@ module _ {c : Content} {w : World} (shows : Shows c w) (tree : IsTree w.rows) {m
     g = some_and (map.get without_old q) (λ g. g.kind ≡ Directory) ready_new
 
     -- its bytes list what hangs there without the row
-    pub seen_listing : IsListing (map.remove w.rows n) q seen
-    seen_listing = subst (IsListing (map.remove w.rows n) q) (ap bytes_of_file (sym g.is))
+    pub seen_listing : ListsRows (map.remove w.rows n) q seen
+    seen_listing = subst (ListsRows (map.remove w.rows n) q) (ap bytes_of_file (sym g.is))
         (taken_listed c w shows tree n p old hung f.file f.stored kind_old taken k at_file q g.value g.is g.holds)
 
     -- in one directory

@@ -12,7 +12,7 @@ use Rattle.lfs_dirs.specs.Directory.{AreEntries, IsEntry}
 use Rattle.lfs_dirs.specs.Reading.{entries_of}
 use Rattle.lfs_calls.specs.declared.making.Room.{Room}
 use Rattle.lfs_model.specs.World.{Rows, child, IsChild, IsTree}
-use Rattle.lfs_calls.specs.Content.{visible, Shows, IsListing}
+use Rattle.lfs_calls.specs.Content.{visible, Shows, ListsRows}
 use Rattle.lfs_calls.specs.Makes.{IsRoom}
 use Rattle.lfs_calls.specs.Removes.{IsTaking}
 use Rattle.lfs_calls.specs.Renames.{block_put}
@@ -30,7 +30,7 @@ AreSized c = (n : ℕ) (f : File) → map.get c n ≡ Some f → IsLength f.kind
 
 -- the bytes of each directory list the rows that hang in it
 abbrev pub AreListed : Content → Rows → Type 0
-AreListed c rows = (n : ℕ) (f : File) → map.get c n ≡ Some f → f.kind ≡ Directory → IsListing rows n f.bytes
+AreListed c rows = (n : ℕ) (f : File) → map.get c n ≡ Some f → f.kind ≡ Directory → ListsRows rows n f.bytes
 
 -- a row that hangs elsewhere has the file that it had, and so has each other
 pub same_files : (w : World) (n : ℕ) (row : Row) → map.get w.rows n ≡ Some row → (parent : ℕ) (name : List ℕ) (m : ℕ)
@@ -79,8 +79,8 @@ module _ (c : Content) (d : ℕ) (f : File) (stored : map.get c d ≡ Some f) (d
 
   -- each directory lists its rows
   pub listed_after : (rows changed : Rows) → AreListed c rows → ((q : ℕ) → q ≢ d → (name : List ℕ) → child changed q name ≡ child rows q name)
-      → IsListing changed d (splice f.bytes room.off room.block) → AreListed (block_put d room c) changed
-  listed_after rows changed listed others here = after_block (λ q g. g.kind ≡ Directory → IsListing changed q g.bytes)
+      → ListsRows changed d (splice f.bytes room.off room.block) → AreListed (block_put d room c) changed
+  listed_after rows changed listed others here = after_block (λ q g. g.kind ≡ Directory → ListsRows changed q g.bytes)
       (λ _. here)
       (λ q g apart e kind.
       let was = listed q g e kind in
@@ -90,7 +90,7 @@ module _ (c : Content) (d : ℕ) (f : File) (stored : map.get c d ≡ Some f) (d
 
 module _ (c : Content) (w : World) (shows : Shows c w) (tree : IsTree w.rows) (n p : ℕ) (old : List ℕ) (hangs : IsChild w.rows p old n)
     (f : File) (stored : map.get c p ≡ Some f) (directory : f.kind ≡ Directory) (taken : Room) (k : ℕ) (taking : IsTaking f.bytes old taken k) where
-  listing : IsListing w.rows p f.bytes
+  listing : ListsRows w.rows p f.bytes
   listing = shows.listings p f stored directory
 
   long : IsLength Directory (length f.bytes)
@@ -144,8 +144,8 @@ module _ (c : Content) (w : World) (shows : Shows c w) (tree : IsTree w.rows) (n
     is_entry : IsEntry (n, name)
     is_entry = (AreEntries-middle (entries_of _) (n, name) [] (subst AreEntries fits.adds fits.block.entries)).0
 
-    listing_after : IsListing rows_moved q (splice g.bytes room.off room.block)
-    listing_after = subst (IsListing rows_moved q) (sym put)
+    listing_after : ListsRows rows_moved q (splice g.bytes room.off room.block)
+    listing_after = subst (ListsRows rows_moved q) (sym put)
         (IsListing-added g.bytes j room.block size long_new.1 fits.within (map.remove w.rows n) rows_moved q n name
         (taken_listed q g stored_new directory_new) fits.block fits.adds is_entry
         (free_still w.rows n row hangs.below tree.unique free)

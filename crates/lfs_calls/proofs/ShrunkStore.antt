@@ -8,7 +8,7 @@ use Rattle.lfs_types.specs.Tree.{File, Row, World, Content}
 use Rattle.lfs_types.specs.declared.attrs.Kind.TheVariants.{Directory}
 use Rattle.lfs_model.specs.World.{Rows, IsChild, IsTree}
 use Rattle.lfs_model.specs.Effects.{without_row}
-use Rattle.lfs_calls.specs.Content.{visible, Shows, IsListing}
+use Rattle.lfs_calls.specs.Content.{visible, Shows, ListsRows}
 use Rattle.lfs_types.proofs.Maps.{get-remove_same, get-remove_other}
 use Rattle.lfs_model.proofs.Shrunk.{child-left_elsewhere}
 use Rattle.lfs_calls.proofs.Visible.{visible-directory}
@@ -19,7 +19,7 @@ module _ (c after : Content) (w : World) (shows : Shows c w) (tree : IsTree w.ro
     (written : map.get after dir ≡ Some (record f { bytes = bytes }))
     (others : (q : ℕ) → q ≢ n → q ≢ dir → map.get after q ≡ map.get c q)
     (size : IsLength Directory (length bytes))
-    (listing : IsListing (map.remove w.rows n) dir bytes) where
+    (listing : ListsRows (map.remove w.rows n) dir bytes) where
   abbrev shrunk : Rows
   shrunk = map.remove w.rows n
 
@@ -52,7 +52,7 @@ module _ (c after : Content) (w : World) (shows : Shows c w) (tree : IsTree w.ro
   Shows-shrunk = record {
     files = files_after;
     sizes = left (λ q g. IsLength g.kind (length g.bytes)) (subst (λ k. IsLength k (length bytes)) (sym directory) size) (λ q g away e. shows.sizes q g e);
-    listings = left (λ q g. g.kind ≡ Directory → IsListing shrunk q g.bytes) (λ _. listing) (λ q g away e kind.
+    listings = left (λ q g. g.kind ≡ Directory → ListsRows shrunk q g.bytes) (λ _. listing) (λ q g away e kind.
         let was = shows.listings q g e kind in
         record {
           blocks = was.blocks;

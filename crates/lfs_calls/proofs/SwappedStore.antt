@@ -10,7 +10,7 @@ use Rattle.lfs_types.specs.Tree.{File, Row, World, Content}
 use Rattle.lfs_types.specs.declared.attrs.Kind.TheVariants.{Directory}
 use Rattle.lfs_calls.specs.declared.making.Room.{Room}
 use Rattle.lfs_model.specs.World.{Rows, IsChild, IsTree}
-use Rattle.lfs_calls.specs.Content.{visible, Shows, IsListing}
+use Rattle.lfs_calls.specs.Content.{visible, Shows, ListsRows}
 use Rattle.lfs_calls.specs.Removes.{IsTaking}
 use Rattle.lfs_calls.specs.Renames.{IsSwap, block_put}
 use Rattle.lfs_calls.proofs.ListingsSwapped.{IsListing-swapped, swapped_length}
@@ -41,7 +41,7 @@ module _ (c : Content) (w : World) (shows : Shows c w) (tree : IsTree w.rows) (n
   long : IsLength Directory (length g.bytes)
   long = subst (λ x. IsLength x (length g.bytes)) directory_new (sized_before q g stored_new)
 
-  listing_after : IsListing rows_after q (splice g.bytes room.off room.block)
+  listing_after : ListsRows rows_after q (splice g.bytes room.off room.block)
   listing_after = IsListing-swapped g.bytes name n room j swap (map.remove w.rows n) rows_after q m
       (listed_before q g stored_new directory_new) long.1
       (child-answer _ (unique-shrunk w.rows n tree.unique) q name (Some m) (hangs_still w.rows n q name m apart there)) above small

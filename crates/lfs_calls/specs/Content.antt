@@ -37,7 +37,7 @@ pub record HasBlocks (c : Content) (n size : ℕ) : Type 0 where
 
 -- A directory's bytes list the rows that hang in it: each block is a directory block, no name stands twice, and
 -- a name's entry has the number of the row that hangs there under that name.
-pub record IsListing (rows : Rows) (parent : ℕ) (bytes : List ℕ) : Type 0 where
+pub record ListsRows (rows : Rows) (parent : ℕ) (bytes : List ℕ) : Type 0 where
   pub blocks : AreBlocks bytes
   pub distinct : AreEntries (listed bytes)
   pub names : (name : List ℕ) → number_in name (listed bytes) ≡ child rows parent name
@@ -56,7 +56,7 @@ visible f = record f { bytes = visible_bytes f.kind f.bytes }
 pub record Shows (c : Content) (w : World) : Type 0 where
   pub files : (n : ℕ) → option_map visible (map.get c n) ≡ option_map (λ (r : Row). r.file) (map.get w.rows n)
   pub sizes : (n : ℕ) (f : File) → map.get c n ≡ Some f → IsLength f.kind (length f.bytes)
-  pub listings : (n : ℕ) (f : File) → map.get c n ≡ Some f → f.kind ≡ Directory → IsListing w.rows n f.bytes
+  pub listings : (n : ℕ) (f : File) → map.get c n ≡ Some f → f.kind ≡ Directory → ListsRows w.rows n f.bytes
 
 -- A number has a directory. But for one number, each directory has the bytes that it had; one that is new has none.
 abbrev pub IsDirectoryAt : Content → ℕ → Type 0

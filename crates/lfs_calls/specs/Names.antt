@@ -26,7 +26,7 @@ abbrev pub AreTrue : NameCache → Content → Type 0
 AreTrue names c = (dir : ℕ) (name : List ℕ) (found : Option ℕ) → says names dir name ≡ Some found → IsFound c dir name found
 
 -- what is known: what caches say of names and of attributes is what a content has, and what hints say of room is so
-pub record AreKnown (names : NameCache) (attributes : AttrCache) (hints : DirHints) (c : Content) : Type 0 where
+pub record IsTrueOf (names : NameCache) (attributes : AttrCache) (hints : DirHints) (c : Content) : Type 0 where
   pub listed : AreTrue names c
   pub shown : AreShown attributes c
   pub full : AreFull hints c

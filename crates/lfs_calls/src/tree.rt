@@ -36,13 +36,13 @@ pub struct Tree<F: FileStore> {
 }
 
 impl<F: FileStore> Model for Tree<F> {
-    ghost use Rattle.lfs_calls.specs.Names.{AreKnown};
+    ghost use Rattle.lfs_calls.specs.Names.{IsTrueOf};
 
     ghost Value = { F };
 
     ghost view = { λ t. t.store };
 
-    ghost invariant = { λ t. AreKnown t.names t.attributes t.hints (F.state t.store).content };
+    ghost invariant = { λ t. IsTrueOf t.names t.attributes t.hints (F.state t.store).content };
 }
 
 impl<F: FileStore + Drop> Tree<F> {

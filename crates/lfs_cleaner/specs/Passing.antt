@@ -23,38 +23,38 @@ abbrev pub Ends : Option CleanerCall → Pass → Type 0
 Ends made after = (made ≡ None) × (after.stage ≡ Over)
 
 -- this call is made, in this stage of a pass with so many further rounds
-abbrev pub Makes : CleanerCall → ℕ → Stage → Option CleanerCall → Pass → Type 0
-Makes next rounds stage made after = (made ≡ Some next) × (after ≡ record { rounds = rounds; stage = stage })
+abbrev pub MakesCall : CleanerCall → ℕ → Stage → Option CleanerCall → Pass → Type 0
+MakesCall next rounds stage made after = (made ≡ Some next) × (after ≡ record { rounds = rounds; stage = stage })
 
 -- a further round begins, if there is one
 abbrev pub Begins : ℕ → Option CleanerCall → Pass → Type 0
 Begins zero made after = Ends made after
-Begins (suc rounds) made after = Makes call.Ifile rounds Reading made after
+Begins (suc rounds) made after = MakesCall call.Ifile rounds Reading made after
 
 -- the infos of the chosen segment are asked for, if one is dirty
 abbrev pub Chooses : ℕ → List ℕ → Option CleanerCall → Pass → Type 0
 Chooses rounds bytes None after = HasNoDirty bytes × (after.stage ≡ Over)
-Chooses rounds bytes made after = (segment : ℕ) × IsChosen bytes segment × Makes (call.Infos segment) rounds (Listing segment) made after
+Chooses rounds bytes made after = (segment : ℕ) × IsChosen bytes segment × MakesCall (call.Infos segment) rounds (Listing segment) made after
 
 -- the next eight infos are to be written again; where none is left, the segment is to become clean
-abbrev pub Moves : ℕ → ℕ → List BlockInfo → Option CleanerCall → Pass → Type 0
-Moves rounds segment [] made after = Makes (call.Segclean segment) rounds Reclaiming made after
-Moves rounds segment infos made after =
-    Makes (call.Markv (take 8 infos)) rounds (Moving segment (drop 8 infos)) made after
+abbrev pub MarksNext : ℕ → ℕ → List BlockInfo → Option CleanerCall → Pass → Type 0
+MarksNext rounds segment [] made after = MakesCall (call.Segclean segment) rounds Reclaiming made after
+MarksNext rounds segment infos made after =
+    MakesCall (call.Markv (take 8 infos)) rounds (Moving segment (drop 8 infos)) made after
 
 -- what is called next in a stage of a pass with so many further rounds, the last call being answered so
-abbrev pub Follows : ℕ → Stage → Option CleanerAnswer → Option CleanerCall → Pass → Type 0
-Follows rounds Ready last made after = Begins rounds made after
-Follows rounds Reading (Some (Ifile bytes)) made after = Chooses rounds bytes made after
-Follows rounds (Listing segment) (Some (Infos infos)) made after = Makes (call.Bmapv infos) rounds (Locating segment infos) made after
-Follows rounds (Locating segment infos) (Some (Bmapv present)) made after = Moves rounds segment (unchanged infos present) made after
-Follows rounds (Moving segment left) (Some (Marked count)) made after = Moves rounds segment left made after
-Follows rounds Reclaiming (Some Cleaned) made after = Begins rounds made after
-Follows rounds stage last made after = Ends made after
+abbrev pub IsNextCall : ℕ → Stage → Option CleanerAnswer → Option CleanerCall → Pass → Type 0
+IsNextCall rounds Ready last made after = Begins rounds made after
+IsNextCall rounds Reading (Some (Ifile bytes)) made after = Chooses rounds bytes made after
+IsNextCall rounds (Listing segment) (Some (Infos infos)) made after = MakesCall (call.Bmapv infos) rounds (Locating segment infos) made after
+IsNextCall rounds (Locating segment infos) (Some (Bmapv present)) made after = MarksNext rounds segment (unchanged infos present) made after
+IsNextCall rounds (Moving segment left) (Some (Marked count)) made after = MarksNext rounds segment left made after
+IsNextCall rounds Reclaiming (Some Cleaned) made after = Begins rounds made after
+IsNextCall rounds stage last made after = Ends made after
 
 -- a pass makes this call next, or none, and stands so then
 abbrev pub Steps : Pass → Option CleanerAnswer → Option CleanerCall → Pass → Type 0
-Steps before last made after = Follows before.rounds before.stage last made after
+Steps before last made after = IsNextCall before.rounds before.stage last made after
 
 -- ---- how many calls
 

@@ -1,7 +1,7 @@
 //! A pass of the cleaner: what it calls, told the answer to its last call.
 
 ghost use Rattle.std.specs.Prelude.{◌≡◌, ◌<◌, ◌≤◌, ◌/◌, ◌+◌, ℕ, List, length, IfSome, IfNone, option_map, Some};
-ghost use Rattle.lfs_cleaner.specs.Passing.{Begins, Chooses, Makes, MayCall, Moves, Steps, calls_left, unchanged};
+ghost use Rattle.lfs_cleaner.specs.Passing.{Begins, Chooses, MakesCall, MayCall, MarksNext, Steps, calls_left, unchanged};
 ghost use Rattle.lfs_types.specs.declared.cleaner.CleanerCall.{CleanerCall};
 
 use crate::choosing::segment_to_clean;
@@ -108,7 +108,7 @@ impl Pass {
     /// Asks for the present addresses of a segment's infos.
     fn locate(&mut self, segment: u32, infos: &[BlockInfo]) -> Option<CleanerCall>
         requires { length infos.now ≤ 248 }
-        ensures { Makes (CleanerCall.Bmapv infos.now) self.old.rounds
+        ensures { MakesCall (CleanerCall.Bmapv infos.now) self.old.rounds
             (Stage.Locating segment infos.now) result self.new }
     {
         self.stage = Stage::Locating(segment, InfoList::new(infos)?);
@@ -118,7 +118,7 @@ impl Pass {
     /// Has the next eight of the infos that are left written again; where none is left, has the segment become clean.
     fn move_next(&mut self, segment: u32, left: &[BlockInfo]) -> Option<CleanerCall>
         requires { length left.now ≤ 248 }
-        ensures { Moves self.old.rounds segment left.now result self.new }
+        ensures { MarksNext self.old.rounds segment left.now result self.new }
     {
         if left.is_empty() {
             self.stage = Stage::Reclaiming;

@@ -13,7 +13,7 @@ use Rattle.lfs_types.specs.Changes.{changed_at}
 use Rattle.lfs_types.specs.declared.store.Change.{Change}
 use Rattle.lfs_types.specs.declared.store.Change.TheVariants.{Make, Remove, SetAttrs, Put, SetLength}
 use Rattle.lfs_flatfiles.specs.declared.flat_files.place.Place.{Place}
-use Rattle.lfs_flatfiles.specs.FlatFiles.{file_at, file_in, room_in, with_file, content_from, content_of, HasRoom, Grows}
+use Rattle.lfs_flatfiles.specs.FlatFiles.{file_at, file_in, room_in, with_file, content_from, content_of, HasRoom, KeepsRoom}
 use Rattle.lfs_types.proofs.Maps.{get-insert_same, get-insert_other, get-remove_same, get-remove_other}
 
 -- ---- the files at places
@@ -149,7 +149,7 @@ pub room_in_read : (ps : List Place) (k : ℕ) (p : Place) → k < length ps →
 room_in_read ps k p h is = room_in-get_or ps k p h ∙ ap (λ (x : Place). vec_capacity x.bytes) (sym is)
 
 -- a place with as much room in its stead
-pub grows_at : (ps : List Place) (k : ℕ) (p q : Place) → k < length ps → p ≡ get_or ps k p → vec_capacity p.bytes ≤ vec_capacity q.bytes → Grows ps (set ps k q)
+pub grows_at : (ps : List Place) (k : ℕ) (p q : Place) → k < length ps → p ≡ get_or ps k p → vec_capacity p.bytes ≤ vec_capacity q.bytes → KeepsRoom ps (set ps k q)
 grows_at ps k p q h is more j =
     elim (cases_eq j k) [
       | inl e ↦ rw e (rw (room_in-set_same ps k q h, room_in_read ps k p h is) more)
@@ -157,7 +157,7 @@ grows_at ps k p q h is more j =
     ]
 
 -- where there was room for a change, there is still
-pub room_kept : (old new : List Place) (change : Change) → Grows old new → HasRoom old change → HasRoom new change
+pub room_kept : (old new : List Place) (change : Change) → KeepsRoom old new → HasRoom old change → HasRoom new change
 room_kept old new (Make ino attrs) grows room = tt
 room_kept old new (Remove ino) grows room = tt
 room_kept old new (SetAttrs ino attrs) grows room = tt
@@ -165,7 +165,7 @@ room_kept old new (Put ino off bytes) grows room = omega (arith, grows ino, room
 room_kept old new (SetLength ino len) grows room = omega (arith, grows ino, room)
 
 -- and for each of some changes
-pub rooms_kept : (old new : List Place) (changes : List Change) → Grows old new → All (HasRoom old) changes → All (HasRoom new) changes
+pub rooms_kept : (old new : List Place) (changes : List Change) → KeepsRoom old new → All (HasRoom old) changes → All (HasRoom new) changes
 rooms_kept old new changes grows rooms k d h = room_kept old new (get_or changes k d) grows (rooms k d h)
 
 bytes_of_used : (attrs : Option Attrs) (bytes : List ℕ) → IsSome (option_map (λ a. file_of a bytes) attrs) → bytes_of_file (option_map (λ a. file_of a bytes) attrs) ≡ bytes

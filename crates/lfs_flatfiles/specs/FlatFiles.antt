@@ -99,5 +99,5 @@ pub record CanHold (numbers : ℕ) (ps : List Place) (ino : ℕ) (count : ℕ) :
   pub room : count ≤ room_in ps ino
 
 -- no place loses room
-abbrev pub Grows : List Place → List Place → Type 0
-Grows old new = (ino : ℕ) → room_in old ino ≤ room_in new ino
+abbrev pub KeepsRoom : List Place → List Place → Type 0
+KeepsRoom old new = (ino : ℕ) → room_in old ino ≤ room_in new ino

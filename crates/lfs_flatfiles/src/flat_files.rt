@@ -6,7 +6,7 @@ ghost use Rattle.std.specs.Vec.{vec_len};
 ghost use Rattle.lfs_types.specs.Changes.{CanChange, CanChangeAll, changed, changed_at, applied};
 ghost use Rattle.lfs_types.specs.Tree.{attrs_of, fresh_root, file_of};
 ghost use Rattle.lfs_types.specs.Ranges.{least_inodes, most_inodes};
-ghost use Rattle.lfs_flatfiles.specs.FlatFiles.{content_of, file_in, room_in, end_of, with_attrs, with_bytes, with_length, opening_state, IsInReach, HasRoom, Grows, CanHold, HasFile};
+ghost use Rattle.lfs_flatfiles.specs.FlatFiles.{content_of, file_in, room_in, end_of, with_attrs, with_bytes, with_length, opening_state, IsInReach, HasRoom, KeepsRoom, CanHold, HasFile};
 
 mod place;
 
@@ -83,7 +83,7 @@ impl FlatFiles {
         requires { IsInReach (vec_len self.old.places) change.now }
         ensures content { content_of self.new.places.items ≡ content_of self.old.places.items }
         ensures numbers { vec_len self.new.places ≡ vec_len self.old.places }
-        ensures grows { Grows self.old.places.items self.new.places.items }
+        ensures grows { KeepsRoom self.old.places.items self.new.places.items }
         ensures room { OnOk result (HasRoom self.new.places.items change.now) }
     {
         match *change {
@@ -98,7 +98,7 @@ impl FlatFiles {
         requires { ino < vec_len self.old.places }
         ensures content { content_of self.new.places.items ≡ content_of self.old.places.items }
         ensures numbers { vec_len self.new.places ≡ vec_len self.old.places }
-        ensures grows { Grows self.old.places.items self.new.places.items }
+        ensures grows { KeepsRoom self.old.places.items self.new.places.items }
         ensures room { OnOk result (len ≤ room_in self.new.places.items ino) }
     {
         self.places[ino].make_room(len)
@@ -126,7 +126,7 @@ impl FlatFiles {
         ensures content { content_of self.new.places.items
             ≡ changed change.now (content_of self.old.places.items) }
         ensures numbers { vec_len self.new.places ≡ vec_len self.old.places }
-        ensures grows { Grows self.old.places.items self.new.places.items }
+        ensures grows { KeepsRoom self.old.places.items self.new.places.items }
     {
         match *change {
             Change::Make { ino, attrs } => self.make(ino as usize, attrs),
@@ -145,7 +145,7 @@ impl FlatFiles {
         ensures content { content_of self.new.places.items
             ≡ map.insert (content_of self.old.places.items) ino (file_of attrs []) }
         ensures numbers { vec_len self.new.places ≡ vec_len self.old.places }
-        ensures grows { Grows self.old.places.items self.new.places.items }
+        ensures grows { KeepsRoom self.old.places.items self.new.places.items }
     {
         self.places[ino].make(attrs);
         if ino == self.least_free {
@@ -159,7 +159,7 @@ impl FlatFiles {
         ensures content { content_of self.new.places.items
             ≡ map.remove (content_of self.old.places.items) ino }
         ensures numbers { vec_len self.new.places ≡ vec_len self.old.places }
-        ensures grows { Grows self.old.places.items self.new.places.items }
+        ensures grows { KeepsRoom self.old.places.items self.new.places.items }
     {
         self.places[ino].remove();
         if ino >= FIRST_FILE {
@@ -174,7 +174,7 @@ impl FlatFiles {
             content_of self.new.places.items
             ≡ changed_at (map.get old ino) ino (with_length len) old }
         ensures numbers { vec_len self.new.places ≡ vec_len self.old.places }
-        ensures grows { Grows self.old.places.items self.new.places.items }
+        ensures grows { KeepsRoom self.old.places.items self.new.places.items }
     {
         self.places[ino].set_length(len);
     }
@@ -186,7 +186,7 @@ impl FlatFiles {
             content_of self.new.places.items
             ≡ changed_at (map.get old ino) ino (with_attrs attrs) old }
         ensures numbers { vec_len self.new.places ≡ vec_len self.old.places }
-        ensures grows { Grows self.old.places.items self.new.places.items }
+        ensures grows { KeepsRoom self.old.places.items self.new.places.items }
     {
         self.places[ino].set_attrs(attrs);
     }
@@ -199,7 +199,7 @@ impl FlatFiles {
             content_of self.new.places.items
             ≡ changed_at (map.get old ino) ino (with_bytes off bytes.now) old }
         ensures numbers { vec_len self.new.places ≡ vec_len self.old.places }
-        ensures grows { Grows self.old.places.items self.new.places.items }
+        ensures grows { KeepsRoom self.old.places.items self.new.places.items }
     {
         self.places[ino].put(off, bytes);
     }

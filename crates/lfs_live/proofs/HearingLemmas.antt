@@ -6,7 +6,7 @@ use Rattle.std.proofs.lemmas.List.{take_all}
 use Rattle.std.specs.List.{starts_with}
 use Rattle.std.proofs.lemmas.Bool.{le-ltb, lt-ltb}
 use Rattle.lfs_script.specs.Plans.{line_said}
-use Rattle.lfs_words.specs.Faults.{Reads}
+use Rattle.lfs_words.specs.Faults.{ReadsAs}
 use Rattle.lfs_words.specs.Lines.{is_printable}
 use Rattle.lfs_words.specs.Wording.{words_of}
 use Rattle.lfs_words.specs.declared.fault.FaultKind.{FaultKind}
@@ -15,15 +15,15 @@ use Rattle.lfs_live.specs.declared.fault.LineFault.TheVariants.{TooLong}
 use Rattle.lfs_live.specs.declared.hearing.Dot.{Dot}
 use Rattle.lfs_live.specs.declared.hearing.Heard.TheVariants.{Fault}
 
-reads-same : (result : Result Dot FaultKind) → Reads result result
+reads-same : (result : Result Dot FaultKind) → ReadsAs result result
 reads-same (Ok dot) = refl
 reads-same (Err kind) = λ other. refl
 
 -- the words of a printable line were read
 pub dot_there : (line text : List ℕ) (words : List (List ℕ)) (result : Result Dot FaultKind) → is_printable line ≡ true → text ≡ line → words ≡ words_of text
-    → result ≡ dot_of words → Reads (dot_said line) result
+    → result ≡ dot_of words → ReadsAs (dot_said line) result
 dot_there line text words result printable same split is =
-    rw printable (subst (λ (r : Result Dot FaultKind). Reads r result) (is ∙ ap dot_of (split ∙ ap words_of same)) (reads-same result))
+    rw printable (subst (λ (r : Result Dot FaultKind). ReadsAs r result) (is ∙ ap dot_of (split ∙ ap words_of same)) (reads-same result))
 
 -- a line is too long
 pub heard_long : (line : List ℕ) → 65536 < length line → Fault TooLong ≡ heard_of line

@@ -11,7 +11,7 @@ use Rattle.lfs_script.specs.declared.plan.Line.TheVariants.{Nothing, Session, Ca
 use Rattle.lfs_words.specs.Lines.{HasNoLineFeed}
 use Rattle.lfs_volume.specs.Cleanings.{Cleaner}
 use Rattle.lfs_volume.specs.Seen.{Seen}
-use Rattle.lfs_audit.specs.Runs.{Tells}
+use Rattle.lfs_audit.specs.Runs.{TellsLine}
 use Rattle.lfs_explain.specs.WhyText.{why_text}
 use Rattle.lfs_live.specs.Hearing.{heard_of}
 use Rattle.lfs_live.specs.Talkers.{Talker}
@@ -32,7 +32,7 @@ Does r old speaker (Session session) told new then =
     (new ≡ old) × (then ≡ record speaker { session = session }) × (told ≡ [])
 Does r old speaker (Caller cred) told new then = (new ≡ old) × (then ≡ record speaker { cred = cred }) × (told ≡ [])
 Does r old speaker (Act act) told new then =
-    Tells r old new speaker.session speaker.cred act [] told × (then ≡ speaker)
+    TellsLine r old new speaker.session speaker.cred act [] told × (then ≡ speaker)
 
 -- a volume was looked at: its store shows what it showed, and all else is as it was
 pub record LooksOn {F : Type 0} (before after : StoreState) (old new : Seen F) : Type 0 where

@@ -2,7 +2,7 @@
 
 ghost use Rattle.std.specs.Prelude.{◌≡◌, map, IfOk};
 ghost use Rattle.lfs_script.specs.Plans.{line_said};
-ghost use Rattle.lfs_words.specs.Faults.{Reads};
+ghost use Rattle.lfs_words.specs.Faults.{ReadsAs};
 ghost use Rattle.lfs_live.specs.Hearing.{call_heard, dot_alone, dot_heard, dot_of, dot_said, dot_with, dot_word, dotted_heard, heard_of, is_dotted, is_long, lone_dot, why_act, why_heard, why_line};
 
 use crate::fault::LineFault;
@@ -177,7 +177,7 @@ fn hear_dot(alloc: Global, line: &[u8]) -> Result<Heard, AllocError>
 
 /// The word of the server's own that a line is.
 fn dot_in(alloc: Global, line: &[u8]) -> Result<Dot, FaultKind>
-    ensures { Reads (dot_said line.now) result }
+    ensures { ReadsAs (dot_said line.now) result }
 {
     let text = text_of(line)?;
     let words = pieces(alloc, text, ' ')?;

@@ -2,7 +2,7 @@
 
 ghost use Rattle.std.specs.Prelude.{◌≡◌, [], Some, IfOk, MatchOption};
 ghost use Rattle.lfs_volume.specs.Cleanings.{cleaner_of};
-ghost use Rattle.lfs_audit.specs.Runs.{Tells};
+ghost use Rattle.lfs_audit.specs.Runs.{TellsLine};
 ghost use Rattle.lfs_explain.specs.WhyText.{why_text};
 ghost use Rattle.lfs_model.specs.Steps.{world_of};
 ghost use Rattle.lfs_live.specs.Hearing.{heard_of};
@@ -109,7 +109,7 @@ fn make<F: CleanedStore + Drop>(
     speaker: &Speaker,
     act: Act,
 ) -> Result<Vec<u8>, AllocError>
-    ensures { IfOk result (λ text. Tells
+    ensures { IfOk result (λ text. TellsLine
         (cleaner_of F.state F.is_settled F.cleaner)
         volume.old volume.new speaker.now.session speaker.now.cred act [] text.items) }
 {

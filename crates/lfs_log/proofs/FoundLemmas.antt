@@ -22,7 +22,7 @@ use Rattle.lfs_bmap.specs.declared.blocks.FileBlock.TheVariants.{Record, Single,
 use Rattle.lfs_bmap.specs.Counting.{seg_of}
 use Rattle.lfs_bmap.specs.Log.{Owner}
 use Rattle.lfs_bmap.specs.Owners.{owner_at, owner_in}
-use Rattle.lfs_log.specs.Infos.{HasInfo, IsNamed, block_infos, entry_infos, info_of, infos_of, slot_info}
+use Rattle.lfs_log.specs.Infos.{HasInfo, IsInfoOf, block_infos, entry_infos, info_of, infos_of, slot_info}
 use Rattle.lfs_log.specs.Names.{named_at, record_in, record_key}
 use Rattle.lfs_log.proofs.NameLemmas.{named_at-entry}
 use Rattle.lfs_log.proofs.PackingLemmas.{get_or-slots}
@@ -242,7 +242,7 @@ block_infos-only address number version (logical.Data index) bytes i h = record 
 }
 
 -- And no others stand there.
-pub infos_of-only : (m : SegmentMemory) (segment : ℕ) (i : BlockInfo) → Contains (infos_of m segment) i → IsNamed m segment i
+pub infos_of-only : (m : SegmentMemory) (segment : ℕ) (i : BlockInfo) → Contains (infos_of m segment) i → IsInfoOf m segment i
 unfolding infos_of entry_infos
 infos_of-only m segment i h =
     let found = contains_from (entry_infos m) (names_from m (first_of segment) (64 - log_start segment)) i h in

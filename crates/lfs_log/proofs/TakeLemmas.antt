@@ -5,10 +5,10 @@ use Rattle.lfs_segments.specs.Log.{first_of}
 use Rattle.lfs_segments.specs.Memory.{next_address}
 use Rattle.lfs_bmap.specs.declared.blocks.TheConstants.{BLOCK_CODES}
 use Rattle.lfs_bmap.specs.Counting.{seg_of, units}
-use Rattle.lfs_bmap.specs.Log.{HasPlace, IsLog, MayTake, owner_of}
+use Rattle.lfs_bmap.specs.Log.{IsPlaced, IsLog, MayTake, owner_of}
 use Rattle.lfs_bmap.proofs.SegmentLemmas.{left_fits, taken_fits}
 use Rattle.lfs_log.specs.Names.{named_at}
-use Rattle.lfs_log.specs.Parts.{IsParts, LogParts, MayMove, live_of, log_state}
+use Rattle.lfs_log.specs.Parts.{IsParts, LogParts, MayMoveLive, live_of, log_state}
 
 -- A place that the log names for a key, in the active segment's log.
 pub MayTake-written : (p : LogParts) (at : ℕ → ℕ → ℕ) (spare number code address slot : ℕ) → IsParts p → first_of p.memory.active ≤ address → address < next_address p.memory → slot < 4
@@ -33,7 +33,7 @@ MayTake-written p at spare number code address slot h from below low number_belo
 -- what the old address of a key has
 module _ (p : LogParts) (at : ℕ → ℕ → ℕ) (spare number code from : ℕ) (log : IsLog (log_state p at) spare) (number_below : number < (log_state p at).numbers) (code_below : code < BLOCK_CODES)
     (was : at number code / 4 ≡ from) where
-  has_place : from ≢ 0 → HasPlace (log_state p at) number code
+  has_place : from ≢ 0 → IsPlaced (log_state p at) number code
   has_place some = record { number_below = number_below; code_below = code_below; somewhere = λ none. some (sym was ∙ ap (λ (n : ℕ). n / 4) none) }
 
   old_inside : from < 64 * p.memory.segments
@@ -48,7 +48,7 @@ module _ (p : LogParts) (at : ℕ → ℕ → ℕ) (spare number code from : ℕ
       subst (λ (s : ℕ). 128 * units code ≤ live_of p.tables s) segment (left_fits (log_state p at) spare number code log (has_place some))
 
   -- a key that loses its place
-  pub MayMove-left : MayMove p code from 0
+  pub MayMove-left : MayMoveLive p code from 0
   MayMove-left = record {
     from_inside = old_inside;
     to_inside = let some = log.segments.inside in omega arith;
@@ -57,7 +57,7 @@ module _ (p : LogParts) (at : ℕ → ℕ → ℕ) (spare number code from : ℕ
   }
 
   -- a key that takes another
-  pub MayMove-taken : (place to : ℕ) → MayTake (log_state p at) spare number code place → place / 4 ≡ to → MayMove p code from to
+  pub MayMove-taken : (place to : ℕ) → MayTake (log_state p at) spare number code place → place / 4 ≡ to → MayMoveLive p code from to
   MayMove-taken place to may is =
       let here = may.here in
       let active : to / 64 ≡ p.memory.active = omega arith in

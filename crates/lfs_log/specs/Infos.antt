@@ -52,7 +52,7 @@ pub record HasInfo (infos : List BlockInfo) (address : ℕ) (o : Owner) : Type 0
   pub there : Contains infos (info_of address o.number o.version (logical_of block))
 
 -- An info is that of the owner whom the log names at a place of a segment.
-pub record IsNamed (m : SegmentMemory) (segment : ℕ) (i : BlockInfo) : Type 0 where
+pub record IsInfoOf (m : SegmentMemory) (segment : ℕ) (i : BlockInfo) : Type 0 where
   pub place : ℕ
   pub owner : Owner
   pub block : FileBlock

@@ -32,7 +32,7 @@ pub record SameButLive (old new : Tables) : Type 0 where
 
 -- The live bytes of a block with this code may move from one address to another, 0 being none: both lie in the volume,
 -- the segment of the old one has those bytes, and that of the new one has room for them.
-pub record MayMove (p : LogParts) (code from to : ℕ) : Type 0 where
+pub record MayMoveLive (p : LogParts) (code from to : ℕ) : Type 0 where
   pub from_inside : from < SEGMENT_BLOCKS * p.memory.segments
   pub to_inside : to < SEGMENT_BLOCKS * p.memory.segments
   pub had : from ≢ 0 → 128 * units code ≤ live_of p.tables (from / SEGMENT_BLOCKS)

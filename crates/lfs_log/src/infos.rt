@@ -6,7 +6,7 @@ ghost use Rattle.lfs_types.specs.declared.cleaner.TheConstants.{INFO_LIMIT};
 ghost use Rattle.lfs_segments.specs.Memory.{IsLaidOut};
 ghost use Rattle.std.specs.List.{Contains, filter_map};
 ghost use Rattle.lfs_inodes.specs.Slots.{slot_of, slots};
-ghost use Rattle.lfs_log.specs.Infos.{HasInfo, IsNamed, block_infos, info_of, infos_of, slot_info};
+ghost use Rattle.lfs_log.specs.Infos.{HasInfo, IsInfoOf, block_infos, info_of, infos_of, slot_info};
 ghost use Rattle.lfs_log.specs.Names.{named_at};
 ghost use Rattle.lfs_bmap.specs.Counting.{seg_of};
 ghost use Rattle.lfs_bmap.specs.Log.{Owner};
@@ -32,7 +32,7 @@ impl Log {
             → named_at self.now.memory place ≡ Some owner → HasInfo result (place / 4) owner }
         // And nothing else does.
         ensures only { (info : BlockInfo) → Contains result info
-            → IsNamed self.now.memory segment info }
+            → IsInfoOf self.now.memory segment info }
         ensures fits { length (infos_of self.now.memory segment) ≤ INFO_LIMIT }
         ensures kept { IsParts self.now }
     {

@@ -11,7 +11,7 @@ ghost use Rattle.lfs_bmap.specs.declared.blocks.TheConstants.{BLOCK_CODES};
 ghost use Rattle.lfs_bmap.specs.Blocks.{IsFileBlock, code_of};
 ghost use Rattle.lfs_bmap.specs.Counting.{place_of, placed, units, weight_of};
 ghost use Rattle.lfs_bmap.specs.Log.{Assigns, Cleans, Renews};
-ghost use Rattle.lfs_log.specs.Parts.{IsParts, MayMove, SameButLive, live_of, log_state, record_place, state_of};
+ghost use Rattle.lfs_log.specs.Parts.{IsParts, MayMoveLive, SameButLive, live_of, log_state, record_place, state_of};
 
 use crate::log::Log;
 use lfs_bmap::blocks::FileBlock;
@@ -80,7 +80,7 @@ impl Log {
     /// Moves the live bytes of a block that had one address and has another now; 0 is none. The
     /// segment of the new one gains them, and that of the old one loses them.
     pub fn move_live(&mut self, block: FileBlock, from: u32, to: u32)
-        requires { MayMove self.old (code_of block) from to }
+        requires { MayMoveLive self.old (code_of block) from to }
         ensures live { (s : ℕ)
             → live_of self.new.tables s + weight_of (place_of from) s (code_of block)
             ≡ live_of self.old.tables s + weight_of (place_of to) s (code_of block) }
@@ -105,7 +105,7 @@ impl Log {
         requires in_range { number < length self.old.tables.rows }
         requires used { (row_of self.old.tables number).used ≡ true }
         requires slot { slot < 4 }
-        requires moves { MayMove self.old 0 (row_of self.old.tables number).address address }
+        requires moves { MayMoveLive self.old 0 (row_of self.old.tables number).address address }
         ensures row { row_of self.new.tables number
             ≡ placed_row address slot (row_of self.old.tables number) }
         ensures rows { (other : ℕ) → other ≢ number

@@ -6,7 +6,7 @@ use Rattle.lfs_ifile.specs.Layout.{ifile_bytes}
 use Rattle.lfs_ifile.proofs.LayoutLemmas.{length-ifile_bytes}
 use Rattle.lfs_bmap.specs.declared.blocks.TheConstants.{BLOCK_CODES}
 use Rattle.lfs_bmap.specs.Counting.{seg_of}
-use Rattle.lfs_bmap.specs.Log.{LogState, HasPlace, Owner}
+use Rattle.lfs_bmap.specs.Log.{LogState, IsPlaced, Owner}
 use Rattle.lfs_bmap.specs.Moves.{present_address}
 use Rattle.lfs_bmap.proofs.MoveLemmas.{present_address-key, present_address-other}
 use Rattle.lfs_log.specs.Infos.{HasInfo, infos_of}
@@ -20,7 +20,7 @@ use Rattle.lfs_logstore.specs.Cleaning.{IsAccounted, address_of}
 
 -- A key with a present address: it has a place, at the version that its number has.
 pub record IsKey (l : LogState) (number version code : ℕ) : Type 0 where
-  pub there : HasPlace l number code
+  pub there : IsPlaced l number code
   pub version_is : l.version number ≡ version
   pub address_is : present_address l number version code ≡ l.at number code / 4
 

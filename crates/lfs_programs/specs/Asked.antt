@@ -29,8 +29,8 @@ pub record IsAskedFault (options : Options) (known : Option (List ℕ)) (fault :
   pub together : options.threads ≡ true → IsThreadsFault known options.params.segments options.params.inodes options.params.frames fault
 
 -- a writer got the text of a run of a script of these bytes, where they are known
-abbrev pub IsWritten : Options → Option (List ℕ) → Option (List ℕ) → Option (List ℕ) → Type 0
-IsWritten options known start out = IfSome known (λ script. (text : List ℕ) × IsAskedText options script text × Appends start out text)
+abbrev pub HasGotText : Options → Option (List ℕ) → Option (List ℕ) → Option (List ℕ) → Type 0
+HasGotText options known start out = IfSome known (λ script. (text : List ℕ) × IsAskedText options script text × Appends start out text)
 
 -- a run ended in a fault, which has its cause, and up to some faults nothing was written
 pub record HasFailed (options : Options) (known start out : Option (List ℕ)) : Type 0 where
@@ -42,7 +42,7 @@ pub record HasFailed (options : Options) (known start out : Option (List ℕ)) :
 -- nothing is told; else 1, and the run ended in a fault.
 pub record EndsRun {D : Type 0} (options : Options) (known start out : Option (List ℕ)) (status : ℕ) (err_before err_after : D) : Type 0 where
   pub either : status ≤ 1
-  pub done : status ≡ 0 → IsWritten options known start out × (err_after ≡ err_before)
+  pub done : status ≡ 0 → HasGotText options known start out × (err_after ≡ err_before)
   pub failed : status ≢ 0 → HasFailed options known start out
 
 -- `lfsd` ends with this status by what it was asked for: options whose numbers are in their ranges, as a run of that

@@ -6,7 +6,7 @@ ghost use Rattle.clap.specs.Values.{kind_of};
 ghost use Rattle.lfs_options.specs.Ranges.{IsInRange};
 ghost use Rattle.lfs_audit.specs.Scripts.{IsLogOutput};
 ghost use Rattle.lfs_audit.specs.Threads.{MayHaveWrittenThreads};
-ghost use Rattle.lfs_programs.specs.Asked.{EndsRun, IsAloneFault, IsAskedFault, IsServerEnd, IsWritten};
+ghost use Rattle.lfs_programs.specs.Asked.{EndsRun, IsAloneFault, IsAskedFault, IsServerEnd, HasGotText};
 ghost use Rattle.lfs_programs.specs.Ends.{EndsUnasked};
 
 use crate::refusing::refuse;
@@ -95,7 +95,7 @@ where
     S: Threads + Wait + Sync,
     R: Read,
     W: Write,
-    ensures written { OnOk result (IsWritten options
+    ensures written { OnOk result (HasGotText options
         (R.remaining stdin.old) (W.contents stdout.old) (W.contents stdout.new)) }
     ensures fault { IfErr result (IsAskedFault options (R.remaining stdin.old)) }
     ensures unwritten { IfErr result (λ fault. (MayHaveWrittenThreads fault → ⊥)

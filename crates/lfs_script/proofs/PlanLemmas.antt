@@ -12,7 +12,7 @@ use Rattle.lfs_script.specs.PlanTypes.{AreWithin, Drafted, Planned}
 use Rattle.lfs_script.specs.Plans.{added, at_line, line_said, lines_of, plan_from, planned, text_said, verb_said, words_said}
 use Rattle.lfs_script.specs.Verbs.{verb_of}
 use Rattle.lfs_script.specs.declared.verb.Verb.{Verb}
-use Rattle.lfs_words.specs.Faults.{Reads}
+use Rattle.lfs_words.specs.Faults.{ReadsAs}
 use Rattle.lfs_words.specs.Wording.{is_bare}
 use Rattle.lfs_words.specs.declared.fault.FaultKind.{FaultKind}
 use Rattle.lfs_words.specs.declared.fault.FaultKind.TheVariants.{Cut, Words}
@@ -126,7 +126,7 @@ plan_least n draft texts = least_of (plan_from n draft texts) n (λ fault e. lea
 
 -- words of which the first is a verb
 pub verb_first : {A : Type 0} (f : A → List ℕ) (words : List A) (d : A) (verb : Verb) (result : Result Line FaultKind) → 1 ≤ length words → verb_of (f (get_or words 0 d)) ≡ Some verb
-    → Reads (verb_said verb (map f (take (length words - 1) (drop 1 words)))) result → Reads (words_said (map f words)) result
+    → ReadsAs (verb_said verb (map f (take (length words - 1) (drop 1 words)))) result → ReadsAs (words_said (map f words)) result
 verb_first f [] d verb result least is reads = absurd (omega arith)
 verb_first f (a ∷ words) d verb result least is reads =
     let whole : take (length (a ∷ words) - 1) words ≡ words = take_all (length (a ∷ words) - 1) words (omega arith) in rw is (rw whole at reads)
@@ -142,6 +142,6 @@ no_words f [] most = refl
 no_words f (a ∷ words) most = absurd (omega arith)
 
 -- a printable line says what its text says
-pub said_there : (line text : List ℕ) (result : Result Line FaultKind) → is_printable line ≡ true → text ≡ line → Reads (text_said text) result → Reads (line_said line) result
+pub said_there : (line text : List ℕ) (result : Result Line FaultKind) → is_printable line ≡ true → text ≡ line → ReadsAs (text_said text) result → ReadsAs (line_said line) result
 unfolding line_said
-said_there line text result printable same reads = rw printable (subst (λ t. Reads (text_said t) result) same reads)
+said_there line text result printable same reads = rw printable (subst (λ t. ReadsAs (text_said t) result) same reads)

@@ -2,7 +2,7 @@
 
 ghost use Rattle.std.specs.Prelude.{◌≡◌, map};
 ghost use Rattle.lfs_script.specs.CleanerCalls.{cleaner_said, segment_of};
-ghost use Rattle.lfs_words.specs.Faults.{Reads};
+ghost use Rattle.lfs_words.specs.Faults.{ReadsAs};
 
 use crate::plan::HeldCall;
 use lfs_model::journal::CleanerKind;
@@ -15,7 +15,7 @@ use std::alloc::Global;
 
 /// The call of this kind that the words behind its name ask for, in memory of its own.
 pub fn held_call(alloc: Global, kind: CleanerKind, words: &[&str]) -> Result<HeldCall, FaultKind>
-    ensures { Reads (cleaner_said kind (map (λ x. x.now) words.now)) result }
+    ensures { ReadsAs (cleaner_said kind (map (λ x. x.now) words.now)) result }
 {
     let call = cleaner_call(alloc, kind, words)?;
     Ok(HeldCall::new(alloc, call)?)
@@ -23,7 +23,7 @@ pub fn held_call(alloc: Global, kind: CleanerKind, words: &[&str]) -> Result<Hel
 
 /// The call of this kind that the words behind its name ask for.
 fn cleaner_call(alloc: Global, kind: CleanerKind, words: &[&str]) -> Result<CleanerCall, FaultKind>
-    ensures { Reads (cleaner_said kind (map (λ x. x.now) words.now)) result }
+    ensures { ReadsAs (cleaner_said kind (map (λ x. x.now) words.now)) result }
 {
     match kind {
         CleanerKind::Ifile => {

@@ -2,7 +2,7 @@
 
 ghost use Rattle.std.specs.Prelude.{◌≡◌, Ok, Err, map, MatchResult};
 ghost use Rattle.std.specs.Option.{option_copied};
-ghost use Rattle.lfs_words.specs.Faults.{Reads};
+ghost use Rattle.lfs_words.specs.Faults.{ReadsAs};
 ghost use Rattle.lfs_script.specs.Requests.{lone_path, path_and_mode, place_of, request_said, write_words};
 ghost use Rattle.lfs_script.specs.declared.verb.RequestKind.TheVariants as kind;
 
@@ -19,7 +19,7 @@ use std::alloc::Global;
 
 /// The call of this kind that the words behind its name ask for.
 pub fn request(alloc: Global, kind: RequestKind, words: &[&str]) -> Result<Request, FaultKind>
-    ensures { Reads (request_said kind (map (λ x. x.now) words.now)) result }
+    ensures { ReadsAs (request_said kind (map (λ x. x.now) words.now)) result }
 {
     match kind {
         RequestKind::Stat => Ok(Request::Stat {
@@ -59,7 +59,7 @@ pub fn request(alloc: Global, kind: RequestKind, words: &[&str]) -> Result<Reque
 
 /// A `read` of a path, an offset and a length.
 fn read(alloc: Global, words: &[&str]) -> Result<Request, FaultKind>
-    ensures { Reads (request_said kind.Read (map (λ x. x.now) words.now)) result }
+    ensures { ReadsAs (request_said kind.Read (map (λ x. x.now) words.now)) result }
 {
     let (path, off, len) = three_words(words)?;
     let path = path_of(alloc, path)?;
@@ -70,7 +70,7 @@ fn read(alloc: Global, words: &[&str]) -> Result<Request, FaultKind>
 
 /// A `write` of a path, a place and bytes.
 fn write(alloc: Global, words: &[&str]) -> Result<Request, FaultKind>
-    ensures { Reads (request_said kind.Write (map (λ x. x.now) words.now)) result }
+    ensures { ReadsAs (request_said kind.Write (map (λ x. x.now) words.now)) result }
 {
     let (path, off, bytes) = write_words(words)?;
     let path = path_of(alloc, path)?;
@@ -116,7 +116,7 @@ fn place_of(off: Option<&str>) -> Result<Place, FaultKind>
 
 /// A `length` of a path and a number of bytes.
 fn set_length(alloc: Global, words: &[&str]) -> Result<Request, FaultKind>
-    ensures { Reads (request_said kind.SetLength (map (λ x. x.now) words.now)) result }
+    ensures { ReadsAs (request_said kind.SetLength (map (λ x. x.now) words.now)) result }
 {
     let (path, len) = two_words(words)?;
     let path = path_of(alloc, path)?;
@@ -126,7 +126,7 @@ fn set_length(alloc: Global, words: &[&str]) -> Result<Request, FaultKind>
 
 /// A `mkdir` of a path and a mode.
 fn mkdir(alloc: Global, words: &[&str]) -> Result<Request, FaultKind>
-    ensures { Reads (request_said kind.Mkdir (map (λ x. x.now) words.now)) result }
+    ensures { ReadsAs (request_said kind.Mkdir (map (λ x. x.now) words.now)) result }
 {
     let (path, mode) = path_and_mode(alloc, words)?;
     Ok(Request::Mkdir { path, mode })
@@ -134,7 +134,7 @@ fn mkdir(alloc: Global, words: &[&str]) -> Result<Request, FaultKind>
 
 /// A `rename` of a path to another.
 fn rename(alloc: Global, words: &[&str]) -> Result<Request, FaultKind>
-    ensures { Reads (request_said kind.Rename (map (λ x. x.now) words.now)) result }
+    ensures { ReadsAs (request_said kind.Rename (map (λ x. x.now) words.now)) result }
 {
     let (from, to) = two_words(words)?;
     let from = path_of(alloc, from)?;
@@ -144,7 +144,7 @@ fn rename(alloc: Global, words: &[&str]) -> Result<Request, FaultKind>
 
 /// A `chown` of a path, a user and a group.
 fn chown(alloc: Global, words: &[&str]) -> Result<Request, FaultKind>
-    ensures { Reads (request_said kind.Chown (map (λ x. x.now) words.now)) result }
+    ensures { ReadsAs (request_said kind.Chown (map (λ x. x.now) words.now)) result }
 {
     let (path, uid, gid) = three_words(words)?;
     let path = path_of(alloc, path)?;
@@ -155,7 +155,7 @@ fn chown(alloc: Global, words: &[&str]) -> Result<Request, FaultKind>
 
 /// A `chflags` of a path and flags.
 fn chflags(alloc: Global, words: &[&str]) -> Result<Request, FaultKind>
-    ensures { Reads (request_said kind.Chflags (map (λ x. x.now) words.now)) result }
+    ensures { ReadsAs (request_said kind.Chflags (map (λ x. x.now) words.now)) result }
 {
     let (path, bits) = two_words(words)?;
     let path = path_of(alloc, path)?;
@@ -165,7 +165,7 @@ fn chflags(alloc: Global, words: &[&str]) -> Result<Request, FaultKind>
 
 /// A `level` of a securelevel.
 fn set_level(words: &[&str]) -> Result<Request, FaultKind>
-    ensures { Reads (request_said kind.SetLevel (map (λ x. x.now) words.now)) result }
+    ensures { ReadsAs (request_said kind.SetLevel (map (λ x. x.now) words.now)) result }
 {
     let level = level(one_word(words)?)?;
     Ok(Request::SetLevel { level })
@@ -173,7 +173,7 @@ fn set_level(words: &[&str]) -> Result<Request, FaultKind>
 
 /// The path and the mode that two words spell.
 fn path_and_mode(alloc: Global, words: &[&str]) -> Result<(Path, Mode), FaultKind>
-    ensures { Reads (path_and_mode (map (λ x. x.now) words.now)) result }
+    ensures { ReadsAs (path_and_mode (map (λ x. x.now) words.now)) result }
 {
     let (path, bits) = two_words(words)?;
     let path = path_of(alloc, path)?;
@@ -183,7 +183,7 @@ fn path_and_mode(alloc: Global, words: &[&str]) -> Result<(Path, Mode), FaultKin
 
 /// The path that a lone word spells.
 fn lone_path(alloc: Global, words: &[&str]) -> Result<Path, FaultKind>
-    ensures { Reads (lone_path (map (λ x. x.now) words.now)) result }
+    ensures { ReadsAs (lone_path (map (λ x. x.now) words.now)) result }
 {
     path_of(alloc, one_word(words)?)
 }

@@ -1,7 +1,7 @@
 //! Lines of a script.
 
 ghost use Rattle.std.specs.Prelude.{◌≡◌, ◌≢◌, ◌^◌, ◌<◌, ◌+◌, ◌∷◌, ℕ, List, length, true, Err, map, IfOk, MatchResult};
-ghost use Rattle.lfs_words.specs.Faults.{Reads};
+ghost use Rattle.lfs_words.specs.Faults.{ReadsAs};
 ghost use Rattle.lfs_words.specs.Lines.{is_printable};
 ghost use Rattle.lfs_script.specs.Parsing.{BeginsReadable, ParsesScript};
 ghost use Rattle.lfs_script.specs.Plans.{line_said, lines_of, plan_from, text_said, verb_said, words_said};
@@ -62,7 +62,7 @@ fn take_line<'a>(alloc: Global, text: &'a [u8], draft: &mut Draft) -> Result<&'a
 /// What a line says, which is given without its line feed.
 #[tactic(auto, unfolding(crate::specs::Plans::line_said))]
 pub fn parse_line(alloc: Global, line: &[u8]) -> Result<Line, FaultKind>
-    ensures said { Reads (line_said line.now) result }
+    ensures said { ReadsAs (line_said line.now) result }
     ensures printable { MatchResult result
         (λ _. is_printable line.now ≡ true)
         (λ kind. kind ≡ Memory → is_printable line.now ≡ true) }
@@ -73,7 +73,7 @@ pub fn parse_line(alloc: Global, line: &[u8]) -> Result<Line, FaultKind>
 
 /// What the text of a line says.
 fn parse_text(alloc: Global, text: &str) -> Result<Line, FaultKind>
-    ensures { Reads (text_said text.now) result }
+    ensures { ReadsAs (text_said text.now) result }
 {
     if is_skipped(text) {
         return Ok(Line::Nothing);
@@ -87,7 +87,7 @@ fn parse_text(alloc: Global, text: &str) -> Result<Line, FaultKind>
 
 /// What words say, of which the first is to be a verb.
 fn parse_words(alloc: Global, words: &[&str]) -> Result<Line, FaultKind>
-    ensures { Reads (words_said (map (λ x. x.now) words.now)) result }
+    ensures { ReadsAs (words_said (map (λ x. x.now) words.now)) result }
 {
     let [first, rest @ ..] = words else {
         return Err(FaultKind::Words);
@@ -100,7 +100,7 @@ fn parse_words(alloc: Global, words: &[&str]) -> Result<Line, FaultKind>
 
 /// What the words behind a verb say.
 fn parse_verb(alloc: Global, verb: Verb, words: &[&str]) -> Result<Line, FaultKind>
-    ensures { Reads (verb_said verb (map (λ x. x.now) words.now)) result }
+    ensures { ReadsAs (verb_said verb (map (λ x. x.now) words.now)) result }
 {
     match verb {
         Verb::Session => Ok(Line::Session(session(one_word(words)?)?)),

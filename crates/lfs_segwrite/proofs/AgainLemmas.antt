@@ -9,7 +9,7 @@ use Rattle.lfs_cache.specs.Contents.{IsLocked}
 use Rattle.lfs_bmap.specs.declared.blocks.FileBlock.{FileBlock}
 use Rattle.lfs_bmap.specs.declared.blocks.FileBlock.TheVariants.{Record}
 use Rattle.lfs_bmap.specs.Blocks.{IsFileBlock, code_of, first_under, way_to}
-use Rattle.lfs_bmap.specs.Log.{HasPlace}
+use Rattle.lfs_bmap.specs.Log.{IsPlaced}
 use Rattle.lfs_bmap.specs.Reading.{address}
 use Rattle.lfs_bmap.specs.Ways.{way_of}
 use Rattle.lfs_bmap.proofs.PlaceLemmas.{data_block-same}
@@ -98,7 +98,7 @@ block_again old new v block is other h = record {
 }
 
 -- ---- a block that has a place
-module _ (p : Parts) (number code : ℕ) (staged : IsStaged p 0) (there : HasPlace (log_state p) number code) where
+module _ (p : Parts) (number code : ℕ) (staged : IsStaged p 0) (there : IsPlaced (log_state p) number code) where
   -- its number is in use
   pub place_used : (row_of p.log.tables number).used ≡ true
   place_used = elim (cases_Bool (row_of p.log.tables number).used) [

@@ -12,7 +12,7 @@ use Rattle.lfs_cache.specs.Contents.{IsLocked, block_in}
 use Rattle.lfs_segments.specs.Memory.{SegmentMemory, block_at, next_address, room_of}
 use Rattle.lfs_log.specs.Parts.{state_of}
 use Rattle.lfs_bmap.specs.Counting.{seg_of}
-use Rattle.lfs_bmap.specs.Log.{HasPlace}
+use Rattle.lfs_bmap.specs.Log.{IsPlaced}
 use Rattle.lfs_bmap.specs.Moves.{DirtyIn, Moves, StaysDirty}
 use Rattle.lfs_bmap.proofs.LogLemmas.{dirty_not_active}
 use Rattle.lfs_bmap.proofs.MoveLemmas.{StaysDirty-trans, moves-same, moves-trans}
@@ -101,7 +101,7 @@ module _ (changes : List Change) (reserve : ℕ) (old a b new : Parts) (kept : K
       dirty_not_active (sym (until_dirty.dirty active low dirty) ∙ stages.staged.log.segments.is_active)
 
   -- ---- the keys
-  moved_active : (n c : ℕ) → HasPlace (log_state new) n c → Waits b n c → seg_of ((log_state new).at n c) ≡ active
+  moved_active : (n c : ℕ) → IsPlaced (log_state new) n c → Waits b n c → seg_of ((log_state new).at n c) ≡ active
   moved_active n c there waits =
       let m = flushes.moved n c (subst (λ k. n < k) flushes.numbers there.number_below) there.code_below waits in
       let same = flushes.active in

@@ -6,7 +6,7 @@ use Rattle.lfs_ifile.specs.Tables.{row_of}
 use Rattle.lfs_log.specs.Parts.{LogParts, record_place}
 use Rattle.lfs_bmap.specs.Log.{SameKeys}
 use Rattle.lfs_bmap.specs.Reading.{address}
-use Rattle.lfs_bmap.specs.Ways.{IsKnown, way_of}
+use Rattle.lfs_bmap.specs.Ways.{HasWay, way_of}
 use Rattle.lfs_bmap.proofs.MoveLemmas.{moves-refl, moves-same, moves-trans}
 use Rattle.lfs_bmap.proofs.WayLemmas.{way_of-known}
 use Rattle.lfs_staging.specs.declared.parts.Parts.{Parts}
@@ -19,7 +19,7 @@ use Rattle.lfs_staging.specs.View.{tree_of}
 use Rattle.lfs_staging.proofs.KeyLemmas.{place-block, place-record}
 
 -- the log and the addresses are the same
-pub same_keys : (old new : Parts) → new.log ≡ old.log → ((n : ℕ) (way : List ℕ) → IsKnown way → address (tree_of new n) way ≡ address (tree_of old n) way)
+pub same_keys : (old new : Parts) → new.log ≡ old.log → ((n : ℕ) (way : List ℕ) → HasWay way → address (tree_of new n) way ≡ address (tree_of old n) way)
     → SameKeys (log_state old) (log_state new)
 same_keys old new log addresses = record {
   numbers = ap (λ (l : LogParts). length l.tables.rows) log;
@@ -34,7 +34,7 @@ same_keys old new log addresses = record {
   versions = λ n low. ap (λ (l : LogParts). (row_of l.tables n).version) log;
 }
 
-pub stays_same : (old new : Parts) → new.log ≡ old.log → ((n : ℕ) (way : List ℕ) → IsKnown way → address (tree_of new n) way ≡ address (tree_of old n) way)
+pub stays_same : (old new : Parts) → new.log ≡ old.log → ((n : ℕ) (way : List ℕ) → HasWay way → address (tree_of new n) way ≡ address (tree_of old n) way)
     → StaysInLog old new
 stays_same old new log addresses = record {
   memory = ap (λ (l : LogParts). l.memory) log;

@@ -19,7 +19,7 @@ use Rattle.lfs_bmap.specs.declared.blocks.TheConstants.{BLOCK_CODES}
 use Rattle.lfs_bmap.specs.declared.blocks.FileBlock.{FileBlock}
 use Rattle.lfs_bmap.specs.Blocks.{IsFileBlock, code_of, logical_of, way_to}
 use Rattle.lfs_bmap.specs.Log.{IsLog}
-use Rattle.lfs_bmap.specs.Ways.{IsKnown, code_at, way_of}
+use Rattle.lfs_bmap.specs.Ways.{HasWay, code_at, way_of}
 use Rattle.lfs_bmap.proofs.CountingLemmas.{placed-cases}
 use Rattle.lfs_bmap.proofs.WayLemmas.{known_way_of, up_known, way_of-code_of, way_of-known}
 use Rattle.lfs_staging.specs.declared.parts.Parts.{Parts}
@@ -27,7 +27,7 @@ use Rattle.lfs_staging.specs.Files.{content_of}
 use Rattle.lfs_segwrite.specs.Flushing.{Waits}
 use Rattle.lfs_staging.specs.Keys.{log_state}
 use Rattle.lfs_staging.specs.Addressing.{IsWaiting, StaysWaiting, numbers_of}
-use Rattle.lfs_segwrite.specs.Landing.{entry_of, LandsBlock, MayLand, TakesPlace}
+use Rattle.lfs_segwrite.specs.Landing.{entry_of, LandsBlock, MayLand, GetsPlace}
 use Rattle.lfs_segwrite.specs.Recording.{Advances, entry_at_version}
 use Rattle.lfs_staging.specs.Staging.{IsStaged}
 use Rattle.lfs_staging.specs.Store.{AreFiles, HolderWaits, IsPresent, IsWithin}
@@ -120,7 +120,7 @@ pub record LandsKey (p q : Parts) (v : Inode) (block : FileBlock) (a : ℕ) : Ty
   pub free : (key : Key) → IsLocked key p.cache → key.ino ≡ v.number → (i : ℕ) → way_of key.lbn ≡ i ∷ way_to block → ⊥
   pub room : 1 ≤ room_of p.log.memory
   pub landed : LandsBlock p q v block a
-  pub place : TakesPlace p q v.number (code_of block) a (4 * a)
+  pub place : GetsPlace p q v.number (code_of block) a (4 * a)
   pub log : IsLog (log_state q) 0
   pub stays : StaysWaiting p q v
   pub files : AreFiles q
@@ -151,7 +151,7 @@ module _ (p q : Parts) (v : Inode) (block : FileBlock) (a : ℕ) (h : LandsKey p
       elim (same_cases (key_of v.number v.version (code_of block)) holder) [
         | inl same ↦
             let e = same_is (key_of v.number v.version (code_of block)) holder same in
-            let known = subst IsKnown way (way_of-known key.lbn (coded_below key.lbn (h.staged.whole.coded key before))) in
+            let known = subst HasWay way (way_of-known key.lbn (coded_below key.lbn (h.staged.whole.coded key before))) in
             let to : way_to block ≡ j ∷ above = sym (way_of-code_of block h.can) ∙ ap way_of (ap (λ (k : Key). k.lbn) e) ∙ known_way_of (j ∷ above) (up_known i (j ∷ above) known) in
             absurd (h.free key before (sym (ap (λ (k : Key). k.ino) e)) i (way ∙ ap (λ w. i ∷ w) (sym to)))
         | inr apart ↦ h.frames holder apart (h.staged.parents.holders key before i (j ∷ above) way)

@@ -11,7 +11,7 @@ use Rattle.lfs_segments.specs.Memory.{SegmentMemory, block_at, next_address, roo
 use Rattle.lfs_log.specs.Parts.{LogParts, state_of}
 use Rattle.lfs_bmap.specs.declared.blocks.TheConstants.{BLOCK_CODES}
 use Rattle.lfs_bmap.specs.Counting.{seg_of}
-use Rattle.lfs_bmap.specs.Log.{HasPlace}
+use Rattle.lfs_bmap.specs.Log.{IsPlaced}
 use Rattle.lfs_bmap.specs.Moves.{DirtyIn, Moves}
 use Rattle.lfs_bmap.proofs.MoveLemmas.{StaysDirty-refl, StaysDirty-trans, moves-trans}
 use Rattle.lfs_ifile.specs.declared.segment.SegState.{SegState}
@@ -111,10 +111,10 @@ module _ (old mid staged new : Parts) (marks named : List BlockInfo) (keeps : Ke
         let still : state_of mid.log.tables active ≡ Dirty = keeps.dirty.dirty active inside was in
         dirty_not_active (sym (ap (λ (l : LogParts). state_of l.tables active) log ∙ still) ∙ stages.staged.log.segments.is_active)
 
-    pub elsewhere : HasPlace (log_state old) n c → (log_state new).at n c ≢ (log_state old).at n c
+    pub elsewhere : IsPlaced (log_state old) n c → (log_state new).at n c ≢ (log_state old).at n c
     elsewhere there same =
         let at : (log_state new).at n c ≡ (log_state staged).at n c = same ∙ sym (place_staged n c low below) in
-        let had : HasPlace (log_state staged) n c = record {
+        let had : IsPlaced (log_state staged) n c = record {
           number_below = subst (λ m. n < m) (sym numbers) low;
           code_below = below;
           somewhere = λ none. there.somewhere (sym (place_staged n c low below) ∙ none);
@@ -241,7 +241,7 @@ pub marks_after : (marks : List BlockInfo) (count : ℕ) (old mid new : Parts) �
 marks_after marks count old mid new first before store w m last =
     let still : (s : ℕ) → s < old.log.memory.segments → DirtyIn (log_state old) s → DirtyIn (log_state mid) s = w.log.dirty.dirty in
     let all : new.log.memory.segments ≡ old.log.memory.segments = m.segments ∙ w.log.segments in
-    let inside : (n c : ℕ) → HasPlace (log_state new) n c → seg_of ((log_state new).at n c) < old.log.memory.segments
+    let inside : (n c : ℕ) → IsPlaced (log_state new) n c → seg_of ((log_state new).at n c) < old.log.memory.segments
     = λ n c there. let place = (store.log.keys n c there).in_volume in omega arith in
     record {
       between = mid;

@@ -15,7 +15,7 @@ use Rattle.lfs_bmap.specs.Blocks.{IsFileBlock, code_of, file_block_of, logical_o
 use Rattle.lfs_bmap.specs.Ways.{codes_on, way_of}
 use Rattle.lfs_bmap.proofs.TableLemmas.{codes_on-long, way_length}
 use Rattle.lfs_bmap.proofs.WayLemmas.{way_of-code_of, way_of-known}
-use Rattle.lfs_bmap.specs.Log.{HasPlace, LogState, SameKeys}
+use Rattle.lfs_bmap.specs.Log.{IsPlaced, LogState, SameKeys}
 use Rattle.lfs_bmap.specs.Moves.{present_address}
 use Rattle.lfs_bmap.proofs.BlockLemmas.{code_of-below, file_block_of-is, logical_of-file_block, same_block}
 use Rattle.lfs_bmap.proofs.MoveLemmas.{present_address-key, present_address-other, present_address-same}
@@ -142,7 +142,7 @@ named_address l info result known unknown = elim (named_cases info.lbn) [
 ]
 
 -- it is there: the number has the version, and the block a place
-pub named_there : (l : LogState) (info : BlockInfo) → IsNamed l info → HasPlace l info.ino (code_named info.lbn) × (l.version info.ino ≡ info.version)
+pub named_there : (l : LogState) (info : BlockInfo) → IsNamed l info → IsPlaced l info.ino (code_named info.lbn) × (l.version info.ino ≡ info.version)
 named_there l info h =
     let code = code_named info.lbn in
     let not_none : present_address l info.ino info.version code ≡ 0 → ⊥ = λ e. h.somewhere (sym h.present ∙ e) in

@@ -18,10 +18,10 @@ use Rattle.lfs_segments.proofs.WritingLemmas.{block_at-opened_apart, block_at-op
 use Rattle.lfs_log.specs.Parts.{IsParts, LogParts, opened_parts, record_place, state_of}
 use Rattle.lfs_log.specs.Parts as log
 use Rattle.lfs_bmap.specs.declared.blocks.TheConstants.{BLOCK_CODES}
-use Rattle.lfs_bmap.specs.Log.{HasPlace, Opens, SameKeys}
+use Rattle.lfs_bmap.specs.Log.{IsPlaced, Opens, SameKeys}
 use Rattle.lfs_bmap.specs.Pieces.{IsPadded, file_bytes}
 use Rattle.lfs_bmap.specs.Reading.{SameReadings, address, data_block}
-use Rattle.lfs_bmap.specs.Ways.{IsKnown, code_at, way_of}
+use Rattle.lfs_bmap.specs.Ways.{HasWay, code_at, way_of}
 use Rattle.lfs_bmap.proofs.MoveLemmas.{StaysDirty-opened, StaysDirty-refl}
 use Rattle.lfs_bmap.proofs.PlaceLemmas.{data_block-same}
 use Rattle.lfs_bmap.proofs.ReadingLemmas.{SameReadings-refl, address-root, kept_blocks}
@@ -85,7 +85,7 @@ module _ (p : Parts) (s : ℕ) (store : IsStore p) (inside : s < p.log.memory.se
   ]
 
   -- no key lies in the segment
-  away : (n c : ℕ) → HasPlace (log_state p) n c → (a : ℕ) → (log_state p).at n c / 256 ≡ a / 64 → a / 64 ≢ s
+  away : (n c : ℕ) → IsPlaced (log_state p) n c → (a : ℕ) → (log_state p).at n c / 256 ≡ a / 64 → a / 64 ≢ s
   away n c there a same here = (store.log.keys n c there).not_clean (ap (state_of p.log.tables) (same ∙ here) ∙ was_clean)
 
   label_kept : block_at (opened p.log.memory s) 0 ≡ block_at p.log.memory 0
@@ -109,7 +109,7 @@ module _ (p : Parts) (s : ℕ) (store : IsStore p) (inside : s < p.log.memory.se
             let low = in_range n used in
             let slot = (store.whole.parts.formed.each_row n fresh_row low).slot in
             let at : (log_state p).at n 0 ≡ 4 * row.address + row.slot = place-record p n ∙ placed_at p.log.tables n some in
-            let there : HasPlace (log_state p) n 0 = record { number_below = low; code_below = omega arith; somewhere = λ e. some (omega arith) } in
+            let there : IsPlaced (log_state p) n 0 = record { number_below = low; code_below = omega arith; somewhere = λ e. some (omega arith) } in
             apart_kept row.address (away n 0 there row.address (omega arith))
       ]
 
@@ -129,7 +129,7 @@ module _ (p : Parts) (s : ℕ) (store : IsStore p) (inside : s < p.log.memory.se
   ]
 
   -- a block with an address lies in a segment that is in use
-  block_away : (n : ℕ) (way : List ℕ) → IsKnown way → address (tree_of p n) way ≢ 0 → address (tree_of p n) way / 64 ≢ s
+  block_away : (n : ℕ) (way : List ℕ) → HasWay way → address (tree_of p n) way ≢ 0 → address (tree_of p n) way / 64 ≢ s
   block_away n way known some =
       elim (cases_lt n (length p.log.tables.rows)) [
         | inr past ↦
@@ -142,7 +142,7 @@ module _ (p : Parts) (s : ℕ) (store : IsStore p) (inside : s < p.log.memory.se
             let is : way_of code ≡ way = known_way_of way known in
             let other : code ≢ 0 = λ e. some (ap (address (tree_of p n)) (sym is ∙ ap way_of e ∙ way_of-zero) ∙ address-root (tree_of p n)) in
             let at : (log_state p).at n code ≡ 4 * address (tree_of p n) way = place-block p n code other ∙ ap (λ w. 4 * address (tree_of p n) w) is in
-            let there : HasPlace (log_state p) n code = record { number_below = low; code_below = known.coded; somewhere = λ e. some (omega arith) } in
+            let there : IsPlaced (log_state p) n code = record { number_below = low; code_below = known.coded; somewhere = λ e. some (omega arith) } in
             away n code there (address (tree_of p n) way) (omega arith)
       ]
 

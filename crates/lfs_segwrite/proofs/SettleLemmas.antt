@@ -12,7 +12,7 @@ use Rattle.lfs_inodes.specs.declared.inode.Inode.{Inode}
 use Rattle.lfs_cache.specs.Contents.{Contents, IsLocked, block_in}
 use Rattle.lfs_segments.specs.Log.{first_of}
 use Rattle.lfs_segments.specs.Memory.{SegmentMemory, block_at, next_address}
-use Rattle.lfs_log.specs.Parts.{IsParts, MayMove, record_place}
+use Rattle.lfs_log.specs.Parts.{IsParts, MayMoveLive, record_place}
 use Rattle.lfs_log.specs.Parts as log
 use Rattle.lfs_log.proofs.TakeLemmas.{MayMove-taken, MayTake-written}
 use Rattle.lfs_bmap.specs.declared.blocks.TheConstants.{BLOCK_CODES}
@@ -99,7 +99,7 @@ module _ (p : Parts) (v : Inode) (front : List Inode) (address slot spare : ℕ)
       MayTake-written p.log (log_state p).at (spare + 128) v.number 0 address slot staged.whole.parts stands.from stands.below stands.in_block last_low (omega arith)
       (stands.named ∙ ap (λ n. Some (record { number = v.number; version = n; code = 0 })) last_present.at_version) (omega arith)
 
-  pub last_move : MayMove p.log 0 (row_of p.log.tables v.number).address address
+  pub last_move : MayMoveLive p.log 0 (row_of p.log.tables v.number).address address
   last_move =
       let slots = (staged.whole.parts.formed.each_row v.number fresh_row last_low).slot in
       MayMove-taken p.log (log_state p).at (spare + 128) v.number 0 (row_of p.log.tables v.number).address staged.log last_low (omega arith)

@@ -70,7 +70,7 @@ pub record LandsBlock (old new : Parts) (v : Inode) (block : FileBlock) (a : ℕ
 
 -- A key took a place in the block at an address that the log just got, at its end: every other key kept the place that it
 -- had. Live bytes apart, nothing else of the log changed.
-pub record TakesPlace (old new : Parts) (number code a place : ℕ) : Type 0 where
+pub record GetsPlace (old new : Parts) (number code a place : ℕ) : Type 0 where
   pub end : a ≡ next_address old.log.memory
   pub next : next_address new.log.memory ≡ next_address old.log.memory + 1
   pub segments : new.log.memory.segments ≡ old.log.memory.segments

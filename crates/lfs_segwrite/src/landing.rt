@@ -14,7 +14,7 @@ ghost use Rattle.lfs_staging.specs.Keys.{log_state};
 ghost use Rattle.lfs_bmap.specs.Blocks.{code_of};
 ghost use Rattle.lfs_staging.specs.Files.{content_of};
 ghost use Rattle.lfs_staging.specs.Addressing.{StaysWaiting};
-ghost use Rattle.lfs_segwrite.specs.Landing.{ExpectsBlock, ExpectsSome, LandsBlock, MayLand, AppendsBlock, TakesPlace, entry_of};
+ghost use Rattle.lfs_segwrite.specs.Landing.{ExpectsBlock, ExpectsSome, LandsBlock, MayLand, AppendsBlock, GetsPlace, entry_of};
 ghost use Rattle.lfs_staging.specs.Store.{AreFiles};
 ghost use Rattle.lfs_staging.specs.View.{key_of};
 
@@ -53,7 +53,7 @@ pub fn land_block(parts: &mut Parts, inode: &Inode, block: FileBlock) -> u32
     requires expected { ExpectsBlock parts.old.log.memory (entry_of inode.now block) }
     ensures address { result ≡ next_address parts.old.log.memory }
     ensures landed { LandsBlock parts.old parts.new inode.now block result }
-    ensures place { TakesPlace parts.old parts.new inode.now.number (code_of block) result (4 * result) }
+    ensures place { GetsPlace parts.old parts.new inode.now.number (code_of block) result (4 * result) }
     ensures log { IsLog (log_state parts.new) 0 }
     ensures expects { (rest : List SummaryEntry)
         → Expects parts.old.log.memory (entry_of inode.now block ∷ rest)

@@ -6,7 +6,7 @@ use Rattle.lfs_types.specs.Caller.{Caller}
 use Rattle.lfs_types.specs.declared.answer.Answer.{Answer}
 use Rattle.lfs_types.specs.declared.request.Request.{Request}
 use Rattle.lfs_model.specs.declared.journal.Entry.{Entry}
-use Rattle.lfs_settle.specs.Interleaving.{Agrees, AgreesAt, IsBegun, IsSettled}
+use Rattle.lfs_settle.specs.Interleaving.{Agrees, AgreesAt, IsBegun, MadeItsCalls}
 
 -- ---- the setup
 
@@ -62,7 +62,7 @@ lone_transcript full entries scripts asked transcripts (answers ∷ more) d none
 
 -- a session's two lists decide whether it agrees
 pub session_agrees : (full : Bool) (entries : List Entry) (scripts asked more_asked : List (List (Caller × Request))) (transcripts answered more_answered : List (List Answer)) (script : List (Caller × Request)) (answers : List Answer) (d : ℕ) → asked ≡ script ∷ more_asked → answered ≡ answers ∷ more_answered
-    → ((i : ℕ) → slice_get asked i ≡ slice_get scripts (d + i)) → ((i : ℕ) → slice_get answered i ≡ slice_get transcripts (d + i)) → IsSettled full entries (d + 1) script answers ↔ AgreesAt full entries scripts transcripts (d + 1)
+    → ((i : ℕ) → slice_get asked i ≡ slice_get scripts (d + i)) → ((i : ℕ) → slice_get answered i ≡ slice_get transcripts (d + i)) → MadeItsCalls full entries (d + 1) script answers ↔ AgreesAt full entries scripts transcripts (d + 1)
 session_agrees full entries scripts asked more_asked transcripts answered more_answered script answers d is has s t =
     agrees_at full entries scripts transcripts d (d + 1) (Some script) (Some answers) refl (left_head asked scripts more_asked script d is s) (left_head answered transcripts more_answered answers d has t)
 

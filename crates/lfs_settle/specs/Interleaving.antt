@@ -73,8 +73,8 @@ abbrev pub entries_of : ℕ → List Entry → List Entry
 entries_of session entries = filter (λ (entry : Entry). entry.session == session) entries
 
 -- the session's entries are those of its calls
-abbrev pub IsSettled : Bool → List Entry → ℕ → List (Caller × Request) → List Answer → Type 0
-IsSettled is_full entries session script answers =
+abbrev pub MadeItsCalls : Bool → List Entry → ℕ → List (Caller × Request) → List Answer → Type 0
+MadeItsCalls is_full entries session script answers =
     AreAnswered is_full script answers × (entries_of session entries ≡ entries_kept session script answers)
 
 -- the session's two lists meet its entries, or there is neither
@@ -82,7 +82,7 @@ abbrev pub Agrees : Bool → List Entry → ℕ → Option (List (Caller × Requ
 Agrees is_full entries session None None = Unit {0}
 Agrees is_full entries session None (Some answers) = ⊥
 Agrees is_full entries session (Some script) None = ⊥
-Agrees is_full entries session (Some script) (Some answers) = IsSettled is_full entries session script answers
+Agrees is_full entries session (Some script) (Some answers) = MadeItsCalls is_full entries session script answers
 
 -- the same of the lists in a session's place, session 1's being the first
 abbrev pub AgreesAt : Bool → List Entry → List (List (Caller × Request)) → List (List Answer) → ℕ → Type 0
@@ -103,15 +103,15 @@ IsCleaners (User request answer) = ⊥
 IsCleaners (Cleaner kind outcome) = Unit {0}
 
 -- the entry is of one of so many sessions, or of the cleaner: session 255, as user 0
-abbrev pub IsKnown : ℕ → Entry → Type 0
-IsKnown sessions entry =
+abbrev pub IsOfRun : ℕ → Entry → Type 0
+IsOfRun sessions entry =
     ((1 ≤ entry.session) × (entry.session ≤ sessions))
     ⊎ ((entry.session ≡ 255) × (entry.cred.uid ≡ 0) × IsCleaners entry.event)
 
 -- no entry is a stranger's
-abbrev pub AreKnown : ℕ → List Entry → Type 0
-AreKnown sessions [] = Unit {0}
-AreKnown sessions (entry ∷ entries) = IsKnown sessions entry × AreKnown sessions entries
+abbrev pub HasNoStrangers : ℕ → List Entry → Type 0
+HasNoStrangers sessions [] = Unit {0}
+HasNoStrangers sessions (entry ∷ entries) = IsOfRun sessions entry × HasNoStrangers sessions entries
 
 -- ---- the run
 
@@ -133,7 +133,7 @@ HasSession run session = AgreesAt (is_full run) (later_entries run) run.scripts 
 
 -- no later entry is a stranger's
 abbrev pub HasNoStranger : Run → Type 0
-HasNoStranger run = AreKnown (length run.scripts) (later_entries run)
+HasNoStranger run = HasNoStrangers (length run.scripts) (later_entries run)
 
 -- the journal is an interleaving of the setup and the scripts, with these answers
 pub record IsInterleaving (run : Run) : Type 0 where

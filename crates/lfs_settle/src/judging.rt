@@ -1,7 +1,7 @@
 //! The setup, the sessions and the strangers of a journal, each judged alone.
 
 ghost use Rattle.std.specs.Prelude.{◌≡◌, ◌↔◌, ◌≤◌, ℕ, IsTrue, MatchOption, length, map};
-ghost use Rattle.lfs_settle.specs.Interleaving.{AgreesAt, AreKnown, IsBegun, IsKnown, IsLowest, IsSettled};
+ghost use Rattle.lfs_settle.specs.Interleaving.{AgreesAt, HasNoStrangers, IsBegun, IsOfRun, IsLowest, MadeItsCalls};
 
 use crate::entries::CLEANER;
 use crate::stepping::{after_call, after_setup_call, next_of};
@@ -45,7 +45,7 @@ fn is_settled(
     script: &[(Cred, Request)],
     answers: &[Answer],
 ) -> bool
-    ensures { IsTrue result ↔ IsSettled is_full entries.now session script.now answers.now }
+    ensures { IsTrue result ↔ MadeItsCalls is_full entries.now session script.now answers.now }
 {
     let mut rest = entries;
     let mut calls = script;
@@ -109,7 +109,7 @@ pub fn differing_session(
 
 /// Whether an entry is of one of so many sessions, or of the cleaner.
 fn is_known(sessions: usize, entry: &Entry) -> bool
-    ensures { IsTrue result ↔ IsKnown sessions entry.now }
+    ensures { IsTrue result ↔ IsOfRun sessions entry.now }
 {
     if entry.session >= 1 && usize::from(entry.session) <= sessions {
         return true;
@@ -125,7 +125,7 @@ fn is_known(sessions: usize, entry: &Entry) -> bool
 
 /// Whether no entry is a stranger's.
 pub fn are_known(sessions: usize, entries: &[Entry]) -> bool
-    ensures { IsTrue result ↔ AreKnown sessions entries.now }
+    ensures { IsTrue result ↔ HasNoStrangers sessions entries.now }
 {
     let mut rest = entries;
     while let Some((entry, behind)) = rest.split_first() {

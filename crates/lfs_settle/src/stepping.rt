@@ -2,7 +2,7 @@
 
 ghost use Rattle.std.specs.Prelude.{◌≡◌, ◌↔◌, ◌∷◌, [], IsTrue, MatchOption};
 ghost use Rattle.lfs_model.specs.Memory.{IsCopying};
-ghost use Rattle.lfs_settle.specs.Interleaving.{IsBegun, IsSettled, MayAnswer, entries_of};
+ghost use Rattle.lfs_settle.specs.Interleaving.{IsBegun, MadeItsCalls, MayAnswer, entries_of};
 ghost use Rattle.lfs_settle.specs.Entering.{makes_entry};
 
 use lfs_model::journal::Entry;
@@ -91,10 +91,10 @@ pub fn after_call<'a>(
 ) -> Option<&'a [Entry]>
     ensures { MatchOption result
         ((script : _) → (answers : _)
-        → IsSettled is_full entries.now session (call.now ∷ script) (answer.now ∷ answers) → ⊥)
+        → MadeItsCalls is_full entries.now session (call.now ∷ script) (answer.now ∷ answers) → ⊥)
         (λ rest. (script : _) → (answers : _)
-        → IsSettled is_full entries.now session (call.now ∷ script) (answer.now ∷ answers)
-        ↔ IsSettled is_full rest.now session script answers) }
+        → MadeItsCalls is_full entries.now session (call.now ∷ script) (answer.now ∷ answers)
+        ↔ MadeItsCalls is_full rest.now session script answers) }
 {
     let (cred, request) = call;
     if !may_answer(is_full, request, answer) {

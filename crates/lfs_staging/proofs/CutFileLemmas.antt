@@ -16,7 +16,7 @@ use Rattle.lfs_cache.specs.declared.cache.TheConstants.{LOCKED_LIMIT}
 use Rattle.lfs_log.specs.Parts.{LogParts}
 use Rattle.lfs_bmap.specs.declared.blocks.FileBlock.TheVariants.{Data, Record}
 use Rattle.lfs_bmap.specs.Blocks.{code_of, way_to}
-use Rattle.lfs_bmap.specs.Pieces.{IsCut, IsPadded}
+use Rattle.lfs_bmap.specs.Pieces.{IsBlockCut, IsPadded}
 use Rattle.lfs_bmap.specs.Reading.{data_block}
 use Rattle.lfs_bmap.specs.Ways.{codes_on, data_way}
 use Rattle.lfs_bmap.proofs.HolderLemmas.{codes_on-most, codes_on-record, table_of-code}
@@ -112,14 +112,14 @@ module _ (a b c : Parts) (v : Inode) (len left blocks : ℕ) (may : MayStage a v
     ]
 
     -- each block of the file is cut
-    cut_all : (m : ℕ) → IsCut m len (data_block (tree_of a v.number) m) (data_block (tree_of d v.number) m)
+    cut_all : (m : ℕ) → IsBlockCut m len (data_block (tree_of a v.number) m) (data_block (tree_of d v.number) m)
     cut_all m =
         elim (cases_lt m left) [
           | inl low ↦
-              subst (λ x. IsCut m len x (data_block (tree_of d v.number) m)) (first_same v.number m)
-              (subst (IsCut m len (data_block (tree_of b v.number) m)) (sym (drops.data_same v.number m (inr low))) (last.cut m (omega arith)))
+              subst (λ x. IsBlockCut m len x (data_block (tree_of d v.number) m)) (first_same v.number m)
+              (subst (IsBlockCut m len (data_block (tree_of b v.number) m)) (sym (drops.data_same v.number m (inr low))) (last.cut m (omega arith)))
           | inr from ↦
-              subst (IsCut m len (data_block (tree_of a v.number) m)) (sym (zeros m from))
+              subst (IsBlockCut m len (data_block (tree_of a v.number) m)) (sym (zeros m from))
               (past_cut m len (data_block (tree_of a v.number) m) zero_block zero_block-length (λ k low. zero_block-at k) (omega arith))
         ]
 
@@ -166,7 +166,7 @@ module _ (a b c : Parts) (v : Inode) (len left blocks : ℕ) (may : MayStage a v
           let at = drops.rest.attributes f (records v.number ∙ is) in
           short.here _ at.there;
       others = λ n other. short.others n other ∙ drops.rest.others n other ∙ records n;
-      cut = λ m. subst (λ t. IsCut m len (data_block (tree_of a v.number) m) (data_block t m)) (sym (short.blocks v.number)) (cut_all m);
+      cut = λ m. subst (λ t. IsBlockCut m len (data_block (tree_of a v.number) m) (data_block t m)) (sym (short.blocks v.number)) (cut_all m);
       data_same = λ n m other.
           ap (λ t. data_block t m) (short.blocks n) ∙ drops.data_same n m (inl other) ∙ last.others n m (inl other) ∙ first_same n m;
       frames = let same : length e.cache.locked ≡ length d.cache.locked = ap (λ (s : Contents). length s.locked) short.cache in let most = frames in omega arith;

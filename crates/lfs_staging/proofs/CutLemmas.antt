@@ -11,7 +11,7 @@ use Rattle.lfs_inodes.specs.Reading.{fields_of}
 use Rattle.lfs_bmap.specs.declared.blocks.FileBlock.{FileBlock}
 use Rattle.lfs_bmap.specs.declared.blocks.FileBlock.TheVariants.{Data}
 use Rattle.lfs_bmap.specs.Blocks.{code_of, way_to}
-use Rattle.lfs_bmap.specs.Pieces.{IsCut}
+use Rattle.lfs_bmap.specs.Pieces.{IsBlockCut}
 use Rattle.lfs_bmap.specs.Reading.{data_block}
 use Rattle.lfs_bmap.specs.Ways.{codes_on}
 use Rattle.lfs_bmap.proofs.HolderLemmas.{code_cases, codes_on-block}
@@ -81,24 +81,24 @@ length_codes-cut len t holds behind c has =
 
 -- ---- a block is cut
 -- a block that is zero past a length is zero past a greater size
-pub cut_zeros : (index len size : ℕ) (before after : List ℕ) → IsCut index len before after → len ≤ size → IsZeroPast size index after
+pub cut_zeros : (index len size : ℕ) (before after : List ℕ) → IsBlockCut index len before after → len ≤ size → IsZeroPast size index after
 cut_zeros index len size before after cut less k low past = cut.each k low ∙ cond-false _ _ _ (le-ltb (512 * index + k) len (omega arith))
 
 pub cut_one : (old new : Parts) (v : Inode) (index len : ℕ) (before after : List ℕ) → IsStaged new 0 → StagesData v.number index after old new
-    → before ≡ data_block (tree_of old v.number) index → IsCut index len before after → CutsBlock v.number index len old new
+    → before ≡ data_block (tree_of old v.number) index → IsBlockCut index len before after → CutsBlock v.number index len old new
 cut_one old new v index len before after staged h is cut = record {
   staged = staged;
   log = h.log;
   records = h.records;
   addresses = h.addresses;
-  cut = subst (λ b. IsCut index len b (data_block (tree_of new v.number) index)) is (subst (IsCut index len before) (sym h.here) cut);
+  cut = subst (λ b. IsBlockCut index len b (data_block (tree_of new v.number) index)) is (subst (IsBlockCut index len before) (sym h.here) cut);
   others = h.others;
   takes = h.takes;
 }
 
 -- ---- the last block of a length
 -- the blocks below the last one are whole
-whole_cut : (p : Parts) (v : Inode) (m len : ℕ) → MayStage p v → 512 * m + 512 ≤ len → IsCut m len (data_block (tree_of p v.number) m) (data_block (tree_of p v.number) m)
+whole_cut : (p : Parts) (v : Inode) (m len : ℕ) → MayStage p v → 512 * m + 512 ≤ len → IsBlockCut m len (data_block (tree_of p v.number) m) (data_block (tree_of p v.number) m)
 whole_cut p v m len may below =
     below_cut m len (data_block (tree_of p v.number) m) ((may.files.files v.number (fields_of v) may.here).padded.whole m) below
 
@@ -125,9 +125,9 @@ last_cut old new v len may some low h =
       records = h.records;
       addresses = h.addresses;
       cut = λ m below. elim (cases_eq m (len / 512)) [
-        | inl is ↦ subst (λ k. IsCut k len (data_block (tree_of old v.number) k) (data_block (tree_of new v.number) k)) (sym is) h.cut
+        | inl is ↦ subst (λ k. IsBlockCut k len (data_block (tree_of old v.number) k) (data_block (tree_of new v.number) k)) (sym is) h.cut
         | inr other ↦
-            subst (IsCut m len (data_block (tree_of old v.number) m)) (sym (h.others v.number m (inr other))) (whole_cut old v m len may (omega arith))
+            subst (IsBlockCut m len (data_block (tree_of old v.number) m)) (sym (h.others v.number m (inr other))) (whole_cut old v m len may (omega arith))
       ];
       others = λ n m apart. h.others n m (elim apart [ inl other ↦ inl other | inr past ↦ inr (λ e. omega arith) ]);
       takes = subst (λ cs. TakesOnly v.number (version_of old v.number) cs old.cache new.cache)

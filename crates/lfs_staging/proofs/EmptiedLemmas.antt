@@ -11,14 +11,14 @@ use Rattle.lfs_inodes.specs.Reading.{fields_of}
 use Rattle.lfs_cache.specs.declared.key.Key.{Key}
 use Rattle.lfs_cache.specs.Changes.{IsContents}
 use Rattle.lfs_cache.specs.Contents.{Contents, IsLocked, block_in, or_else}
-use Rattle.lfs_log.specs.Parts.{LogParts, MayMove}
+use Rattle.lfs_log.specs.Parts.{LogParts, MayMoveLive}
 use Rattle.lfs_cache.specs.Keys.{same_key}
 use Rattle.lfs_cache.proofs.Entries.{same_cases, same_is}
 use Rattle.lfs_bmap.specs.declared.blocks.FileBlock.{FileBlock}
 use Rattle.lfs_bmap.specs.declared.blocks.FileBlock.TheVariants.{Data}
 use Rattle.lfs_bmap.specs.Blocks.{IsFileBlock, code_of, first_under, table_of, way_to}
 use Rattle.lfs_bmap.specs.Reading.{address, read, table}
-use Rattle.lfs_bmap.specs.Ways.{IsKnown, code_at, way_of}
+use Rattle.lfs_bmap.specs.Ways.{HasWay, code_at, way_of}
 use Rattle.lfs_bmap.proofs.HolderLemmas.{data_table}
 use Rattle.lfs_bmap.proofs.ReadingLemmas.{address-cell, read-waits}
 use Rattle.lfs_bmap.proofs.WayLemmas.{data_way-double, data_way-single, known_way_of, up_known, way_of-code_of}
@@ -141,7 +141,7 @@ module _ (p s : Parts) (v : Inode) (t : FileBlock) (b : List ℕ) (i : ℕ) (up 
   k = table_key v t
 
   up_apart : code_at up ≢ code_of t
-  up_apart e = longer i up (sym (known_way_of up (up_known i up (subst IsKnown way (block_known t can)))) ∙ ap way_of e ∙ way_of-code_of t can ∙ way)
+  up_apart e = longer i up (sym (known_way_of up (up_known i up (subst HasWay way (block_known t can)))) ∙ ap way_of e ∙ way_of-code_of t can ∙ way)
 
   here_after : IsLocked k s.cache
   here_after = subst IsSome (sym (set.waits k (apart_code v.number v.number v.version v.version (code_at up) (code_of t) (λ e. up_apart (sym e))))) here
@@ -260,7 +260,7 @@ module _ (a b : Parts) (v : Inode) (t : FileBlock) (held : List ℕ) (index end 
         ∙ e.rest j (omega arith) ∙ sym read
 
     -- the live bytes of the next one may go
-    pub next_loses : (a0 : ℕ) → a0 ≡ slice_index (cells held) j → MayMove b.log (131 + index) a0 0
+    pub next_loses : (a0 : ℕ) → a0 ≡ slice_index (cells held) j → MayMoveLive b.log (131 + index) a0 0
     next_loses a0 read = may_lose shown v.number (Data index) a0 may_next.staged may_next.in_use may_next.can may_next.other (next_place a0 read)
 
     pub emptied_more : (q : Parts) (a0 : ℕ) → a0 ≡ slice_index (cells held) j → Gives b q v (131 + index) a0 → Emptied v t held (index + 1) a q
@@ -305,10 +305,10 @@ module _ (a b : Parts) (v : Inode) (t : FileBlock) (held : List ℕ) (end : ℕ)
 
   -- its live bytes may go, where its address was set
   pub table_loses : (s : Parts) (from : ℕ) → from ≡ address (tree_of a v.number) (way_to t) → ((i : ℕ) (up : List ℕ) → way_to t ≡ i ∷ up → Sets b s v i up 0)
-      → MayMove s.log (code_of t) from 0
+      → MayMoveLive s.log (code_of t) from 0
   table_loses s from reads set =
       let w = way_some t may.can may.other in
-      subst (λ (l : LogParts). MayMove l (code_of t) from 0) (sym (set w.0 w.1 w.2).log)
+      subst (λ (l : LogParts). MayMoveLive l (code_of t) from 0) (sym (set w.0 w.1 w.2).log)
       (may_lose (parts_with v t e.left b) v.number t from may_last.staged may_last.in_use may.can may.other (e.place ∙ sym reads))
 
   holder_still : (i : ℕ) (up : List ℕ) → way_to t ≡ i ∷ up → up ≢ [] → IsLocked (key_of v.number v.version (code_at up)) b.cache

@@ -7,7 +7,7 @@ use Rattle.lfs_cache.specs.Keys.{same_key}
 use Rattle.lfs_cache.specs.Changes.{IsContents, KeepsOthers}
 use Rattle.lfs_cache.specs.Contents.{block_in, block_of}
 use Rattle.lfs_cache.proofs.CallerLemmas.{none_both}
-use Rattle.lfs_log.specs.Parts.{IsParts, LogParts, MayMove, SameButLive}
+use Rattle.lfs_log.specs.Parts.{IsParts, LogParts, MayMoveLive, SameButLive}
 use Rattle.lfs_log.specs.Parts as log
 use Rattle.lfs_ifile.specs.Tables.{row_of}
 use Rattle.lfs_bmap.specs.declared.blocks.FileBlock.{FileBlock}
@@ -109,7 +109,7 @@ given_back p s q v block i up from is may way set stays there g =
 
 -- the live bytes of a block may go
 pub may_lose : (p : Parts) (number : ℕ) (block : FileBlock) (from : ℕ) → IsStaged p 0 → (row_of p.log.tables number).used ≡ true → IsFileBlock block → code_of block ≢ 0
-    → address (tree_of p number) (way_to block) ≡ from → MayMove p.log (code_of block) from 0
+    → address (tree_of p number) (way_to block) ≡ from → MayMoveLive p.log (code_of block) from 0
 may_lose p number block from staged used can other there =
     let laid = staged.whole.parts.laid_out in
     let low = used_low p number used in

@@ -13,7 +13,7 @@ use Rattle.lfs_inodes.specs.declared.inode.Inode.{Inode}
 use Rattle.lfs_inodes.specs.Addresses.{addresses}
 use Rattle.lfs_inodes.specs.Attributes.{attributes, stat_of}
 use Rattle.lfs_inodes.specs.Reading.{Fields, fields_of}
-use Rattle.lfs_bmap.specs.Pieces.{IsCut, IsPadded, file_bytes}
+use Rattle.lfs_bmap.specs.Pieces.{IsBlockCut, IsPadded, file_bytes}
 use Rattle.lfs_bmap.specs.Reading.{data_block}
 use Rattle.lfs_bmap.proofs.PieceLemmas.{cut_resized, longer_cut}
 use Rattle.lfs_staging.specs.declared.parts.Parts.{Parts}
@@ -31,7 +31,7 @@ file_from blocks f = file_of (stat_of f.attributes) (file_bytes blocks f.attribu
 
 module _ (old new : Parts) (number len : ℕ) (f : Fields) (has : record_of old number ≡ Some f) (padded : IsPadded (data_block (tree_of old number)) f.attributes.size)
     (here : HasAttributes new number (record (f.attributes) { size = len })) (records : (n : ℕ) → n ≢ number → record_of new n ≡ record_of old n)
-    (cut : (m : ℕ) → IsCut m len (data_block (tree_of old number) m) (data_block (tree_of new number) m))
+    (cut : (m : ℕ) → IsBlockCut m len (data_block (tree_of old number) m) (data_block (tree_of new number) m))
     (blocks : (n m : ℕ) → n ≢ number → data_block (tree_of new n) m ≡ data_block (tree_of old n) m) where
   -- its bytes
   bytes_here : file_bytes (data_block (tree_of new number)) len ≡ resized (file_bytes (data_block (tree_of old number)) f.attributes.size) len
@@ -89,6 +89,6 @@ pub grown_content : (old new : Parts) (v w : Inode) (len : ℕ) → MayStage old
 grown_content old new v w len may more h =
     let padded = (may.files.files v.number (fields_of v) may.here).padded in
     length_content old new v.number len (fields_of v) may.here padded (grown_attributes old new v w len more h) h.others
-    (λ m. subst (λ t. IsCut m len (data_block (tree_of old v.number) m) (data_block t m)) (sym (h.blocks v.number))
+    (λ m. subst (λ t. IsBlockCut m len (data_block (tree_of old v.number) m) (data_block t m)) (sym (h.blocks v.number))
     (longer_cut m v.size len (data_block (tree_of old v.number)) padded more))
     (λ n m other. ap (λ t. data_block t m) (h.blocks n))

@@ -36,7 +36,7 @@ use Rattle.lfs_staging.specs.declared.records.TheConstants.{WAITING_LIMIT}
 use Rattle.lfs_staging.specs.Changing.{StaysInLog}
 use Rattle.lfs_staging.specs.Files.{content_of, file_at}
 use Rattle.lfs_staging.specs.Keys.{log_state}
-use Rattle.lfs_staging.specs.Making.{HasNoBlock, KeepsOthers, Makes}
+use Rattle.lfs_staging.specs.Making.{HasNoBlock, KeepsOthers, GivesOutFile}
 use Rattle.lfs_staging.specs.Staging.{IsStaged}
 use Rattle.lfs_staging.specs.Store.{AreFiles, IsFile, IsPresent}
 use Rattle.lfs_staging.specs.View.{record_of, root_in, tree_of, version_of, waiting_in}
@@ -49,7 +49,7 @@ use Rattle.lfs_staging.proofs.ViewLemmas.{all_zeros}
 use Rattle.lfs_staging.proofs.WaitingLemmas.{all_without, length-without, once_staged, waiting-staged}
 use Rattle.lfs_bmap.specs.Blocks.{way_to}
 
-module _ (number version : ℕ) (attrs : Attrs) (v : Inode) (old new : Parts) (h : Makes number version attrs v old new)
+module _ (number version : ℕ) (attrs : Attrs) (v : Inode) (old new : Parts) (h : GivesOutFile number version attrs v old new)
     (least : FIRST_INODE ≤ number) (low : number < length old.log.tables.rows) (free : (row_of old.log.tables number).used ≡ false) (files : AreFiles old) where
   own : v.number ≡ number
   own = ap (λ (a : Attributes). a.number) h.attributes

@@ -8,7 +8,7 @@ use Rattle.lfs_types.specs.declared.limits.TheConstants.{FILE_BLOCKS}
 use Rattle.lfs_bmap.specs.Pieces.{IsGot, Touches, byte_at}
 use Rattle.lfs_bmap.specs.Reading.{Tree, data_block, read}
 use Rattle.lfs_bmap.specs.Ways.{data_way}
-use Rattle.lfs_staging.specs.Filling.{IsFilled}
+use Rattle.lfs_staging.specs.Filling.{IsFilledBefore}
 
 -- a data block that a file can have
 pub data_block-read : (t : Tree) (n : ℕ) → n < FILE_BLOCKS → data_block t n ≡ read t (data_way n)
@@ -16,8 +16,8 @@ unfolding data_block
 data_block-read t n low = cond-true _ _ _ (lt-ltb n FILE_BLOCKS low)
 
 -- one block more
-pub filled_more : (blocks : ℕ → List ℕ) (start index : ℕ) (block old new : List ℕ) → IsFilled blocks start index old → block ≡ blocks index
-    → IsGot index start block old new → IsFilled blocks start (index + 1) new
+pub filled_more : (blocks : ℕ → List ℕ) (start index : ℕ) (block old new : List ℕ) → IsFilledBefore blocks start index old → block ≡ blocks index
+    → IsGot index start block old new → IsFilledBefore blocks start (index + 1) new
 filled_more blocks start index block old new filled is got = record {
   each = λ k low below. elim (cases_eq ((start + k) / 512) index) [
     | inl here ↦
@@ -31,7 +31,7 @@ filled_more blocks start index block old new filled is got = record {
 
 -- before the first block that is touched nothing is to be filled
 pub filled_first : (blocks : ℕ → List ℕ) (start index : ℕ) (buffer : List ℕ)
-    → ((n : ℕ) → Touches start (start + length buffer) n → index ≤ n) → IsFilled blocks start index buffer
+    → ((n : ℕ) → Touches start (start + length buffer) n → index ≤ n) → IsFilledBefore blocks start index buffer
 filled_first blocks start index buffer first = record {
   each = λ k low below.
       let touched : index ≤ (start + k) / 512
@@ -40,7 +40,7 @@ filled_first blocks start index buffer first = record {
 }
 
 -- past the last one all is filled
-pub filled_all : (blocks : ℕ → List ℕ) (start index : ℕ) (buffer : List ℕ) → IsFilled blocks start index buffer
+pub filled_all : (blocks : ℕ → List ℕ) (start index : ℕ) (buffer : List ℕ) → IsFilledBefore blocks start index buffer
     → ((n : ℕ) → Touches start (start + length buffer) n → n < index)
     → (k : ℕ) → k < length buffer → get_or buffer k 0 ≡ byte_at blocks (start + k)
 filled_all blocks start index buffer filled last k low =

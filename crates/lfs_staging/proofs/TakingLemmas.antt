@@ -19,7 +19,7 @@ use Rattle.lfs_inodes.specs.Reading.{Fields}
 use Rattle.lfs_cache.specs.declared.key.Key.{Key}
 use Rattle.lfs_cache.specs.Contents.{IsLocked}
 use Rattle.lfs_log.specs.Parts as log
-use Rattle.lfs_log.specs.Parts.{LogParts, MayMove, record_place}
+use Rattle.lfs_log.specs.Parts.{LogParts, MayMoveLive, record_place}
 use Rattle.lfs_bmap.specs.Counting.{placed}
 use Rattle.lfs_bmap.specs.Log.{Assigns, IsLog, Renews}
 use Rattle.lfs_bmap.proofs.CountingLemmas.{placed-code, placed-here, placed-number}
@@ -102,7 +102,7 @@ module _ (p : Parts) (number : ℕ) (staged : IsStaged p 0) (low : number < leng
   empty_no_block = record { no_frame = no_frame; no_address = no_address }
 
   -- the live bytes of its record may be given back
-  pub may_give : MayMove p.log 0 (row_of p.log.tables number).address 0
+  pub may_give : MayMoveLive p.log 0 (row_of p.log.tables number).address 0
   may_give =
       let parts = staged.whole.parts in
       let row = parts.formed.each_row number fresh_row low in

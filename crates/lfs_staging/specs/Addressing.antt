@@ -37,7 +37,7 @@ pub record IsWaiting (p : Parts) (v : Inode) : Type 0 where
   pub at_version : v.version ≡ version_of p v.number
 
 -- Other bytes wait for a key, what else waits is what waited, and no block is clean that wasn't.
-pub record Rewrites (old new : Contents) (key : Key) (block : List ℕ) : Type 0 where
+pub record Restages (old new : Contents) (key : Key) (block : List ℕ) : Type 0 where
   pub here : block_in key new.locked ≡ Some block
   pub others : (other : Key) → same_key key other ≡ false → block_in other new.locked ≡ block_in other old.locked
   pub clean : GainsNoClean old new
@@ -72,4 +72,4 @@ pub record StaysWaiting (old new : Parts) (v : Inode) : Type 0 where
 pub record SetsEntry (old new : Contents) (key : Key) (index address : ℕ) (before : List ℕ) : Type 0 where
   pub after : List ℕ
   pub changed : cells after ≡ slice_set (cells before) index address
-  pub rewritten : Rewrites old new key after
+  pub rewritten : Restages old new key after

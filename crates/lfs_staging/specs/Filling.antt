@@ -15,5 +15,5 @@ pub record SameButClean (old new : Parts) : Type 0 where
   pub mirrors : Mirrors new
 
 -- of the bytes from `start` on, those that stand in the blocks before one are in the buffer
-pub record IsFilled (blocks : ℕ → List ℕ) (start before : ℕ) (buffer : List ℕ) : Type 0 where
+pub record IsFilledBefore (blocks : ℕ → List ℕ) (start before : ℕ) (buffer : List ℕ) : Type 0 where
   pub each : (k : ℕ) → k < length buffer → (start + k) / BLOCK_SIZE < before → slice_index buffer k ≡ byte_at blocks (start + k)

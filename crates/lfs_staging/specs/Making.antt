@@ -31,7 +31,7 @@ pub record HasNoBlock (p : Parts) (number : ℕ) : Type 0 where
   pub no_address : (i : ℕ) → slice_index (root_in (record_of p number)) i ≡ 0
 
 -- A number that was free is given out at a version: an empty file's record waits for it, with these attributes.
-pub record Makes (number version : ℕ) (attrs : Attrs) (v : Inode) (old new : Parts) : Type 0 where
+pub record GivesOutFile (number version : ℕ) (attrs : Attrs) (v : Inode) (old new : Parts) : Type 0 where
   pub memory : new.log.memory ≡ old.log.memory
   pub tables : new.log.tables ≡ with_row old.log.tables number (given_row version)
   pub clean : new.log.clean ≡ old.log.clean

@@ -10,9 +10,9 @@ use Rattle.lfs_dirs.specs.Changes.{number_in-nil}
 use Rattle.lfs_model.proofs.Children.{child-answer}
 use Rattle.lfs_model.proofs.RunLemmas.{root_row, only_fresh, no_child, opening_rows, opening_tree}
 use Rattle.lfs_types.proofs.Maps.{get-insert_same, get-insert_other}
-use Rattle.lfs_calls.specs.Content.{visible, Shows, IsListing, entries_below}
+use Rattle.lfs_calls.specs.Content.{visible, Shows, ListsRows, entries_below}
 
-nothing_listed : IsListing opening_rows root []
+nothing_listed : ListsRows opening_rows root []
 unfolding entries_below
 nothing_listed = record {
   blocks = λ k h. absurd (omega arith);
@@ -30,7 +30,7 @@ opening_shows = record {
       (cases_eq n root);
   sizes = λ n f e. let is = only_fresh n f e in subst (λ (x : File). IsLength x.kind (length x.bytes)) is.1 (omega arith, omega arith);
   listings = λ n f e k. let is = only_fresh n f e in
-      subst (λ m. IsListing opening_rows m f.bytes) (sym is.0) (subst (λ (x : File). IsListing opening_rows root x.bytes) is.1 nothing_listed);
+      subst (λ m. ListsRows opening_rows m f.bytes) (sym is.0) (subst (λ (x : File). ListsRows opening_rows root x.bytes) is.1 nothing_listed);
 }
 
 -- a store with the content of a fresh volume's

@@ -10,6 +10,6 @@ Ok x >>= next = next x
 Err kind >>= next = Err kind
 
 -- A reading gives what was expected. Memory may run out before.
-abbrev pub Reads : {A : Type 0} → Result A FaultKind → Result A FaultKind → Type 0
-Reads expected (Ok x) = expected ≡ Ok x
-Reads expected (Err kind) = kind ≢ Memory → expected ≡ Err kind
+abbrev pub ReadsAs : {A : Type 0} → Result A FaultKind → Result A FaultKind → Type 0
+ReadsAs expected (Ok x) = expected ≡ Ok x
+ReadsAs expected (Err kind) = kind ≢ Memory → expected ≡ Err kind

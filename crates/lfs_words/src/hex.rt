@@ -1,7 +1,7 @@
 //! Bytes and file flags in scripts.
 
 ghost use Rattle.std.specs.Prelude.{◌≡◌, ◌<◌, ◌≤◌, ◌*◌, [], ◌∷◌, length, true, IfOk};
-ghost use Rattle.lfs_words.specs.Faults.{Reads};
+ghost use Rattle.lfs_words.specs.Faults.{ReadsAs};
 ghost use Rattle.lfs_words.specs.BytesText.{is_dash, is_hex_digit, is_hex, hex_text, hex_bytes, bytes_of};
 ghost use Rattle.lfs_words.specs.FlagText.{is_flags, flags_of};
 ghost use Rattle.std.specs.Char.{digit_char};
@@ -18,7 +18,7 @@ const FLAG_DIGITS: usize = 8;
 
 /// The bytes that an even, positive number of digits of 0-9 a-f spells, at most 4,096, or none for `-`.
 pub fn payload(alloc: Global, word: &str) -> Result<Payload, FaultKind>
-    ensures { Reads (bytes_of word.now) result }
+    ensures { ReadsAs (bytes_of word.now) result }
 {
     let digits = word.as_bytes();
     if is_dash(digits) {

@@ -1,7 +1,7 @@
 //! Block infos in scripts.
 
 ghost use Rattle.std.specs.Prelude.{◌≡◌, map};
-ghost use Rattle.lfs_words.specs.Faults.{Reads};
+ghost use Rattle.lfs_words.specs.Faults.{ReadsAs};
 ghost use Rattle.lfs_words.specs.Infos.{are_decimals, info_from, info_of, info_of_parts, infos_within};
 
 use crate::fault::FaultKind;
@@ -15,7 +15,7 @@ pub fn infos<const LIMIT: usize>(
     alloc: Global,
     words: &[&str],
 ) -> Result<BlockInfos<LIMIT>, FaultKind>
-    ensures { Reads (infos_within LIMIT (map (λ x. x.now) words.now)) result }
+    ensures { ReadsAs (infos_within LIMIT (map (λ x. x.now) words.now)) result }
 {
     if words.len() > LIMIT {
         return Err(FaultKind::Many);
@@ -30,7 +30,7 @@ pub fn infos<const LIMIT: usize>(
 
 /// The info that a word spells.
 fn info(alloc: Global, word: &str) -> Result<BlockInfo, FaultKind>
-    ensures { Reads (info_of word.now) result }
+    ensures { ReadsAs (info_of word.now) result }
 {
     let parts = pieces(alloc, word, ':')?;
     info_of_parts(parts.as_slice())

@@ -1,6 +1,6 @@
 //! Paths in scripts.
 
-ghost use Rattle.lfs_words.specs.Faults.{Reads};
+ghost use Rattle.lfs_words.specs.Faults.{ReadsAs};
 ghost use Rattle.lfs_words.specs.PathText.{path_of};
 
 use crate::fault::FaultKind;
@@ -9,7 +9,7 @@ use std::alloc::Global;
 
 /// The path that a word spells.
 pub fn path_of(alloc: Global, word: &str) -> Result<Path, FaultKind>
-    ensures { Reads (path_of word.now) result }
+    ensures { ReadsAs (path_of word.now) result }
 {
     match Path::parse(alloc, word) {
         Ok(path) => Ok(path),

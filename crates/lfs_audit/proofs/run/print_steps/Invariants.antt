@@ -1,11 +1,11 @@
 use Rattle.std.specs.Io.KnownBytes.{append_known}
 use Rattle.lfs_volume.specs.Cleanings.{cleaner_of}
-use Rattle.lfs_audit.specs.Runs.{Writes}
+use Rattle.lfs_audit.specs.Runs.{WritesLines}
 use Rattle.lfs_audit.proofs.run.print_steps.Given as goal
 
 abbrev pub invariant-loop-step : goal.invariant-loop-step
 invariant-loop-step g l =
     let s = g.F.CleanedStore in
-    Writes (cleaner_of g.F.FileStore.state g.F.FileStore.is_settled s.cleaner)
+    WritesLines (cleaner_of g.F.FileStore.state g.F.FileStore.is_settled s.cleaner)
     l.fn.volume l.volume l.yielded
     (append_known (g.W.Write.contents l.fn.writer) l.fn.text.items) (append_known (g.W.Write.contents l.writer) l.text.items)

@@ -1,11 +1,11 @@
 use Rattle.std.proofs.Common.{◌↔◌, length}
-use Rattle.lfs_settle.specs.Interleaving.{IsSettled}
+use Rattle.lfs_settle.specs.Interleaving.{MadeItsCalls}
 use Rattle.lfs_settle.proofs.judging.is_settled.Given as goal
 
 abbrev pub invariant-loop-call : goal.invariant-loop-call
 invariant-loop-call l =
-    IsSettled l.is_full l.rest l.session l.calls l.given
-    ↔ IsSettled l.fn.is_full l.fn.entries l.fn.session l.fn.script l.fn.answers
+    MadeItsCalls l.is_full l.rest l.session l.calls l.given
+    ↔ MadeItsCalls l.fn.is_full l.fn.entries l.fn.session l.fn.script l.fn.answers
 
 abbrev pub decreases-loop-call : goal.decreases-loop-call
 decreases-loop-call l = length l.calls

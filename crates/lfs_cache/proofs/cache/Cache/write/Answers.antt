@@ -4,7 +4,7 @@ use Rattle.std.specs.Prelude.{vec_capacity}
 use Rattle.lfs_recency.specs.declared.queue.Queue.TheVariants.{Locked}
 use Rattle.lfs_recency.specs.FrameLists.{FrameLists, frame_count, fronted}
 use Rattle.lfs_recency.specs.Lending.{with_block}
-use Rattle.lfs_cache.specs.Frames.{names_after, IsListed}
+use Rattle.lfs_cache.specs.Frames.{names_after, HoldsNoOther}
 use Rattle.lfs_cache.specs.Contents.{Contents, block_in, written, IsLocked}
 use Rattle.lfs_cache.specs.Held.{held_by}
 use Rattle.lfs_cache.specs.Changes.{GainsOnly}
@@ -122,7 +122,7 @@ returns-clause-formed c =
 pub move_first-requires-clause-listed : goal.move_first-requires-clause-listed
 move_first-requires-clause-listed c =
     let l = c.self.inside.frames in let keys = c.self.inside.index in let v = c.self.inside.locked in let k = c.args.key in let f = c.in-Some.frame in
-    subst (λ (t : FrameLists). IsListed f k t v.items) (sym c.copy_in.ensures)
+    subst (λ (t : FrameLists). HoldsNoOther f k t v.items) (sym c.copy_in.ensures)
     (names_unlisted l keys v.items (vec_capacity v) f k c.self.invariant c.in-Some.ensures.1 (set l.blocks f c.args.block.now))
 
 pub move_first-requires-2-clause-listed : goal.move_first-requires-2-clause-listed

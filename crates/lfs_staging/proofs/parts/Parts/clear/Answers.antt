@@ -1,6 +1,6 @@
 use Rattle.std.proofs.Common.{rules, refl, sym, ap, ◌∙◌, subst}
 use Rattle.lfs_inodes.specs.Reading.{fields_of}
-use Rattle.lfs_log.specs.Parts.{LogParts, MayMove}
+use Rattle.lfs_log.specs.Parts.{LogParts, MayMoveLive}
 use Rattle.lfs_bmap.specs.Blocks.{code_of, way_to}
 use Rattle.lfs_bmap.specs.Reading.{address}
 use Rattle.lfs_staging.specs.declared.parts.Parts.{Parts}
@@ -27,7 +27,7 @@ move_live-requires c =
     let p = c.args.self.now in let v = c.args.inode.now in let b = c.args.block in
     let w = way_some b c.requires.may.can c.requires.may.other in
     let there = sym (c.address_of-from.ensures ∙ ap (λ t. address t (way_to b)) (waiting_tree p v c.requires.may.staged c.requires.is)) in
-    subst (λ (l : LogParts). MayMove l (code_of b) c.address_of-from.result 0) (sym (c.set_address.ensures.set w.0 w.1 w.2).log)
+    subst (λ (l : LogParts). MayMoveLive l (code_of b) c.address_of-from.result 0) (sym (c.set_address.ensures.set w.0 w.1 w.2).log)
     (may_lose p v.number b c.address_of-from.result c.requires.may.staged c.requires.is.in_use c.requires.may.can c.requires.may.other there)
 
 pub returns : goal.returns

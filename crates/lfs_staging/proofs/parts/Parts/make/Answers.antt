@@ -3,7 +3,7 @@ use Rattle.lfs_log.specs.Parts.{IsParts, LogParts}
 use Rattle.lfs_log.specs.Parts as log
 use Rattle.lfs_bmap.specs.Log.{Renews}
 use Rattle.lfs_staging.specs.Keys.{log_state}
-use Rattle.lfs_staging.specs.Making.{Makes}
+use Rattle.lfs_staging.specs.Making.{GivesOutFile}
 use Rattle.lfs_staging.proofs.NewFileLemmas.{made_content, made_log, made_staged, made_versions, nothing_before, waiting_more}
 use Rattle.lfs_staging.proofs.WaitingLemmas.{length-without}
 use Rattle.lfs_staging.proofs.parts.Parts.make.Goals as goal
@@ -13,7 +13,7 @@ stage_record-requires-clause-room c =
     let fewer = length-without c.args.self.now.waiting c.new.result.number in
     omega arith
 
-makes : (c : goal.After-stage_record) → Makes c.args.ino c.give_out-version.result c.args.attrs.now c.new.result c.args.self.now c.stage_record.new.self
+makes : (c : goal.After-stage_record) → GivesOutFile c.args.ino c.give_out-version.result c.args.attrs.now c.new.result c.args.self.now c.stage_record.new.self
 makes c = record {
   memory = ap (λ (l : LogParts). l.memory) c.stage_record.ensures.log ∙ c.give_out-version.ensures.memory;
   tables = ap (λ (l : LogParts). l.tables) c.stage_record.ensures.log ∙ c.give_out-version.ensures.given;

@@ -1,12 +1,12 @@
 use Rattle.std.proofs.Common.{◌≡◌, length}
 use Rattle.lfs_bmap.specs.Reading.{data_block}
-use Rattle.lfs_staging.specs.Filling.{IsFilled, SameButClean}
+use Rattle.lfs_staging.specs.Filling.{IsFilledBefore, SameButClean}
 use Rattle.lfs_staging.specs.View.{tree_of}
 use Rattle.lfs_staging.proofs.parts.Parts.read_blocks.Given as goal
 
 abbrev pub invariant-loop-index : goal.invariant-loop-index
 invariant-loop-index l = record {
   whole : length l.into ≡ length l.fn.into;
-  filled : IsFilled (data_block (tree_of l.fn.self l.inode.number)) l.off l.index l.into;
+  filled : IsFilledBefore (data_block (tree_of l.fn.self l.inode.number)) l.off l.index l.into;
   kept : SameButClean l.fn.self l.self;
 }
