@@ -18,7 +18,8 @@ each case the script asks
   since it depends on who is first, and a ring may be lost;
 - of each other word, that the lines are those with ample memory, but that at most one is the named refusal of what
   was asked for; that the volume then is as it was before (the lines that look at it say so); and that the same,
-  asked for again, is answered as with ample memory.
+  asked for again, is answered as with ample memory. Where answers are taken from the journal, a line may be less: a
+  call that is refused has no entry.
 
 A word is done where each of its allocations failed once, and so did three more, which it doesn't make. On threads
 those are tried that are made near to where the threads begin; there, which allocation is the Nth changes from run
@@ -161,6 +162,11 @@ LOOK_THAT_SHOWS = "look bytes "
 # What is asked for on the way, of which nothing is printed where it is given, and behind which no volume is
 # looked at.
 ON_THE_WAY = {"calls", "script", "request", "answer"}
+# What makes a volume: there is none to look at where it is refused.
+MAKES_A_VOLUME = {"plain-volume", "log-volume"}
+# The words that make calls whose answers they take from the journal, and the line of each answer. A Read or a List
+# that is refused has no entry, so there is one such line less.
+LINE_OF_AN_ENTRY = {"copies": "answer same true", "texts": "print ok"}
 # The lines that look at a volume.
 LOOKS = ("look ", "entries ")
 SHOWN = re.compile(r"([0-9]+) (bytes|names) ")
@@ -232,7 +238,7 @@ def is_refused_once(word, lines, ample):
     what = refused(word, lines[place], ample[place] if place < len(ample) else "")
     if what is None:
         return False
-    is_looked = what not in ON_THE_WAY and what != "look"
+    is_looked = what not in ON_THE_WAY | MAKES_A_VOLUME and what != "look"
     looks = looks_at_end(ample[:place]) if is_looked else []
     return lines[place + 1:] == looks + ample[place:]
 
@@ -273,13 +279,24 @@ def is_run(word, lines, ample):
     return masked(lines) == masked(other) if word in ON_THREADS else lines == other
 
 
+def lacks_an_entry(word, lines, ample):
+    """Whether lines are the ample ones without one that tells of an entry of the journal."""
+    line = LINE_OF_AN_ENTRY.get(word)
+    return line in ample and lines.count(line) == ample.count(line) - 1 and less(line, lines) == less(line, ample)
+
+
+def less(line, lines):
+    """Lines without those that are this one."""
+    return [other for other in lines if other != line]
+
+
 def judged(word, lines, ample):
     """`same`, `refused` or `other`."""
     if lines == ample or (word in ON_THREADS and masked(lines) == masked(ample)):
         return "same"
     if word in RUNS:
         return "refused" if is_run(word, lines, ample) else "other"
-    return "refused" if is_refused_once(word, lines, ample) else "other"
+    return "refused" if is_refused_once(word, lines, ample) or lacks_an_entry(word, lines, ample) else "other"
 
 
 def has_refusal(lines):

@@ -13,6 +13,7 @@ byte, given other modes, removed, synced, with passes of the cleaner between. Be
 A run that breaks one of these is wedged: its script is kept in a folder that is named at the end, and the status is 1.
 For each shape a line says how many runs there were, how many rounds they took, and how many were wedged.
 """
+import argparse
 import collections
 import functools
 import os
@@ -390,12 +391,14 @@ def tried(program, seed, index, shape):
 
 
 def main():
-    if len(sys.argv) < 2:
-        sys.exit(__doc__)
-    program = os.path.abspath(sys.argv[1])
-    count = int(sys.argv[2]) if len(sys.argv) > 2 else 1_000
-    seed = sys.argv[3] if len(sys.argv) > 3 else "1"
-    shapes = [it for it in SHAPES if len(sys.argv) < 5 or it.__name__ == sys.argv[4]]
+    parser = argparse.ArgumentParser(description=__doc__, formatter_class=argparse.RawDescriptionHelpFormatter)
+    parser.add_argument("program", type=os.path.abspath)
+    parser.add_argument("count", type=int, nargs="?", default=1_000)
+    parser.add_argument("seed", nargs="?", default="1")
+    parser.add_argument("shape", nargs="?", choices=[it.__name__ for it in SHAPES])
+    asked = parser.parse_args()
+    program, count, seed = asked.program, asked.count, asked.seed
+    shapes = [it for it in SHAPES if asked.shape in (None, it.__name__)]
     start = time.monotonic()
     runs, wedged, most, less_most, refusals = (collections.Counter() for _ in range(5))
     folder = None

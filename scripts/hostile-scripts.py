@@ -13,6 +13,7 @@ or taken from elsewhere; numbers at each limit and past it. It runs PROGRAM on e
 Each string that breaks one of these is kept in a folder that is named at the end, and the status is 1. The last line
 says how many runs ended with which status, and how long they took.
 """
+import argparse
 import collections
 import multiprocessing
 import os
@@ -223,11 +224,12 @@ def run(index):
 
 
 def main():
-    if len(sys.argv) < 2:
-        sys.exit(__doc__)
-    program = os.path.abspath(sys.argv[1])
-    count = int(sys.argv[2]) if len(sys.argv) > 2 else 200_000
-    seed = sys.argv[3] if len(sys.argv) > 3 else "1"
+    parser = argparse.ArgumentParser(description=__doc__, formatter_class=argparse.RawDescriptionHelpFormatter)
+    parser.add_argument("program", type=os.path.abspath)
+    parser.add_argument("count", type=int, nargs="?", default=200_000)
+    parser.add_argument("seed", nargs="?", default="1")
+    asked = parser.parse_args()
+    program, count, seed = asked.program, asked.count, asked.seed
     began = time.monotonic()
     ends = collections.Counter()
     folder = None
