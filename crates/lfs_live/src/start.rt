@@ -2,7 +2,7 @@
 
 ghost use Rattle.std.specs.Prelude.{◌≡◌, IfErr, OnOk};
 ghost use Rattle.lfs_server.specs.Serving.{IsInRange};
-ghost use Rattle.lfs_audit.specs.declared.fault.RunFault.TheVariants.{Memory, Read as Failed};
+ghost use Rattle.lfs_audit.specs.declared.fault.RunFault.TheVariants.{Read as Failed};
 ghost use Rattle.lfs_live.specs.Scripts.{HasHeardOfLog, IsLogFault, IsLogTalk};
 
 use crate::talk::talk;
@@ -11,7 +11,6 @@ use lfs_audit::fault::RunFault;
 use lfs_audit::run::fresh_volume;
 use lfs_logstore::LogStore;
 use lfs_types::store::Params;
-use lfs_volume::volume::Volume;
 use std::alloc::{AllocError, Global};
 use std::io::{Read, Write};
 
@@ -64,20 +63,8 @@ pub fn run_watched<V: Watch<LogStore>, R: Read, W: Write>(
     ensures fault { IfErr result (IsLogFault params.segments params.inodes params.frames) }
 {
     let mut volume = fresh_volume(alloc, params)?;
-    show_first(alloc, &volume, watch)?;
-    talk(alloc, reader, writer, &mut volume, watch)
-}
-
-/// Shows a volume that no line has touched, with an empty line of which nothing is told.
-fn show_first<V: Watch<LogStore>>(
-    alloc: Global,
-    volume: &Volume<LogStore>,
-    watch: &mut V,
-) -> Result<(), RunFault>
-    ensures { IfErr result (λ fault. fault ≡ Memory) }
-{
     match watch.watch(alloc, &[], &[], volume.store()) {
-        Ok(()) => Ok(()),
+        Ok(()) => talk(alloc, reader, writer, &mut volume, watch),
         Err(AllocError) => Err(RunFault::Memory),
     }
 }

@@ -5,4 +5,4 @@ use Rattle.lfs_live.proofs.hearing.dot_in.Goals as goal
 pub returns : goal.returns
 returns c =
     dot_there c.args.line.now c.in_ok-text.text.now _ c.dot_of.result c.in_ok-text.ensures.0 c.in_ok-text.ensures.1
-    (ap (map (λ x. x.now)) c.as_slice.ensures.value ∙ c.in_ok-words.ensures) c.dot_of.ensures
+    (ap (map (λ x. x.now)) c.as_slice.ensures ∙ c.in_ok-words.ensures) c.dot_of.ensures
