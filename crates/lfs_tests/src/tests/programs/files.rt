@@ -60,7 +60,7 @@ fn unsupported<T>() -> io::Result<T> {
 
 impl Read for Shelf<'_> {
     fn read(&mut self, _buf: &mut [u8]) -> io::Result<usize> {
-        unsupported()
+        Err(io::Error::from(ErrorKind::Unsupported))
     }
 }
 
@@ -70,7 +70,7 @@ impl Write for Shelf<'_> {
             return Err(io::Error::from(ErrorKind::StorageFull));
         }
         let Ok(mut page) = self.disk.page.try_borrow_mut() else {
-            return unsupported();
+            return Err(io::Error::from(ErrorKind::Unsupported));
         };
         match page.extend_from_slice(buf) {
             Ok(()) => Ok(buf.len()),
