@@ -11,10 +11,6 @@ use Rattle.lfs_audit.specs.Output.{IsRun}
 use Rattle.lfs_audit.specs.Scripts.{IsFreshLog, IsLogOutput, log_cleaner}
 use Rattle.lfs_audit.specs.declared.fault.RunFault.{RunFault}
 
--- a result that is Ok is no fault
-pub no_fault : {A E : Type 0} (a : A) (e : E) → Ok a ≡ Err e → ⊥
-no_fault {A} {E} a e eq = subst (λ (r : Result A E). IfOk r (λ _. ⊥)) (sym eq) tt
-
 -- a log that was just laid out is fresh
 pub fresh_log : (segments inodes frames : ℕ) (store : Parts) → state_of store ≡ opening_state segments inodes → IsOpening segments inodes frames store → IsFreshLog segments inodes frames store
 fresh_log segments inodes frames store opening laid_out = record { opening = opening; laid_out = laid_out }

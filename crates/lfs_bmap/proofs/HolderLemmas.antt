@@ -6,7 +6,7 @@ use Rattle.lfs_bmap.specs.declared.blocks.FileBlock.{FileBlock}
 use Rattle.lfs_bmap.specs.declared.blocks.FileBlock.TheVariants.{Record, Single, Double, Child, Data}
 use Rattle.lfs_bmap.specs.Blocks.{IsFileBlock, IsTable, code_of, first_under, table_at, table_of, way_to}
 use Rattle.lfs_bmap.specs.Ways.{code_at, codes_on}
-use Rattle.lfs_bmap.proofs.WayLemmas.{code_at-way_of, data_way-direct, data_way-double, data_way-single, way_of-code_of, way_of-zero}
+use Rattle.lfs_bmap.proofs.WayLemmas.{code_at-way_of, data_way-direct, data_way-double, data_way-single, nothing, way_of-code_of, way_of-zero}
 use Rattle.lfs_bmap.proofs.BlockLemmas.{same_block}
 
 -- The indirect blocks in turn: each is a block that a file can have, with 128 places, and no data block.
@@ -59,9 +59,6 @@ table_of-is (Data index) is = data_table IsFileBlock index (λ low. tt) (λ past
 -- the rest of a block's way leads to it
 same_rest : (i j : ℕ) (up above : List ℕ) → i ∷ up ≡ j ∷ above → up ≡ above
 same_rest i j up above e = cc
-
-nothing : (i : ℕ) (up : List ℕ) → (let none : List ℕ = [] in none) ≡ i ∷ up → ⊥
-nothing i up e = cc
 
 pub table_of-way : (block : FileBlock) → IsFileBlock block → (i : ℕ) (up : List ℕ) → way_to block ≡ i ∷ up → way_to (table_of block) ≡ up
 table_of-way Record is i up way = absurd (nothing i up way)

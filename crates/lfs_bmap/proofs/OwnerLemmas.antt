@@ -69,7 +69,8 @@ first_unit slot o p h =
       | inr ne ↦ absurd (none-some o (sym (cond-false _ _ _ (ne_eqb slot 0 ne)) ∙ h))
     ]
 
-in_slot : (found : Option (ℕ × ℕ)) (o : Owner) → option_map (λ r. record { number = r.0; version = r.1; code = 0 }) found ≡ Some o
+-- the owner of a slot
+pub in_slot : (found : Option (ℕ × ℕ)) (o : Owner) → option_map (λ r. record { number = r.0; version = r.1; code = 0 }) found ≡ Some o
     → (found ≡ Some (o.number, o.version)) × (o.code ≡ 0)
 in_slot None o h = absurd (none-some o h)
 in_slot (Some r) o h =
@@ -94,7 +95,7 @@ owner_in-named (logical.Data index) number version slot found o h =
     let s = first_unit slot o _ h in
     inl (record { number = ap (λ (x : Owner). x.number) s.1; version = ap (λ (x : Owner). x.version) s.1; code = ap (λ (x : Owner). x.code) s.1; first = s.0 })
 
-and_then_some : (o : Option SummaryEntry) (f : SummaryEntry → Option Owner) (x : Owner) → option_and_then f o ≡ Some x → (e : SummaryEntry) × (o ≡ Some e) × (f e ≡ Some x)
+pub and_then_some : (o : Option SummaryEntry) (f : SummaryEntry → Option Owner) (x : Owner) → option_and_then f o ≡ Some x → (e : SummaryEntry) × (o ≡ Some e) × (f e ≡ Some x)
 and_then_some None f x h = absurd (none-some x h)
 and_then_some (Some e) f x h = (e, refl, h)
 

@@ -107,7 +107,8 @@ pub way_of-zero : way_of 0 ≡ []
 unfolding way_of
 way_of-zero = refl
 
-nothing : (i : ℕ) (up : List ℕ) → (let none : List ℕ = [] in none) ≡ i ∷ up → ⊥
+-- no way begins with an index
+pub nothing : (i : ℕ) (up : List ℕ) → (let none : List ℕ = [] in none) ≡ i ∷ up → ⊥
 nothing i up e = cc
 
 way_of-none : way_of (code_at []) ≡ []

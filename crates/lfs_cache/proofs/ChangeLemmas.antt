@@ -37,7 +37,7 @@ without_length k (e ∷ es) apart some =
     ]
 
 -- a list without a key is no longer than it was
-without_shorter : (k : Key) (es : List (Key × List ℕ)) → length (without_key k es) ≤ length es
+pub without_shorter : (k : Key) (es : List (Key × List ℕ)) → length (without_key k es) ≤ length es
 without_shorter k [] = omega arith
 without_shorter k (e ∷ es) =
     elim (same_cases e.0 k) as (λ _. length (without_key k (e ∷ es)) ≤ length (e ∷ es)) [

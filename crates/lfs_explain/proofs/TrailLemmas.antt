@@ -17,18 +17,9 @@ use Rattle.lfs_explain.specs.Tables.{goes_on, trail_tests}
 use Rattle.lfs_explain.specs.Trails.{onward, shown_row, rows_along}
 use Rattle.lfs_explain.specs.declared.trail.ShownRow.{ShownRow}
 use Rattle.lfs_explain.proofs.Askings.{step_same}
+use Rattle.lfs_model.proofs.Allowed.{directory_attrs, grants_attrs}
 
 -- ---- a row that is there
-
--- it is a directory where its attributes say so
-directory_told : (o : Option Row) → There o → is_directory_row o ≡ is_directory_kind (attrs_of (file_at o)).kind
-directory_told None there = let none = there.is in absurd (cc)
-directory_told (Some r) there = refl
-
--- it grants what they do
-grants_told : (caller : Caller) (bit : Bit) (o : Option Row) → There o → row_grants caller bit o ≡ grants_of caller (attrs_of (file_at o)) bit
-grants_told caller bit None there = let none = there.is in absurd (cc)
-grants_told caller bit (Some r) there = refl
 
 -- the number of a row, if there is one
 abbrev pub number_of : Option ShownRow → Option ℕ
@@ -83,7 +74,7 @@ module _ (rows : Rows) where
     walk_told [] k at (suc j) there few xs ys same = absurd (omega (arith, few))
     walk_told (name ∷ names) k at zero there few xs ys same = same (omega arith)
     walk_told (name ∷ names) k at (suc j) there few xs ys same =
-        step_same _ _ _ _ _ _ _ _ _ _ _ (directory_told (fin.get rows at) there) (grants_told caller bits.Search (fin.get rows at) there) (goes_told (child rows at name) names)
+        step_same _ _ _ _ _ _ _ _ _ _ _ (directory_attrs (fin.get rows at) there) (grants_attrs caller bits.Search (fin.get rows at) there) (goes_told (child rows at name) names)
         (after (child rows at name) names k j xs ys
         (λ n e. walk_told names (k + 1) n j (child_there at name n e) (omega (arith, few)) xs ys (λ long. same (long_on (child rows at name) names n j e long))))
 

@@ -15,7 +15,8 @@ slot_of-zeros block k lt zeros =
     ∙ ap (take 128) (drop-replicate (128 * k) 512 0)
     ∙ take-replicate 128 (512 - 128 * k) 0 (omega arith)
 
-get_or-slots : (block : List ℕ) (j : ℕ) → j < 4 → get_or (slots block) j [] ≡ slot_of block j
+-- a slot by its place
+pub get_or-slots : (block : List ℕ) (j : ℕ) → j < 4 → get_or (slots block) j [] ≡ slot_of block j
 get_or-slots block zero lt = refl
 get_or-slots block (suc zero) lt = refl
 get_or-slots block (suc (suc zero)) lt = refl

@@ -25,7 +25,8 @@ use Rattle.lfs_bmap.specs.Owners.{owner_at, owner_in}
 use Rattle.lfs_log.specs.Infos.{HasInfo, IsInfoOf, block_infos, entry_infos, info_of, infos_of, slot_info}
 use Rattle.lfs_log.specs.Names.{named_at, record_in, record_key}
 use Rattle.lfs_log.proofs.NameLemmas.{named_at-entry}
-use Rattle.lfs_log.proofs.PackingLemmas.{get_or-slots}
+use Rattle.lfs_inodes.proofs.FourSlots.{get_or-slots}
+use Rattle.lfs_bmap.proofs.OwnerLemmas.{and_then_some, in_slot}
 
 -- items of lists
 contains_there : {X : Type 0} (xs : List X) (y x : X) → Contains xs x → Contains (y ∷ xs) x
@@ -45,14 +46,7 @@ contains_kept h [] d y k below at = absurd (omega arith)
 contains_kept h (z ∷ xs) d y zero below at = rw at (0, omega arith, refl)
 contains_kept h (z ∷ xs) d y (suc k) below at = contains_more (h z) (filter_map h xs) y (contains_kept h xs d y k (omega arith) at)
 
--- the owner of a slot, and of the first unit of a block
-in_slot : (found : Option (ℕ × ℕ)) (o : Owner) → option_map (λ r. record { number = r.0; version = r.1; code = 0 }) found ≡ Some o
-    → (found ≡ Some (o.number, o.version)) × (o.code ≡ 0)
-in_slot None o h = absurd (none-some o h)
-in_slot (Some r) o h =
-    let same : record { number = r.0; version = r.1; code = 0 } ≡ o = same_Some _ o h in
-    (ap (λ (x : Owner). Some (x.number, x.version)) same, sym (ap (λ (x : Owner). x.code) same))
-
+-- the owner of the first unit of a block
 first_unit : (slot : ℕ) (o p : Owner) → (if slot == 0 then Some p else None) ≡ Some o → p ≡ o
 first_unit slot o p h =
     elim (cases_eq slot 0) [
@@ -123,15 +117,11 @@ entry_at-from m address e named = ⊎_elim
     (λ (from : first_of (address / 64) ≤ address). from)
     (cases_lt address (first_of (address / 64)))
 
-entry_of : (o : Option SummaryEntry) (f : SummaryEntry → Option Owner) (x : Owner) → option_and_then f o ≡ Some x → (e : SummaryEntry) × (o ≡ Some e) × (f e ≡ Some x)
-entry_of None f x h = absurd (none-some x h)
-entry_of (Some e) f x h = (e, refl, h)
-
 -- What the log names at a place of a segment has its info there.
 pub infos_of-named : (m : SegmentMemory) (segment place : ℕ) (o : Owner) → seg_of place ≡ segment → named_at m place ≡ Some o → HasInfo (infos_of m segment) (place / 4) o
 unfolding named_at owner_at infos_of entry_infos
 infos_of-named m segment place o here named =
-    let found = entry_of (entry_at m (place / 4)) _ o named in
+    let found = and_then_some (entry_at m (place / 4)) _ o named in
     let e = found.0 in
     let from = entry_at-from m (place / 4) e found.1 in
     let in_segment : place / 4 / 64 ≡ segment = omega arith in

@@ -10,17 +10,9 @@ use Rattle.lfs_inodes.specs.Record.{IsRecord}
 use Rattle.lfs_inodes.specs.Slots.{slot_of, slots}
 use Rattle.lfs_inodes.specs.Reading.{fields_in, fields_of}
 use Rattle.lfs_inodes.proofs.FieldsRead.{fields_in-is, fields_in-zeros}
-use Rattle.lfs_inodes.proofs.FourSlots.{slot_of-zeros}
 use Rattle.lfs_log.specs.Names.{inode_key, record_in, record_key}
 use Rattle.lfs_log.specs.Packing.{IsInodeBlock, IsSlot}
-
--- a slot by its place
-pub get_or-slots : (block : List ℕ) (j : ℕ) → j < 4 → get_or (slots block) j [] ≡ slot_of block j
-get_or-slots block zero below = refl
-get_or-slots block (suc zero) below = refl
-get_or-slots block (suc (suc zero)) below = refl
-get_or-slots block (suc (suc (suc zero))) below = refl
-get_or-slots block (suc (suc (suc (suc j)))) below = absurd (omega arith)
+use Rattle.lfs_inodes.proofs.FourSlots.{get_or-slots, slot_of-zeros}
 
 -- the first k inodes are packed, and the other slots are zeros
 pub record IsPackedBelow (k : ℕ) (inodes : List Inode) (block : List ℕ) : Type 0 where

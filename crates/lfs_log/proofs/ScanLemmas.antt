@@ -23,7 +23,7 @@ use Rattle.lfs_segments.proofs.NamesLemmas.{names_from-at_most}
 use Rattle.lfs_segments.proofs.ReadingLemmas.{summary_entries-spelled}
 use Rattle.lfs_types.specs.declared.cleaner.BlockInfo.{BlockInfo}
 use Rattle.lfs_log.specs.Infos.{block_infos, entry_infos, info_of, infos_from, infos_of, slot_info}
-use Rattle.lfs_log.proofs.PackingLemmas.{get_or-slots}
+use Rattle.lfs_inodes.proofs.FourSlots.{get_or-slots}
 
 -- A list that is filtered grows by no item.
 pub length-filter_map : (f : List ℕ → Option BlockInfo) (xs : List (List ℕ)) → length (filter_map f xs) ≤ length xs
@@ -93,13 +93,13 @@ infos_of-at_most m segment =
     omega arith
 
 -- the entries of a summary from one on
-expected_more : (entries : List SummaryEntry) (next count : ℕ) → next < count → count ≤ length entries → drop next (take count entries) ≡ get_or entries next unused ∷ drop (next + 1) (take count entries)
+pub expected_more : (entries : List SummaryEntry) (next count : ℕ) → next < count → count ≤ length entries → drop next (take count entries) ≡ get_or entries next unused ∷ drop (next + 1) (take count entries)
 expected_more entries next count below fits =
     let long : length (take count entries) ≡ count = length-take-le count entries fits in
     drop_more (take count entries) next unused (omega arith)
     ∙ ap (λ (e : SummaryEntry). e ∷ drop (next + 1) (take count entries)) (get_or-take count entries next unused below)
 
-expected_none : (entries : List SummaryEntry) (next count : ℕ) → count ≤ next → drop next (take count entries) ≡ []
+pub expected_none : (entries : List SummaryEntry) (next count : ℕ) → count ≤ next → drop next (take count entries) ≡ []
 expected_none entries next count past = drop_all next (take count entries) (simp length-take (omega arith))
 
 -- An address of a segment's log.

@@ -22,10 +22,11 @@ use Rattle.lfs_model.specs.Steps.{IsEvent, IsLegal, after_event, world_after}
 use Rattle.lfs_model.proofs.Fates.{Fate, fate}
 use Rattle.lfs_model.proofs.Fates.Fate.{Stays, Goes, Moves, Changes, Remodes, Gives, Reflags}
 use Rattle.lfs_model.proofs.LawTree.{event_tree}
-use Rattle.lfs_model.proofs.LockedLemmas.{at_row, both}
+use Rattle.lfs_model.proofs.LockedLemmas.{at_row}
 use Rattle.lfs_model.proofs.ServedLemmas.{reaches_up}
 use Rattle.lfs_model.proofs.Trees.{root_above}
 use Rattle.lfs_types.proofs.Somewhere.{some_and}
+use Rattle.lfs_model.proofs.LawFlags.{both}
 
 -- a directory lets in the same callers, and has the same owner
 pub record SameDoor (dir other : Row) : Type 0 where

@@ -27,11 +27,11 @@ use Rattle.lfs_model.proofs.Children.{IsChildAnswer, child-answer, child-is, chi
 use Rattle.lfs_model.proofs.Deciding.{met_first, passes-append}
 use Rattle.lfs_model.proofs.DoorLemmas.{door}
 use Rattle.lfs_model.proofs.LawTree.{childless}
-use Rattle.lfs_model.proofs.LockedLemmas.{both}
 use Rattle.lfs_model.proofs.Members.{children-hang}
 use Rattle.lfs_model.proofs.Trees.{root_above}
 use Rattle.lfs_model.proofs.ViewLaw.{view}
 use Rattle.lfs_types.proofs.Somewhere.{some_and}
+use Rattle.lfs_model.proofs.LawFlags.{both}
 
 pub none_there : {A : Type 0} {X : Type 0} (o : Option X) (x : X) → o ≡ None → o ≡ Some x → A
 none_there o x e f = absurd (cc)

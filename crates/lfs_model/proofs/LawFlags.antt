@@ -130,11 +130,11 @@ second_or : (a b : Bool) → (a || b) ≡ false → b ≡ false
 second_or true b h = absurd (cc)
 second_or false b h = h
 
-or_second : (a b : Bool) → b ≡ true → (a || b) ≡ true
+pub or_second : (a b : Bool) → b ≡ true → (a || b) ≡ true
 or_second true b h = refl
 or_second false b h = h
 
-both : {A : Type 0} (b : Bool) → b ≡ true → b ≡ false → A
+pub both : {A : Type 0} (b : Bool) → b ≡ true → b ≡ false → A
 both true h e = absurd (cc)
 both false h e = absurd (cc)
 

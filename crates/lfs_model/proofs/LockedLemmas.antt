@@ -29,10 +29,7 @@ use Rattle.lfs_model.proofs.Fates.Fate.{Stays, Goes, Moves, Changes, Remodes, Gi
 use Rattle.lfs_model.proofs.LawTree.{event_tree}
 use Rattle.lfs_model.proofs.RowLaws.{moved_law}
 use Rattle.lfs_types.proofs.Somewhere.{is_some_and, some_and}
-
-pub both : {A : Type 0} (b : Bool) → b ≡ true → b ≡ false → A
-both true h e = absurd (cc)
-both false h e = absurd (cc)
+use Rattle.lfs_model.proofs.LawFlags.{both}
 
 first_or : (a b : Bool) → a ≡ true → (a || b) ≡ true
 first_or true b h = refl

@@ -29,9 +29,9 @@ use Rattle.lfs_model.proofs.Children.{child-answer, child-is}
 use Rattle.lfs_model.proofs.Fates.{Fate, fate}
 use Rattle.lfs_model.proofs.Fates.Fate.{Stays, Goes, Moves, Changes, Remodes, Gives, Reflags}
 use Rattle.lfs_model.proofs.LawFates.{kept_mode}
-use Rattle.lfs_model.proofs.LawFlags.{mode_on}
+use Rattle.lfs_model.proofs.LawFlags.{both, mode_on, or_second}
 use Rattle.lfs_model.proofs.LawTree.{event_tree}
-use Rattle.lfs_model.proofs.LockedLemmas.{at_row, both}
+use Rattle.lfs_model.proofs.LockedLemmas.{at_row}
 use Rattle.lfs_types.proofs.Somewhere.{There, is_some_and, some_and}
 
 -- ---- tests
@@ -39,10 +39,6 @@ use Rattle.lfs_types.proofs.Somewhere.{There, is_some_and, some_and}
 or_cases : (a b : Bool) → (a || b) ≡ true → (a ≡ true) ⊎ (b ≡ true)
 or_cases true b h = inl refl
 or_cases false b h = inr h
-
-or_second : (a b : Bool) → b ≡ true → (a || b) ≡ true
-or_second true b h = refl
-or_second false b h = h
 
 or_first : (a b : Bool) → a ≡ true → (a || b) ≡ true
 or_first true b h = refl

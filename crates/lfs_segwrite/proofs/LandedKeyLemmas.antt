@@ -36,6 +36,7 @@ use Rattle.lfs_staging.specs.Waiting.{AreOnce}
 use Rattle.lfs_staging.proofs.SettingLemmas.{waiting_record}
 use Rattle.lfs_staging.proofs.WaitingLemmas.{waiting-head, waiting-tail}
 use Rattle.lfs_staging.proofs.CleanLemmas.{coded_below}
+use Rattle.lfs_types.proofs.Somewhere.{not_some}
 
 -- the record that waits of a number has it
 pub waiting_number : (vs : List Inode) (n : ℕ) (v : Inode) → waiting_in vs n ≡ Some v → v.number ≡ n
@@ -58,10 +59,6 @@ waits_numbers (v ∷ vs) (w ∷ ws) n same =
       | inr ne ↦ ap is_some (waiting-tail w ws n (λ e. ne (sym first ∙ e))) ∙ waits_numbers vs ws n rest ∙ sym (ap is_some (waiting-tail v vs n ne))
     ]
 
-none_some : {A : Type 0} (o : Option A) → is_some o ≡ false → o ≡ None
-none_some None h = refl
-none_some (Some x) h = absurd (false≢true (sym h))
-
 once_numbers : (vs ws : List Inode) → numbers_of ws ≡ numbers_of vs → AreOnce vs → AreOnce ws
 unfolding AreOnce
 once_numbers [] [] same once = tt
@@ -70,7 +67,7 @@ once_numbers (v ∷ vs) [] same once = absurd (cc)
 once_numbers (v ∷ vs) (w ∷ ws) same once =
     let first : w.number ≡ v.number = cc in
     let rest : numbers_of ws ≡ numbers_of vs = cc in
-    (none_some (waiting_in ws w.number) (waits_numbers vs ws w.number rest ∙ ap (λ n. is_some (waiting_in vs n)) first ∙ ap is_some once.0), once_numbers vs ws rest once.1)
+    (not_some (waiting_in ws w.number) (waits_numbers vs ws w.number rest ∙ ap (λ n. is_some (waiting_in vs n)) first ∙ ap is_some once.0), once_numbers vs ws rest once.1)
 
 -- a key that is locked waits
 waits_code : (p : Parts) (n c : ℕ) → c ≢ 0 → IsLocked (key_of n (version_of p n) c) p.cache → Waits p n c

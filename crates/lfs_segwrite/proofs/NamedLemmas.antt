@@ -125,9 +125,6 @@ codes-most code = elim (cases_lt code BLOCK_CODES) [
   | inr past ↦ subst (λ (cs : List ℕ). length cs ≤ 3) (sym (cond-false _ _ _ (le-ltb code BLOCK_CODES past))) (omega arith)
 ]
 
-pub way-most : (block : FileBlock) → IsFileBlock block → length (way_to block) ≤ 3
-way-most block is = subst (λ n. n ≤ 3) (ap (λ (cs : List ℕ). length cs) (codes-block block is) ∙ codes_on-long (way_to block)) (codes-most (code_of block))
-
 -- ---- what an info names
 -- the present address that a call gives
 pub named_address : (l : LogState) (info : BlockInfo) (result : ℕ)

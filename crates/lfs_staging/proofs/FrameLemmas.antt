@@ -14,20 +14,13 @@ use Rattle.lfs_staging.specs.View.{waiting_in}
 use Rattle.lfs_staging.specs.Waiting.{AreOnce}
 use Rattle.lfs_staging.proofs.HeldLemmas.{locked_apart}
 use Rattle.lfs_staging.proofs.WaitingLemmas.{waiting-head, waiting-tail}
+use Rattle.lfs_cache.proofs.ChangeLemmas.{without_shorter}
 
 -- ---- frames
--- a list without a key is no longer, and shorter where it had the key
-without_most : (k : Key) (es : List (Key × List ℕ)) → length (without_key k es) ≤ length es
-without_most k [] = omega arith
-without_most k (e ∷ es) = elim (same_cases e.0 k) [
-  | inl same ↦ let is : length (without_key k (e ∷ es)) ≡ length (without_key k es) = ap length (cond-true _ _ _ same) in let rest = without_most k es in omega arith
-  | inr apart ↦ let is : length (without_key k (e ∷ es)) ≡ length (without_key k es) + 1 = ap length (cond-false _ _ _ apart) ∙ omega arith in let rest = without_most k es in omega arith
-]
-
 without_less : (k : Key) (es : List (Key × List ℕ)) → IsSome (block_in k es) → length (without_key k es) + 1 ≤ length es
 without_less k [] there = absurd (cc)
 without_less k (e ∷ es) there = elim (same_cases e.0 k) [
-  | inl same ↦ let is : length (without_key k (e ∷ es)) ≡ length (without_key k es) = ap length (cond-true _ _ _ same) in let rest = without_most k es in omega arith
+  | inl same ↦ let is : length (without_key k (e ∷ es)) ≡ length (without_key k es) = ap length (cond-true _ _ _ same) in let rest = without_shorter k es in omega arith
   | inr apart ↦
       let is : length (without_key k (e ∷ es)) ≡ length (without_key k es) + 1 = ap length (cond-false _ _ _ apart) ∙ omega arith in
       let rest = without_less k es (subst IsSome (cond-false _ _ _ apart) there) in

@@ -13,21 +13,11 @@ use Rattle.lfs_staging.specs.declared.parts.Parts.{Parts}
 use Rattle.lfs_view.specs.Cells.{IsIn, begun, cell_at, cells_from, standing_at}
 use Rattle.lfs_view.specs.declared.cells.Cell.{Cell}
 use Rattle.lfs_view.specs.declared.walk.Standing.TheVariants as standing
+use Rattle.lfs_log.proofs.ScanLemmas.{expected_more, expected_none}
 
 -- what a walk expects
 abbrev pub held : List SummaryEntry → ℕ → ℕ → Bool → Option (List SummaryEntry)
 held entries next count ended = if ended then None else Some (drop next (take count entries))
-
--- the entries of a summary from one on
-entries_more : (entries : List SummaryEntry) (next count : ℕ) → next < count → count ≤ length entries
-    → drop next (take count entries) ≡ get_or entries next unused ∷ drop (next + 1) (take count entries)
-entries_more entries next count below fits =
-    let long : length (take count entries) ≡ count = length-take-le count entries fits in
-    drop_more (take count entries) next unused (omega arith)
-    ∙ ap (λ (e : SummaryEntry). e ∷ drop (next + 1) (take count entries)) (get_or-take count entries next unused below)
-
-entries_none : (entries : List SummaryEntry) (next count : ℕ) → count ≤ next → drop next (take count entries) ≡ []
-entries_none entries next count past = drop_all next (take count entries) (simp length-take (omega arith))
 
 -- a walk goes on, or has ended
 going : (entries : List SummaryEntry) (next count : ℕ) (ended : Bool) → ended ≡ false → held entries next count ended ≡ Some (drop next (take count entries))
@@ -40,14 +30,14 @@ pub passed_named : (entries : List SummaryEntry) (next count : ℕ) (ended : Boo
     → held entries (next + 1) count ended ≡ option_and_then (λ es. after_block es block) now
 passed_named entries next count ended block now is off below fits =
     let old : Some (get_or entries next unused ∷ drop (next + 1) (take count entries)) ≡ now =
-    ap (λ (es : List SummaryEntry). Some es) (sym (entries_more entries next count below fits)) ∙ sym (going entries next count ended off) ∙ is in
+    ap (λ (es : List SummaryEntry). Some es) (sym (expected_more entries next count below fits)) ∙ sym (going entries next count ended off) ∙ is in
     going entries (next + 1) count ended off ∙ ap (λ (o : Option (List SummaryEntry)). option_and_then (λ es. after_block es block) o) old
 
 -- behind the last one a summary is read
 nothing : (entries : List SummaryEntry) (next count : ℕ) (ended : Bool) (now : Option (List SummaryEntry)) → held entries next count ended ≡ now → ended ≡ false → count ≤ next
     → Some [] ≡ now
 nothing entries next count ended now is off past =
-    ap (λ (es : List SummaryEntry). Some es) (sym (entries_none entries next count past)) ∙ sym (going entries next count ended off) ∙ is
+    ap (λ (es : List SummaryEntry). Some es) (sym (expected_none entries next count past)) ∙ sym (going entries next count ended off) ∙ is
 
 pub passed_summary : (entries : List SummaryEntry) (next count : ℕ) (ended : Bool) (block : List ℕ) (now : Option (List SummaryEntry)) (s : Summary)
     → held entries next count ended ≡ now → ended ≡ false → count ≤ next → Some (named_by s) ≡ summary_entries block

@@ -17,6 +17,7 @@ use Rattle.lfs_words.specs.FlagText.{flags_of, is_flags}
 use Rattle.lfs_words.specs.LevelText.{level_text, level_word}
 use Rattle.lfs_words.specs.NameText.{flags_text, mode_text}
 use Rattle.lfs_words.specs.Numbers.{long_of, mode_of, number_of, short_of}
+use Rattle.lfs_words.proofs.HexDigits.{length-hex_text}
 
 pub digits_pass : (radix : ℕ) (cs : List ℕ) → AllDigits radix cs → list_all (λ c. is_digit c radix) cs ≡ true
 digits_pass radix [] h = refl
@@ -73,10 +74,6 @@ hex_digits_all (b ∷ bs) are =
     let high : is_hex_digit (digit_char (b / 16)) ≡ true = hex_char (b / 16) (omega arith) in
     let low : is_hex_digit (digit_char (b % 16)) ≡ true = hex_char (b % 16) (omega arith) in
     rw (high, low, hex_digits_all bs (more_bytes b bs are)) refl
-
-length-hex_text : (bs : List ℕ) → length (hex_text bs) ≡ 2 * length bs
-length-hex_text [] = refl
-length-hex_text (b ∷ bs) = omega (arith, length-hex_text bs)
 
 hex_bytes-hex_text : (bs : List ℕ) → AreBytes bs → hex_bytes (hex_text bs) ≡ bs
 hex_bytes-hex_text [] are = refl

@@ -1,6 +1,7 @@
 use Rattle.std.proofs.Common.{refl, rules}
 use Rattle.lfs_volume.proofs.OpeningLemmas.{shows_opening_state}
-use Rattle.lfs_audit.proofs.ScriptLemmas.{fresh_log, no_fault}
+use Rattle.lfs_audit.proofs.ScriptLemmas.{fresh_log}
+use Rattle.lfs_server.proofs.ServeLemmas.{no_fault}
 use Rattle.lfs_audit.proofs.run.fresh_volume.Goals as goal
 
 pub new-requires : goal.new-requires

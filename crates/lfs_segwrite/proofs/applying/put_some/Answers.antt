@@ -3,8 +3,8 @@ use Rattle.std.proofs.lemmas.Bool.{cond-false, eqb-false, eqb-true}
 use Rattle.lfs_staging.specs.Putting.{frames_of_put}
 use Rattle.lfs_staging.specs.Files.{content_of}
 use Rattle.lfs_segwrite.proofs.AskedLemmas.{may_change, put_nothing, put_sized, shown_used, some_from}
-use Rattle.lfs_segwrite.proofs.ChangedLemmas.{stays_refl, stays_same}
 use Rattle.lfs_staging.proofs.StagingLemmas.{version-same}
+use Rattle.lfs_staging.proofs.StagedLemmas.{stays-refl, stays_same}
 use Rattle.lfs_segwrite.proofs.applying.put_some.Goals as goal
 
 pub put-requires-clause-may : goal.put-requires-clause-may
@@ -45,7 +45,7 @@ returns-else-not-is_empty c =
       staged = c.requires.staged;
       content_is = sym (put_nothing (content_of c.args.parts.now) c.args.ino c.args.off c.args.bytes.now none);
       versions_are = λ n. refl;
-      log = stays_refl c.args.parts.now;
+      log = stays-refl c.args.parts.now;
       frames_more = omega arith;
       records_more = omega arith;
     }

@@ -4,10 +4,10 @@ use Rattle.lfs_types.specs.declared.store.Change.{Change}
 use Rattle.lfs_bmap.specs.Reading.{address}
 use Rattle.lfs_segwrite.specs.Applying.{StagesChange}
 use Rattle.lfs_segwrite.proofs.AskedLemmas.{kind_same, length_sized, may_change, none_free, shown_used, some_from, used_within}
-use Rattle.lfs_segwrite.proofs.ChangedLemmas.{stays_same}
 use Rattle.lfs_ifile.specs.declared.inode.InodeRow.{InodeRow}
 use Rattle.lfs_ifile.specs.Tables.{row_at}
 use Rattle.lfs_staging.proofs.StagingLemmas.{version-same}
+use Rattle.lfs_staging.proofs.StagedLemmas.{stays_same}
 use Rattle.lfs_segwrite.proofs.applying.stage_change.Goals as goal
 
 pub make-requires-clause-free : goal.make-requires-clause-free

@@ -6,8 +6,8 @@ use Rattle.lfs_staging.specs.Files.{content_of}
 use Rattle.lfs_segwrite.specs.Applying.{versions_after}
 use Rattle.lfs_staging.specs.View.{version_of}
 use Rattle.lfs_segwrite.proofs.BoundLemmas.{record_most}
-use Rattle.lfs_segwrite.proofs.ChangedLemmas.{stays_refl, stays_trans}
 use Rattle.lfs_segwrite.proofs.StepLemmas.{next_applied, next_can, next_peak, next_sum, next_versions, rest_can}
+use Rattle.lfs_staging.proofs.StagedLemmas.{stays-refl, stays-trans}
 use Rattle.lfs_segwrite.proofs.applying.stage_changes.Goals as goal
 
 pub loop-change-init : goal.loop-change-init
@@ -16,7 +16,7 @@ loop-change-init c = record {
   content = refl;
   versions = λ n. refl;
   can = c.requires.can;
-  log = stays_refl c.args.parts.now;
+  log = stays-refl c.args.parts.now;
   frames = omega arith;
   peak = omega arith;
   records = omega arith;
@@ -59,7 +59,7 @@ loop-change-preserved c =
       versions = λ n. ap (versions_after (drop (i + 1) xs) n) (c.stage_change.ensures.versions_are n)
           ∙ next_versions xs i d low c.change-item.is n (version_of old n) ∙ c.loop-change.invariant.versions n;
       can = rest_can xs i d low c.change-item.is _ _ (content_of old) (content_of new) c.loop-change.invariant.can c.stage_change.ensures.log.numbers made;
-      log = stays_trans c.args.parts.now old new c.loop-change.invariant.log c.stage_change.ensures.log;
+      log = stays-trans c.args.parts.now old new c.loop-change.invariant.log c.stage_change.ensures.log;
       frames = omega (arith, c.loop-change.invariant.frames, c.stage_change.ensures.frames_more);
       peak = omega (arith, c.loop-change.invariant.peak, c.stage_change.ensures.frames_more);
       left = omega (arith, c.loop-change.invariant.left, c.stage_change.ensures.records_more);

@@ -5,12 +5,13 @@ use Rattle.lfs_staging.specs.View.{key_of}
 use Rattle.lfs_segwrite.specs.Counting.{AddsKeys}
 use Rattle.lfs_segwrite.specs.Marking.{code_named, codes_to_mark}
 use Rattle.lfs_segwrite.proofs.CountingLemmas.{adds_none}
-use Rattle.lfs_segwrite.proofs.NamedLemmas.{code_named-block, code_named-none, codes-block, codes-none, named_cases, way-most}
+use Rattle.lfs_segwrite.proofs.NamedLemmas.{code_named-block, code_named-none, codes-block, codes-none, named_cases}
+use Rattle.lfs_bmap.proofs.TableLemmas.{block_way_length}
 use Rattle.lfs_segwrite.proofs.counting.KeyList.add_info.Goals as goal
 
 pub add_way-requires-clause-room : goal.add_way-requires-clause-room
 add_way-requires-clause-room c =
-    let most = way-most c.in-Some.block c.in-Some.ensures.found.0 in
+    let most = block_way_length c.in-Some.block c.in-Some.ensures.found.0 in
     let room = c.requires.room in
     omega arith
 
