@@ -1,11 +1,11 @@
 -- How the counts of a journal grow by an entry, and that no number of them is past the journal's length.
-use Rattle.std.proofs.Common.{◌≡◌, ℕ, zero, suc, ◌+◌, ◌-◌, ◌^◌, ◌<◌, ◌≤◌, Bool, true, false, not, ◌&&◌, List, [], ◌∷◌, ◌++◌, length, get_or, map, Some, refl, ap, sym, subst, ◌∙◌, arith, bytes_eq}
+use Rattle.std.proofs.Common.{◌≡◌, ℕ, zero, suc, ◌+◌, ◌-◌, ◌^◌, ◌<◌, ◌≤◌, Bool, true, false, not, ◌&&◌, List, [], ◌∷◌, ◌++◌, length, get_or, map, None, Some, refl, ap, sym, subst, ◌∙◌, arith}
 use Rattle.std.specs.Prelude.{cond, count_by, slice_get, slice_index_or, slice_set}
 use Rattle.std.proofs.lemmas.Bool.{and_parts, not-true}
 use Rattle.std.proofs.lemmas.List.Elements.{All-map}
 use Rattle.std.proofs.lemmas.Slice.Eq.{bytes_eq-Decides}
 use Rattle.std.proofs.lemmas.List.Sums.{count_by-le-length, sum_by_push}
-use Rattle.lfs_model.specs.Counts.{AreFew, count_after, counts_after, counts_of, denials, denials_after, denied_code, is_cleaner, is_denied, is_refused, is_served}
+use Rattle.lfs_model.specs.Counts.{AreFew, count_after, counts_after, counts_of, denials, denials_after, denied_by, is_cleaner, is_denied, is_denied_by, is_refused, is_served, same_rule}
 use Rattle.lfs_model.specs.declared.counts.Counts.{Counts}
 use Rattle.lfs_model.specs.declared.journal.CleanerKind.{CleanerKind}
 use Rattle.lfs_model.specs.declared.journal.CleanerOutcome.{CleanerOutcome}
@@ -34,11 +34,11 @@ count_push p xs x = sum_by_push (λ y. cond (p y) 1 0) xs x ∙ added (p x) (cou
 
 -- the denials by each of a list of rules, with one more entry
 denials_push : (counted : List Rule) (entries : List Entry) (entry : Entry)
-    → map (λ rule. denials rule (entries ++ entry ∷ [])) counted ≡ denials_after (denied_code entry.event) counted (map (λ rule. denials rule entries) counted)
+    → map (λ rule. denials rule (entries ++ entry ∷ [])) counted ≡ denials_after (denied_by entry.event) counted (map (λ rule. denials rule entries) counted)
 denials_push [] entries entry = refl
 denials_push (rule ∷ counted) entries entry =
-    let here : denials rule (entries ++ entry ∷ []) ≡ count_after (bytes_eq (denied_code entry.event) (rule_code rule)) (denials rule entries)
-    = count_push (λ (e : Entry). bytes_eq (denied_code e.event) (rule_code rule)) entries entry in
+    let here : denials rule (entries ++ entry ∷ []) ≡ count_after (is_denied_by rule entry.event) (denials rule entries)
+    = count_push (λ (e : Entry). is_denied_by rule e.event) entries entry in
     rw (here, denials_push counted entries entry) refl
 
 -- the counts with one more entry
@@ -64,78 +64,67 @@ counts_few entries few = record {
   refused = below _ _ (count_by-le-length (λ (e : Entry). is_refused e.event) entries) few;
   cleaner = below _ _ (count_by-le-length (λ (e : Entry). is_cleaner e.event) entries) few;
   rules = All-map (λ number. number < 2 ^ 32 - 1) (λ rule. denials rule entries) rules
-      (λ i d lt. below _ _ (count_by-le-length (λ (e : Entry). bytes_eq (denied_code e.event) (rule_code (get_or rules i d))) entries) few);
+      (λ i d lt. below _ _ (count_by-le-length (λ (e : Entry). is_denied_by (get_or rules i d) e.event) entries) few);
 }
 
--- whether a rule has another code than each of a list
+-- whether a rule is none of a list
 abbrev is_apart : Rule → List Rule → Bool
 is_apart rule [] = true
 is_apart rule (other ∷ others) =
-    (not (bytes_eq (rule_code rule) (rule_code other)) && not (bytes_eq (rule_code other) (rule_code rule))) && is_apart rule others
+    (not (same_rule rule other) && not (same_rule other rule)) && is_apart rule others
 
--- whether no two of a list of rules have the same code
+-- whether no two of a list of rules are the same one
 abbrev are_apart : List Rule → Bool
 are_apart [] = true
 are_apart (rule ∷ others) = is_apart rule others && are_apart others
 
 -- a rule of the list
 apart_at : (rule : Rule) (others : List Rule) (i : ℕ) (other : Rule) → is_apart rule others ≡ true → slice_get others i ≡ Some other
-    → bytes_eq (rule_code other) (rule_code rule) ≡ false
+    → same_rule other rule ≡ false
 apart_at rule [] i other apart at = absurd (cc)
 apart_at rule (o ∷ others) zero other apart at =
     let e : o ≡ other = cc in
-    subst (λ r. bytes_eq (rule_code r) (rule_code rule) ≡ false) e
+    subst (λ r. same_rule r rule ≡ false) e
     (not-true _ (and_parts _ _ (and_parts _ _ apart).0).1)
 apart_at rule (o ∷ others) (suc i) other apart at = apart_at rule others i other (and_parts _ _ apart).1 at
 
--- a code that no rule of the list has
+-- a denial by a rule that no rule of the list is
 none_denied : (rule : Rule) (others : List Rule) (numbers : List ℕ) → is_apart rule others ≡ true → length numbers ≡ length others
-    → denials_after (rule_code rule) others numbers ≡ numbers
+    → denials_after (Some rule) others numbers ≡ numbers
 none_denied rule [] [] apart e = refl
 none_denied rule [] (n ∷ numbers) apart e = absurd (omega (arith, e))
 none_denied rule (o ∷ others) [] apart e = absurd (omega (arith, e))
 none_denied rule (o ∷ others) (n ∷ numbers) apart e =
-    let here : bytes_eq (rule_code rule) (rule_code o) ≡ false = not-true _ (and_parts _ _ (and_parts _ _ apart).0).0 in
-    let behind : denials_after (rule_code rule) others numbers ≡ numbers = none_denied rule others numbers (and_parts _ _ apart).1 (omega (arith, e)) in
+    let here : same_rule rule o ≡ false = not-true _ (and_parts _ _ (and_parts _ _ apart).0).0 in
+    let behind : denials_after (Some rule) others numbers ≡ numbers = none_denied rule others numbers (and_parts _ _ apart).1 (omega (arith, e)) in
     rw (here, behind) refl
 
 -- a rule's number is one more, where the rule stands in the list once
 counted_at : (counted : List Rule) (numbers : List ℕ) (i : ℕ) (rule : Rule) → are_apart counted ≡ true → length numbers ≡ length counted
-    → slice_get counted i ≡ Some rule → slice_set numbers i (slice_index_or numbers i 0 + 1) ≡ denials_after (rule_code rule) counted numbers
+    → slice_get counted i ≡ Some rule → slice_set numbers i (slice_index_or numbers i 0 + 1) ≡ denials_after (Some rule) counted numbers
 counted_at [] numbers i rule apart e at = absurd (cc)
 counted_at (r ∷ counted) [] i rule apart e at = absurd (omega (arith, e))
 counted_at (r ∷ counted) (n ∷ numbers) zero rule apart e at =
     let same : r ≡ rule = cc in
-    let here : bytes_eq (rule_code r) (rule_code r) ≡ true = (bytes_eq-Decides (rule_code r) (rule_code r)).1 refl in
-    let behind : denials_after (rule_code r) counted numbers ≡ numbers = none_denied r counted numbers (and_parts _ _ apart).0 (omega (arith, e)) in
-    subst (λ x. (n + 1) ∷ numbers ≡ denials_after (rule_code x) (r ∷ counted) (n ∷ numbers)) same (rw (here, behind) refl)
+    let here : same_rule r r ≡ true = (bytes_eq-Decides (rule_code r) (rule_code r)).1 refl in
+    let behind : denials_after (Some r) counted numbers ≡ numbers = none_denied r counted numbers (and_parts _ _ apart).0 (omega (arith, e)) in
+    subst (λ x. (n + 1) ∷ numbers ≡ denials_after (Some x) (r ∷ counted) (n ∷ numbers)) same (rw (here, behind) refl)
 counted_at (r ∷ counted) (n ∷ numbers) (suc i) rule apart e at =
-    let here : bytes_eq (rule_code rule) (rule_code r) ≡ false = apart_at r counted i rule (and_parts _ _ apart).0 at in
-    let behind : slice_set numbers i (slice_index_or numbers i 0 + 1) ≡ denials_after (rule_code rule) counted numbers
+    let here : same_rule rule r ≡ false = apart_at r counted i rule (and_parts _ _ apart).0 at in
+    let behind : slice_set numbers i (slice_index_or numbers i 0 + 1) ≡ denials_after (Some rule) counted numbers
     = counted_at counted numbers i rule (and_parts _ _ apart).1 (omega (arith, e)) at in
     rw (here, behind) refl
 
 -- a denial by a rule, in the order of all
 pub denial_counted : (numbers : List ℕ) (i : ℕ) (rule : Rule) → length numbers ≡ 20 → slice_get rules i ≡ Some rule
-    → slice_set numbers i (slice_index_or numbers i 0 + 1) ≡ denials_after (rule_code rule) rules numbers
+    → slice_set numbers i (slice_index_or numbers i 0 + 1) ≡ denials_after (Some rule) rules numbers
 denial_counted numbers i rule e at = counted_at rules numbers i rule refl e at
 
--- a code that no rule has
-abbrev is_none : List ℕ → List Rule → Bool
-is_none code [] = true
-is_none code (rule ∷ others) = not (bytes_eq code (rule_code rule)) && is_none code others
-
-uncounted_by : (code : List ℕ) (counted : List Rule) (numbers : List ℕ) → is_none code counted ≡ true → denials_after code counted numbers ≡ numbers
-uncounted_by code [] numbers none = refl
-uncounted_by code (r ∷ counted) [] none = refl
-uncounted_by code (r ∷ counted) (n ∷ numbers) none =
-    let here : bytes_eq code (rule_code r) ≡ false = not-true _ (and_parts _ _ none).0 in
-    let behind : denials_after code counted numbers ≡ numbers = uncounted_by code counted numbers (and_parts _ _ none).1 in
-    rw (here, behind) refl
-
 -- no denial
-none_counted : (numbers : List ℕ) → denials_after [] rules numbers ≡ numbers
-none_counted numbers = uncounted_by [] rules numbers refl
+none_counted : (counted : List Rule) (numbers : List ℕ) → denials_after None counted numbers ≡ numbers
+none_counted [] numbers = refl
+none_counted (r ∷ counted) [] = refl
+none_counted (r ∷ counted) (n ∷ numbers) = ap (λ xs. n ∷ xs) (none_counted counted numbers)
 
 -- counts behind a user's call that was served, denied and refused
 pub served_counted : (c : Counts) (request : Request) (given : Answer) (shown : Served) → given ≡ answer.Served shown
@@ -143,10 +132,10 @@ pub served_counted : (c : Counts) (request : Request) (given : Answer) (shown : 
 unfolding is_served is_denied is_refused is_cleaner
 served_counted c request given shown e =
     subst (λ x. record { served = c.served + 1; denied = c.denied; refused = c.refused; cleaner = c.cleaner; rules = c.rules } ≡ counts_after (User request x) c) (sym e)
-    (ap (λ (xs : List ℕ). record { served = c.served + 1; denied = c.denied; refused = c.refused; cleaner = c.cleaner; rules = xs }) (sym (none_counted c.rules)))
+    (ap (λ (xs : List ℕ). record { served = c.served + 1; denied = c.denied; refused = c.refused; cleaner = c.cleaner; rules = xs }) (sym (none_counted rules c.rules)))
 
 pub denied_counted : (c : Counts) (request : Request) (given : Answer) (denial : Denial) (numbers : List ℕ) → given ≡ answer.Denied denial
-    → numbers ≡ denials_after (rule_code denial.rule) rules c.rules
+    → numbers ≡ denials_after (Some denial.rule) rules c.rules
     → record { served = c.served; denied = c.denied + 1; refused = c.refused; cleaner = c.cleaner; rules = numbers } ≡ counts_after (User request given) c
 unfolding is_served is_denied is_refused is_cleaner
 denied_counted c request given denial numbers e counted =
@@ -158,11 +147,11 @@ pub refused_counted : (c : Counts) (request : Request) (given : Answer) (resourc
 unfolding is_served is_denied is_refused is_cleaner
 refused_counted c request given resource e =
     subst (λ x. record { served = c.served; denied = c.denied; refused = c.refused + 1; cleaner = c.cleaner; rules = c.rules } ≡ counts_after (User request x) c) (sym e)
-    (ap (λ (xs : List ℕ). record { served = c.served; denied = c.denied; refused = c.refused + 1; cleaner = c.cleaner; rules = xs }) (sym (none_counted c.rules)))
+    (ap (λ (xs : List ℕ). record { served = c.served; denied = c.denied; refused = c.refused + 1; cleaner = c.cleaner; rules = xs }) (sym (none_counted rules c.rules)))
 
 -- counts behind a cleaner's call that was denied, did nothing or is done
 pub cleaner_denied_counted : (c : Counts) (kind : CleanerKind) (came : CleanerOutcome) (numbers : List ℕ) → came ≡ outcome.Denied
-    → numbers ≡ denials_after (rule_code IsSuperuser) rules c.rules
+    → numbers ≡ denials_after (Some IsSuperuser) rules c.rules
     → record { served = c.served; denied = c.denied; refused = c.refused; cleaner = c.cleaner + 1; rules = numbers } ≡ counts_after (Cleaner kind came) c
 unfolding is_served is_denied is_refused is_cleaner
 cleaner_denied_counted c kind came numbers e counted =
@@ -174,11 +163,11 @@ pub fault_counted : (c : Counts) (kind : CleanerKind) (came : CleanerOutcome) (f
 unfolding is_served is_denied is_refused is_cleaner
 fault_counted c kind came fault e =
     subst (λ x. record { served = c.served; denied = c.denied; refused = c.refused; cleaner = c.cleaner + 1; rules = c.rules } ≡ counts_after (Cleaner kind x) c) (sym e)
-    (ap (λ (xs : List ℕ). record { served = c.served; denied = c.denied; refused = c.refused; cleaner = c.cleaner + 1; rules = xs }) (sym (none_counted c.rules)))
+    (ap (λ (xs : List ℕ). record { served = c.served; denied = c.denied; refused = c.refused; cleaner = c.cleaner + 1; rules = xs }) (sym (none_counted rules c.rules)))
 
 pub done_counted : (c : Counts) (kind : CleanerKind) (came : CleanerOutcome) (number : ℕ) → came ≡ outcome.Done number
     → record { served = c.served; denied = c.denied; refused = c.refused; cleaner = c.cleaner + 1; rules = c.rules } ≡ counts_after (Cleaner kind came) c
 unfolding is_served is_denied is_refused is_cleaner
 done_counted c kind came number e =
     subst (λ x. record { served = c.served; denied = c.denied; refused = c.refused; cleaner = c.cleaner + 1; rules = c.rules } ≡ counts_after (Cleaner kind x) c) (sym e)
-    (ap (λ (xs : List ℕ). record { served = c.served; denied = c.denied; refused = c.refused; cleaner = c.cleaner + 1; rules = xs }) (sym (none_counted c.rules)))
+    (ap (λ (xs : List ℕ). record { served = c.served; denied = c.denied; refused = c.refused; cleaner = c.cleaner + 1; rules = xs }) (sym (none_counted rules c.rules)))

@@ -1,5 +1,6 @@
 -- How the calls of a journal were answered: what each number of them counts.
-use Rattle.std.specs.Prelude.{ℕ, ◌+◌, ◌-◌, ◌<◌, ◌^◌, All, Bool, true, false, List, [], ◌∷◌, count_by, if◌then◌else◌, map}
+use Rattle.std.specs.Prelude.{ℕ, ◌+◌, ◌-◌, ◌<◌, ◌^◌, All, Bool, true, false, List, [], ◌∷◌, Option, None, Some, count_by, if◌then◌else◌, map}
+use Rattle.std.specs.Option.{option_eq}
 use Rattle.std.specs.Str.{bytes_eq}
 use Rattle.lfs_model.specs.declared.counts.Counts.{Counts}
 use Rattle.lfs_model.specs.declared.journal.CleanerOutcome.TheVariants as outcome
@@ -37,18 +38,26 @@ unfoldable pub is_cleaner : Event → Bool
 is_cleaner (User request given) = false
 is_cleaner (Cleaner kind done) = true
 
--- the code of the rule that denied a call, a user's or a cleaner's
-abbrev pub denied_code : Event → List ℕ
-denied_code (User request (answer.Served served)) = []
-denied_code (User request (answer.Denied denial)) = rule_code denial.rule
-denied_code (User request (answer.Refused resource)) = []
-denied_code (Cleaner kind outcome.Denied) = rule_code IsSuperuser
-denied_code (Cleaner kind (outcome.Fault fault)) = []
-denied_code (Cleaner kind (outcome.Done number)) = []
+-- the rule that denied a call, a user's or a cleaner's
+abbrev pub denied_by : Event → Option Rule
+denied_by (User request (answer.Served served)) = None
+denied_by (User request (answer.Denied denial)) = Some denial.rule
+denied_by (User request (answer.Refused resource)) = None
+denied_by (Cleaner kind outcome.Denied) = Some IsSuperuser
+denied_by (Cleaner kind (outcome.Fault fault)) = None
+denied_by (Cleaner kind (outcome.Done number)) = None
+
+-- whether two rules are the same one: each has a code of its own
+abbrev pub same_rule : Rule → Rule → Bool
+same_rule rule other = bytes_eq (rule_code rule) (rule_code other)
+
+-- whether it is this rule that denied a call
+abbrev pub is_denied_by : Rule → Event → Bool
+is_denied_by rule event = option_eq same_rule (denied_by event) (Some rule)
 
 -- how many calls a rule denied
 abbrev pub denials : Rule → List Entry → ℕ
-denials rule entries = count_by (λ entry. bytes_eq (denied_code entry.event) (rule_code rule)) entries
+denials rule entries = count_by (λ entry. is_denied_by rule entry.event) entries
 
 -- the counts over a journal
 abbrev pub counts_of : List Entry → Counts
@@ -64,12 +73,12 @@ counts_of entries = record {
 abbrev pub count_after : Bool → ℕ → ℕ
 count_after met number = if met then number + 1 else number
 
--- the numbers of denials by a list of rules, once a denial by the rule of this code is counted too
-abbrev pub denials_after : List ℕ → List Rule → List ℕ → List ℕ
-denials_after code [] numbers = numbers
-denials_after code (rule ∷ others) [] = []
-denials_after code (rule ∷ others) (number ∷ numbers) =
-    count_after (bytes_eq code (rule_code rule)) number ∷ denials_after code others numbers
+-- the numbers of denials by a list of rules, once a denial is counted too, by a rule or by none
+abbrev pub denials_after : Option Rule → List Rule → List ℕ → List ℕ
+denials_after denied [] numbers = numbers
+denials_after denied (rule ∷ others) [] = []
+denials_after denied (rule ∷ others) (number ∷ numbers) =
+    count_after (option_eq same_rule denied (Some rule)) number ∷ denials_after denied others numbers
 
 -- counts, once an event is counted too
 abbrev pub counts_after : Event → Counts → Counts
@@ -78,7 +87,7 @@ counts_after event counts = record {
   denied = count_after (is_denied event) counts.denied;
   refused = count_after (is_refused event) counts.refused;
   cleaner = count_after (is_cleaner event) counts.cleaner;
-  rules = denials_after (denied_code event) rules counts.rules;
+  rules = denials_after (denied_by event) rules counts.rules;
 }
 
 -- each number has one above it that fits 32 bits

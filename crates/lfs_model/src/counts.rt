@@ -1,7 +1,7 @@
 //! How many calls were served, denied and refused, how many the cleaner made, and how often each rule denied one.
 
-ghost use Rattle.std.specs.Prelude.{◌≡◌, ◌-◌, ◌<◌, ◌^◌, [], All};
-ghost use Rattle.lfs_types.specs.RuleCodes.{rule_code, rules};
+ghost use Rattle.std.specs.Prelude.{◌≡◌, ◌-◌, ◌<◌, ◌^◌, [], All, Some};
+ghost use Rattle.lfs_types.specs.RuleCodes.{rules};
 ghost use Rattle.lfs_model.specs.Counts.{AreFew, counts_after, counts_of, denials_after};
 
 use crate::journal::{CleanerKind, CleanerOutcome, Event};
@@ -80,7 +80,7 @@ impl Counts {
 /// Counts one more denial by a rule.
 fn count_denial(numbers: &mut [u32; 20], rule: Rule)
     requires few { All (λ number. number < 2 ^ 32 - 1) numbers.old }
-    ensures { numbers.new ≡ denials_after (rule_code rule) rules numbers.old }
+    ensures { numbers.new ≡ denials_after (Some rule) rules numbers.old }
 {
     numbers[rule.place()] += 1;
 }

@@ -1,8 +1,7 @@
 -- The report over a journal.
 use Rattle.std.specs.Prelude.{ℕ, ◌+◌, ◌==◌, Bool, List, [], ◌∷◌, ◌++◌, codes, count_by, decimal, length, if◌then◌else◌}
 use Rattle.std.specs.List.{flat_map, zip}
-use Rattle.std.specs.Str.{bytes_eq}
-use Rattle.lfs_model.specs.Counts.{denials, denied_code, is_cleaner, is_denied, is_refused, is_served}
+use Rattle.lfs_model.specs.Counts.{denials, is_cleaner, is_denied, is_denied_by, is_refused, is_served}
 use Rattle.lfs_model.specs.declared.counts.Counts.{Counts}
 use Rattle.lfs_model.specs.declared.journal.Entry.{Entry}
 use Rattle.lfs_model.specs.declared.journal.Event.{Event}
@@ -17,7 +16,7 @@ is_counted counted.Served event = is_served event
 is_counted counted.Denied event = is_denied event
 is_counted counted.Refused event = is_refused event
 is_counted counted.Cleaner event = is_cleaner event
-is_counted (counted.DeniedBy rule) event = bytes_eq (denied_code event) (rule_code rule)
+is_counted (counted.DeniedBy rule) event = is_denied_by rule event
 
 -- a line of a word and a number
 unfoldable pub count_line : List ℕ → ℕ → List ℕ

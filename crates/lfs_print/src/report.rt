@@ -2,7 +2,7 @@
 
 ghost use Rattle.std.specs.Prelude.{◌≡◌, ◌+◌, List, ◌++◌, count_by, length, IfOk, OnOk};
 ghost use Rattle.std.specs.List.{flat_map, zip};
-ghost use Rattle.lfs_model.specs.Counts.{counts_of, denied_code, is_cleaner, is_denied, is_refused, is_served};
+ghost use Rattle.lfs_model.specs.Counts.{counts_of, denied_by, is_cleaner, is_denied, is_refused, is_served};
 ghost use Rattle.lfs_print.specs.ReportText.{count_line, counts_text, denials_line, is_counted, report_text, rule_line, users_lines};
 
 use crate::print::end_line;
@@ -169,19 +169,19 @@ impl Counted {
             Counted::Denied => is_denied(event),
             Counted::Refused => is_refused(event),
             Counted::Cleaner => is_cleaner(event),
-            Counted::DeniedBy(rule) => denied_code(event) == rule.code(),
+            Counted::DeniedBy(rule) => denied_by(event) == Some(rule),
         }
     }
 }
 
-/// The code of the rule that denied a call.
-fn denied_code(event: &Event) -> &'static str
-    ensures { result.now ≡ denied_code event.now }
+/// The rule that denied a call.
+fn denied_by(event: &Event) -> Option<Rule>
+    ensures { result ≡ denied_by event.now }
 {
     match event {
-        Event::User(_, Answer::Denied(denial)) => denial.rule.code(),
-        Event::Cleaner(_, CleanerOutcome::Denied) => Rule::IsSuperuser.code(),
-        Event::User(..) | Event::Cleaner(..) => "",
+        Event::User(_, Answer::Denied(denial)) => Some(denial.rule),
+        Event::Cleaner(_, CleanerOutcome::Denied) => Some(Rule::IsSuperuser),
+        Event::User(..) | Event::Cleaner(..) => None,
     }
 }
 
