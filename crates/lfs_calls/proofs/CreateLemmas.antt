@@ -20,7 +20,7 @@ use Rattle.lfs_calls.specs.declared.walking.Reached.{Reached}
 use Rattle.lfs_model.specs.World.{children, IsTree, file_at}
 use Rattle.lfs_model.specs.Rules.{front, last, reached}
 use Rattle.lfs_model.specs.Effects.{new_file, with_new, least_unused}
-use Rattle.lfs_calls.specs.Content.{Shows, ListsRows, FitsNowhere, KeepsOthers, block_at, listed}
+use Rattle.lfs_calls.specs.Content.{Shows, ListsRows, FitsNowhere, KeepsOthers, block_at, all_entries}
 use Rattle.lfs_calls.specs.Makes.{CanEnter, EntersFirst, IsBlockOf, IsParent, IsRoom, ListsFirst, MakesFile}
 use Rattle.lfs_calls.specs.Names.{FindsNew, IsFound}
 use Rattle.lfs_model.specs.Steps.{AllUsed}
@@ -30,7 +30,7 @@ use Rattle.lfs_calls.proofs.Directories.{dir_file, dir_stored, file_kind, file_l
 use Rattle.lfs_model.proofs.Grown.{IsTree-grown}
 use Rattle.lfs_calls.proofs.GrownStore.{Shows-grown}
 use Rattle.lfs_calls.proofs.ListedNames.{directory_still, found_now, found_still}
-use Rattle.lfs_calls.proofs.Listings.{IsListing-added, absent_at_first}
+use Rattle.lfs_calls.proofs.Listings.{ListsRows-added, absent_at_first}
 use Rattle.lfs_calls.proofs.MakeLemmas.{grown_length, least_unused-is}
 use Rattle.lfs_types.proofs.Maps.{get-insert_other}
 use Rattle.lfs_types.proofs.Pieces.{put_over, splice-put_over}
@@ -54,7 +54,7 @@ module _ {c : Content} {w : World} (shows : Shows c w) {path : List (List ℕ)} 
   dir_bytes = file_bytes shows dir.number dir.attrs is.shown is.directory
 
   -- the directory doesn't list the name
-  pub dir_free : number_in (last path) (listed (bytes_of c dir.number)) ≡ None
+  pub dir_free : number_in (last path) (all_entries (bytes_of c dir.number)) ≡ None
   dir_free = child_listed c w shows dir.number dir.attrs is.shown is.directory (last path) ∙ is.free
 
   -- the name may get an entry
@@ -65,7 +65,7 @@ module _ {c : Content} {w : World} (shows : Shows c w) {path : List (List ℕ)} 
     stands = tt;
     blocks = (bytes_listing shows dir.number dir.attrs is.shown is.directory).blocks;
     above = above;
-    free = ap (λ n. number_in n (listed (bytes_of c dir.number))) same ∙ dir_free;
+    free = ap (λ n. number_in n (all_entries (bytes_of c dir.number))) same ∙ dir_free;
   }
 
   -- a new row of an unused number
@@ -133,7 +133,7 @@ module _ {c : Content} {w : World} (shows : Shows c w) {path : List (List ℕ)} 
           let put : splice f.file.bytes room.off room.block ≡ put_over f.file.bytes (512 * k) room.block =
           splice-put_over f.file.bytes room.off room.block (omega (arith, room_size)) room_within ∙ ap (λ n. put_over f.file.bytes n room.block) fits.off in
           subst (ListsRows (map.insert w.rows number new_row) dir.number) (sym put)
-          (IsListing-added f.file.bytes k room.block room_size dir_length.1 at_file.within w.rows (map.insert w.rows number new_row) dir.number number (last path)
+          (ListsRows-added f.file.bytes k room.block room_size dir_length.1 at_file.within w.rows (map.insert w.rows number new_row) dir.number number (last path)
           (shows.listings dir.number f.file f.stored dir_kind) at_file.block at_file.adds entry_is is.free
           (child-new w.rows number new_row absent below is.free tree.unique)
           (λ q other. child-new_other w.rows number new_row absent below is.free tree.unique dir.number q (λ _ same. other (sym same))))
@@ -169,7 +169,7 @@ module _ {c : Content} {w : World} (shows : Shows c w) {path : List (List ℕ)} 
           }
         where
           found_in_new : (d : ℕ) (x : List ℕ) (found : Option ℕ) → d ≡ number → map.get c d ≡ None → map.get after d ≡ Some file → file.bytes ≡ [] → IsFound c d x found → IsFound after d x found
-          found_in_new d x None e free made empty none = λ _. ap (λ o. number_in x (listed (bytes_of_file o))) made ∙ ap (λ bs. number_in x (listed bs)) empty ∙ absent_at_first x []
+          found_in_new d x None e free made empty none = λ _. ap (λ o. number_in x (all_entries (bytes_of_file o))) made ∙ ap (λ bs. number_in x (all_entries bs)) empty ∙ absent_at_first x []
           found_in_new d x (Some m) e free made empty lists =
               let used = some_and (map.get c d) (λ (g : File). g.kind ≡ Directory) lists.directory in
               let there = used.is in

@@ -13,7 +13,7 @@ use Rattle.lfs_dirs.specs.Changes.{AreEntries-distinct, number_in-Contains, used
 use Rattle.lfs_dirs.specs.Directory.{Entry, used_of}
 use Rattle.lfs_dirs.specs.Reading.{entries_of}
 use Rattle.lfs_model.specs.World.{Rows, child, children, IsChild}
-use Rattle.lfs_calls.specs.Content.{block_at, entries_below, listed, ListsRows, left_of, FitsNowhere}
+use Rattle.lfs_calls.specs.Content.{block_at, entries_below, all_entries, ListsRows, left_of, FitsNowhere}
 use Rattle.lfs_model.proofs.Children.{child-is}
 use Rattle.lfs_types.specs.declared.limits.TheConstants.{FILE_BLOCKS}
 use Rattle.lfs_model.proofs.Members.{number_eq-Decides, children-has}
@@ -45,15 +45,15 @@ named_once rows parent p q m n c d same =
 
 module _ (rows : Rows) (parent : ℕ) (bytes : List ℕ) (is : ListsRows rows parent bytes) where
   -- an entry's number is that of the row that hangs there under its name
-  listed-child : All (λ (e : Entry). child rows parent e.1 ≡ Some e.0) (listed bytes)
+  listed-child : All (λ (e : Entry). child rows parent e.1 ≡ Some e.0) (all_entries bytes)
   listed-child k d within =
-      let e = get_or (listed bytes) k d in
-      sym (is.names e.1) ∙ number_in-Contains e (listed bytes) is.distinct (Contains-get_or (listed bytes) k d within)
+      let e = get_or (all_entries bytes) k d in
+      sym (is.names e.1) ∙ number_in-Contains e (all_entries bytes) is.distinct (Contains-get_or (all_entries bytes) k d within)
 
   -- no two entries have one number
-  listed-apart : AllPairs (λ (m n : ℕ). m ≢ n) (keys_of (listed bytes))
+  listed-apart : AllPairs (λ (m n : ℕ). m ≢ n) (keys_of (all_entries bytes))
   listed-apart i j d before within = λ same.
-      let es = listed bytes in
+      let es = all_entries bytes in
       let inside : j < length es = omega (arith, length-keys_of es) in
       let e = get_or es i (d, bytes) in
       let f = get_or es j (d, bytes) in
@@ -66,12 +66,12 @@ module _ (rows : Rows) (parent : ℕ) (bytes : List ℕ) (is : ListsRows rows pa
       (sym number_e ∙ same ∙ number_f))
 
   -- a directory lists no more entries than rows hang there
-  pub listed-le-children : length (listed bytes) ≤ length (children rows parent)
+  pub listed-le-children : length (all_entries bytes) ≤ length (children rows parent)
   listed-le-children =
-      let each = All-map (Contains (children rows parent)) (λ (e : Entry). e.0) (listed bytes)
-      (λ k d within. let e = get_or (listed bytes) k d in children-has rows parent e.1 e.0 (child-is rows parent e.1 e.0 (listed-child k d within))) in
-      let fewer = length-le_from_apart (keys_of (listed bytes)) (children rows parent) listed-apart each in
-      omega (arith, length-keys_of (listed bytes), fewer)
+      let each = All-map (Contains (children rows parent)) (λ (e : Entry). e.0) (all_entries bytes)
+      (λ k d within. let e = get_or (all_entries bytes) k d in children-has rows parent e.1 e.0 (child-is rows parent e.1 e.0 (listed-child k d within))) in
+      let fewer = length-le_from_apart (keys_of (all_entries bytes)) (children rows parent) listed-apart each in
+      omega (arith, length-keys_of (all_entries bytes), fewer)
 
 -- a block has no more bytes of entries once a name was taken away
 used_of-left_le : (taken : Option (List ℕ)) (es : List Entry) → used_of (left_of taken es) ≤ used_of es
@@ -85,5 +85,5 @@ crowded rows parent bytes taken name is nowhere short =
     let many = entries_below-many bytes FILE_BLOCKS (λ k below.
     entries-where_full (entries_of (block_at bytes k)) (length name) short (omega (arith, nowhere.full k below, used_of-left_le taken (entries_of (block_at bytes k))))) in
     let fewer = listed-le-children rows parent bytes is in
-    let all : FILE_BLOCKS ≤ length (listed bytes) = subst (λ m. FILE_BLOCKS ≤ length (entries_below bytes m)) (sym count) many in
+    let all : FILE_BLOCKS ≤ length (all_entries bytes) = subst (λ m. FILE_BLOCKS ≤ length (entries_below bytes m)) (sym count) many in
     omega (arith, all, fewer)

@@ -9,7 +9,7 @@ use Rattle.lfs_types.specs.Tree.{File, World, Content}
 use Rattle.lfs_types.specs.declared.attrs.Attrs.{Attrs}
 use Rattle.lfs_types.specs.declared.attrs.Kind.TheVariants.{Directory}
 use Rattle.lfs_dirs.specs.Directory.{number_in}
-use Rattle.lfs_calls.specs.Content.{HasBlocks, IsDirectoryAt, Shows, ListsRows, listed}
+use Rattle.lfs_calls.specs.Content.{HasBlocks, IsDirectoryAt, Shows, ListsRows, all_entries}
 use Rattle.lfs_calls.specs.Removes.{ListsName}
 use Rattle.lfs_types.proofs.Somewhere.{is_some_and, present}
 use Rattle.lfs_types.specs.declared.limits.TheConstants.{FILE_BYTES}
@@ -65,5 +65,5 @@ module _ {c : Content} {w : World} (shows : Shows c w) (n : ℕ) (a : Attrs) (sh
   bytes_listing = subst (ListsRows w.rows n) (sym file_bytes) (shows.listings n dir_file.file dir_file.stored file_kind)
 
   -- it lists a name whose number it has
-  pub lists_name : (name : List ℕ) → IsSome (number_in name (listed (bytes_of c n))) → ListsName c n a.size name
+  pub lists_name : (name : List ℕ) → IsSome (number_in name (all_entries (bytes_of c n))) → ListsName c n a.size name
   lists_name name found = record { stored = dir_stored; bounded = size_bounded; blocks = bytes_listing.blocks; listed = found }

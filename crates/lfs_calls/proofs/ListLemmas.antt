@@ -21,7 +21,7 @@ use Rattle.lfs_calls.specs.declared.walking.Reached.{Reached}
 use Rattle.lfs_model.specs.World.{Rows, IsTree}
 use Rattle.lfs_model.specs.Rules.{reached}
 use Rattle.lfs_model.specs.Effects.{answer_of, in_byte_order, names_in}
-use Rattle.lfs_calls.specs.Content.{block_at, entries_below, listed, ListsRows, Shows}
+use Rattle.lfs_calls.specs.Content.{block_at, entries_below, all_entries, ListsRows, Shows}
 use Rattle.lfs_model.proofs.ByteOrder.{same_name, same_name-Decides, sorted-is-in_byte_order}
 use Rattle.lfs_model.proofs.Children.{IsUnique, child-is, child-answer}
 use Rattle.lfs_calls.proofs.Directories.{bytes_listing}
@@ -41,26 +41,26 @@ no_names_at_first bytes = refl
 
 module _ (rows : Rows) (parent : ℕ) (bytes : List ℕ) (is : ListsRows rows parent bytes) (unique : IsUnique rows) where
   abbrev names : List (List ℕ)
-  names = map (λ (e : Entry). e.1) (listed bytes)
+  names = map (λ (e : Entry). e.1) (all_entries bytes)
 
   names-apart : AllPairs (λ (p q : List ℕ). p ≢ q) names
   names-apart i j d before within = λ same.
-      let es = listed bytes in
+      let es = all_entries bytes in
       let inside : j < length es = omega (arith, length-map es (λ (e : Entry). e.1)) in
       AreEntries-distinct es is.distinct i j (0, d) before inside
       (sym (get_or-map (λ (e : Entry). e.1) es i (0, d) d (omega arith)) ∙ same ∙ get_or-map (λ (e : Entry). e.1) es j (0, d) d inside)
 
   names-hang : (q : List ℕ) → Contains names q → Contains (names_in rows parent) q
   names-hang q c =
-      let from = Contains-from_map (λ (e : Entry). e.1) (listed bytes) (0, q) q c in
-      let found = sym (is.names from.0.1) ∙ number_in-Contains from.0 (listed bytes) is.distinct from.1 in
+      let from = Contains-from_map (λ (e : Entry). e.1) (all_entries bytes) (0, q) q c in
+      let found = sym (is.names from.0.1) ∙ number_in-Contains from.0 (all_entries bytes) is.distinct from.1 in
       subst (Contains (names_in rows parent)) from.2 (names_in-has rows parent from.0.1 from.0.0 (child-is rows parent from.0.1 from.0.0 found))
 
   names-listed : (q : List ℕ) → Contains (names_in rows parent) q → Contains names q
   names-listed q c =
       let hangs = names_in-hang rows parent q c in
       let found = is.names q ∙ child-answer rows unique parent q (Some hangs.0) hangs.1 in
-      Contains-map (λ (e : Entry). e.1) (listed bytes) (hangs.0, q) (Contains-number_in q hangs.0 (listed bytes) found)
+      Contains-map (λ (e : Entry). e.1) (all_entries bytes) (hangs.0, q) (Contains-number_in q hangs.0 (all_entries bytes) found)
 
   -- the listed names, when they are sorted, are those of the rows in byte order
   pub names_sorted : (sorted : List (List ℕ)) → IsPermutation names sorted → IsSorted (slice_cmp nat_cmp) sorted → sorted ≡ in_byte_order (names_in rows parent)
@@ -76,7 +76,7 @@ module _ (rows : Rows) (parent : ℕ) (bytes : List ℕ) (is : ListsRows rows pa
 -- it shows the listed names, sorted
 pub list_answer : (c : Content) (w : World) → Shows c w → IsTree w.rows → (path : List (List ℕ)) (dir : Reached)
     → reached w.rows root path ≡ dir.number → Some dir.attrs ≡ shown_attrs c dir.number → is_directory_kind dir.attrs.kind ≡ true
-    → (sorted : List (List ℕ)) → IsPermutation (map (λ (e : Entry). e.1) (listed (bytes_of c dir.number))) sorted → IsSorted (slice_cmp nat_cmp) sorted
+    → (sorted : List (List ℕ)) → IsPermutation (map (λ (e : Entry). e.1) (all_entries (bytes_of c dir.number))) sorted → IsSorted (slice_cmp nat_cmp) sorted
     → served.Names sorted ≡ answer_of w (Names path)
 list_answer c w shows tree path dir object shown directory sorted moved order =
     ap served.Names (names_sorted w.rows dir.number (bytes_of c dir.number) (bytes_listing shows dir.number dir.attrs shown directory) tree.unique sorted moved order)

@@ -12,7 +12,7 @@ use Rattle.lfs_types.specs.declared.attrs.Kind.TheVariants.{File as Regular, Dir
 use Rattle.lfs_dirs.specs.Directory.{number_in}
 use Rattle.lfs_model.specs.World.{child}
 use Rattle.lfs_calls.specs.Attributes.{SetsAttrs}
-use Rattle.lfs_calls.specs.Content.{IsDirectoryAt, Shows, listed, visible}
+use Rattle.lfs_calls.specs.Content.{IsDirectoryAt, Shows, all_entries, visible}
 use Rattle.lfs_calls.specs.Names.{IsFound, KeepsNames, Lists}
 use Rattle.lfs_calls.specs.Removes.{IsChildless}
 use Rattle.lfs_calls.specs.Writes.{ChangesBytes}
@@ -20,7 +20,7 @@ use Rattle.lfs_types.proofs.Somewhere.{some_and, is_some_and}
 use Rattle.lfs_calls.proofs.StepLemmas.{shown_file, stored_regular}
 
 -- a directory lists what is found
-pub is_found : (c : Content) (d : ℕ) (name : List ℕ) (found : Option ℕ) → IsDirectoryAt c d → IsFound c d name found → number_in name (listed (bytes_of c d)) ≡ found
+pub is_found : (c : Content) (d : ℕ) (name : List ℕ) (found : Option ℕ) → IsDirectoryAt c d → IsFound c d name found → number_in name (all_entries (bytes_of c d)) ≡ found
 is_found c d name None is none = none is
 is_found c d name (Some number) is lists = lists.listed
 
@@ -41,10 +41,10 @@ same_number old new kept d directory =
 keeps_files : (old new : Content) → AreIn old new → AreIn new old → KeepsNames old new
 keeps_files old new there back d name None none = λ is.
     let was = same_number new old back d is in
-    ap (λ bs. number_in name (listed bs)) (sym was.1) ∙ none was.0
+    ap (λ bs. number_in name (all_entries bs)) (sym was.1) ∙ none was.0
 keeps_files old new there back d name (Some number) lists =
     let is = same_number old new there d lists.directory in
-    record { directory = is.0; listed = ap (λ bs. number_in name (listed bs)) is.1 ∙ lists.listed }
+    record { directory = is.0; listed = ap (λ bs. number_in name (all_entries bs)) is.1 ∙ lists.listed }
 
 -- so where attributes are set
 pub attrs_keep_names : (old new : Content) (n : ℕ) (attrs : Attrs) → IsSomeAnd (map.get old n) (λ f. f.kind ≡ attrs.kind) → SetsAttrs old new n attrs → KeepsNames old new
@@ -99,10 +99,10 @@ bytes_keep_names old new n a shown regular caller by changes =
 -- ---- what is listed hangs
 
 -- what a directory lists under a name is the row that hangs there
-pub number-child : (c : Content) (w : World) → Shows c w → (d : ℕ) → IsDirectoryAt c d → (name : List ℕ) → number_in name (listed (bytes_of c d)) ≡ child w.rows d name
+pub number-child : (c : Content) (w : World) → Shows c w → (d : ℕ) → IsDirectoryAt c d → (name : List ℕ) → number_in name (all_entries (bytes_of c d)) ≡ child w.rows d name
 number-child c w shows d directory name =
     let f = some_and (map.get c d) (λ f. f.kind ≡ Directory) directory in
-    ap (λ o. number_in name (listed (bytes_of_file o))) f.is ∙ (shows.listings d f.value f.is f.holds).names name
+    ap (λ o. number_in name (all_entries (bytes_of_file o))) f.is ∙ (shows.listings d f.value f.is f.holds).names name
 
 -- a row hangs where it is listed
 pub lists_child : (c : Content) (w : World) → Shows c w → (d : ℕ) (name : List ℕ) (number : ℕ) → Lists c d name number → child w.rows d name ≡ Some number

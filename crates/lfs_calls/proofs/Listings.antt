@@ -9,7 +9,7 @@ use Rattle.lfs_dirs.specs.Directory.{Entry, AreEntries, IsEntry, IsDirectoryBloc
 use Rattle.lfs_dirs.specs.Laws.{entries_of-short}
 use Rattle.lfs_dirs.specs.Reading.{entries_of}
 use Rattle.lfs_model.specs.World.{Rows, child}
-use Rattle.lfs_calls.specs.Content.{block_at, entries_below, listed, AreBlocks, ListsRows}
+use Rattle.lfs_calls.specs.Content.{block_at, entries_below, all_entries, AreBlocks, ListsRows}
 use Rattle.lfs_types.proofs.Pieces.{put_over, piece-before, piece-here, piece-behind, length-put_over}
 
 -- ---- an entry put between others
@@ -99,7 +99,7 @@ module _ (bytes : List ℕ) (k : ℕ) (new : List ℕ) (size : length new ≡ 51
   old_whole : entries_below bytes (k + 1 + behind) ≡ (entries_below bytes k ++ entries_of (block_at bytes k)) ++ entries_from bytes (k + 1) behind
   old_whole = below_from bytes (k + 1) behind ∙ ap (λ es. es ++ entries_from bytes (k + 1) behind) (below_next bytes k)
 
-  old_count : listed bytes ≡ entries_below bytes (k + 1 + behind)
+  old_count : all_entries bytes ≡ entries_below bytes (k + 1 + behind)
   unfolding entries_below
   old_count = ⊎_elim
       (λ h. let before : k < length bytes / 512 = ltb-true k (length bytes / 512) h in
@@ -112,11 +112,11 @@ module _ (bytes : List ℕ) (k : ℕ) (new : List ℕ) (size : length new ≡ 51
       (cases_Bool (nat_lt k (length bytes / 512)))
 
   -- the entries by those before the block, in it and behind it
-  pub old_listed : listed bytes ≡ (entries_below bytes k ++ entries_of (block_at bytes k)) ++ entries_from bytes (k + 1) behind
+  pub old_listed : all_entries bytes ≡ (entries_below bytes k ++ entries_of (block_at bytes k)) ++ entries_from bytes (k + 1) behind
   old_listed = old_count ∙ old_whole
 
   -- and so with the new block
-  pub new_listed : listed (put_over bytes (512 * k) new) ≡ (entries_below bytes k ++ entries_of new) ++ entries_from bytes (k + 1) behind
+  pub new_listed : all_entries (put_over bytes (512 * k) new) ≡ (entries_below bytes k ++ entries_of new) ++ entries_from bytes (k + 1) behind
   unfolding entries_below
   new_listed =
       let put = put_over bytes (512 * k) new in
@@ -157,18 +157,18 @@ module _ (bytes : List ℕ) (k : ℕ) (new : List ℕ) (size : length new ≡ 51
     after : List Entry
     after = entries_from bytes (k + 1) behind
 
-    was_listed : listed bytes ≡ before ++ after
+    was_listed : all_entries bytes ≡ before ++ after
     unfolding before after
     was_listed = old_listed
 
-    is_listed : listed (put_over bytes (512 * k) new) ≡ before ++ (number, name) ∷ after
+    is_listed : all_entries (put_over bytes (512 * k) new) ≡ before ++ (number, name) ∷ after
     unfolding before after
     is_listed = new_listed ∙ rw adds (simp append_assoc)
 
     absent : number_in name (before ++ after) ≡ None
     absent = sym (ap (number_in name) was_listed) ∙ old.names name ∙ free
 
-    names_after : (q : List ℕ) → number_in q (listed (put_over bytes (512 * k) new)) ≡ child changed parent q
+    names_after : (q : List ℕ) → number_in q (all_entries (put_over bytes (512 * k) new)) ≡ child changed parent q
     names_after q = ap (number_in q) is_listed ∙ ⊎_elim
         (λ t.
         let same : q ≡ name = (bytes_eq-Decides q name).0 t in
@@ -179,8 +179,8 @@ module _ (bytes : List ℕ) (k : ℕ) (new : List ℕ) (size : length new ≡ 51
         (cases_Bool (bytes_eq q name))
 
     -- the bytes with the block list the rows with the new one
-    pub IsListing-added : ListsRows changed parent (put_over bytes (512 * k) new)
-    IsListing-added = record {
+    pub ListsRows-added : ListsRows changed parent (put_over bytes (512 * k) new)
+    ListsRows-added = record {
       blocks = blocks_after old.blocks block;
       distinct = subst AreEntries (sym is_listed) (AreEntries-inserted (number, name) before after (subst AreEntries was_listed old.distinct) entry absent);
       names = names_after;
@@ -207,7 +207,7 @@ found_first name n (x ∷ xs) ys h = ⊎_elim
     (cases_Bool (has_name name x))
 
 -- a name that is in a block and in none before it is found there
-pub found_in_block : (name : List ℕ) (bytes : List ℕ) (k n : ℕ) → k < length bytes / 512 → number_in name (entries_below bytes k) ≡ None → number_in name (entries_of (block_at bytes k)) ≡ Some n → number_in name (listed bytes) ≡ Some n
+pub found_in_block : (name : List ℕ) (bytes : List ℕ) (k n : ℕ) → k < length bytes / 512 → number_in name (entries_below bytes k) ≡ None → number_in name (entries_of (block_at bytes k)) ≡ Some n → number_in name (all_entries bytes) ≡ Some n
 found_in_block name bytes k n h before here =
     let count : length bytes / 512 ≡ k + 1 + (length bytes / 512 - (k + 1)) = omega arith in
     ap (λ m. number_in name (entries_below bytes m)) count
@@ -215,7 +215,7 @@ found_in_block name bytes k n h before here =
     ∙ found_first name n (entries_below bytes (k + 1)) _ (ap (number_in name) (below_next bytes k) ∙ number_in-append name (entries_below bytes k) _ before ∙ here)
 
 -- a name that isn't listed is in no block
-pub absent_in_block : (name : List ℕ) (bytes : List ℕ) (k : ℕ) → k < length bytes / 512 → number_in name (listed bytes) ≡ None → number_in name (entries_of (block_at bytes k)) ≡ None
+pub absent_in_block : (name : List ℕ) (bytes : List ℕ) (k : ℕ) → k < length bytes / 512 → number_in name (all_entries bytes) ≡ None → number_in name (entries_of (block_at bytes k)) ≡ None
 absent_in_block name bytes k h none =
     let count : length bytes / 512 ≡ k + 1 + (length bytes / 512 - (k + 1)) = omega arith in
     let all = ap (number_in name) (sym (ap (entries_below bytes) count ∙ below_from bytes (k + 1) (length bytes / 512 - (k + 1)))) ∙ none in
@@ -242,7 +242,7 @@ pub nothing_further : (bytes : List ℕ) (k : ℕ) → entries_below bytes k ≡
 nothing_further bytes k before here = below_next bytes k ∙ rw (before, here) refl
 
 -- where nothing is listed, no block has an entry
-pub nothing_in_block : (bytes : List ℕ) (k : ℕ) → k < length bytes / 512 → listed bytes ≡ [] → entries_of (block_at bytes k) ≡ []
+pub nothing_in_block : (bytes : List ℕ) (k : ℕ) → k < length bytes / 512 → all_entries bytes ≡ [] → entries_of (block_at bytes k) ≡ []
 nothing_in_block bytes k h none =
     let behind = length bytes / 512 - (k + 1) in
     let count : length bytes / 512 ≡ k + 1 + behind = omega arith in

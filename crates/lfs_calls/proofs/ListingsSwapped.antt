@@ -9,7 +9,7 @@ use Rattle.lfs_dirs.specs.Directory.{Entry, AreEntries, number_in, renumbered}
 use Rattle.lfs_dirs.specs.Reading.{entries_of}
 use Rattle.lfs_calls.specs.declared.making.Room.{Room}
 use Rattle.lfs_model.specs.World.{Rows, child}
-use Rattle.lfs_calls.specs.Content.{block_at, entries_below, listed, AreBlocks, ListsRows}
+use Rattle.lfs_calls.specs.Content.{block_at, entries_below, all_entries, AreBlocks, ListsRows}
 use Rattle.lfs_calls.specs.Renames.{IsSwap}
 use Rattle.lfs_calls.proofs.Listings.{entries_from, behind, old_listed, new_listed, blocks_after}
 use Rattle.lfs_calls.proofs.ListingsTaken.{absent_before, absent_after, AreEntries-front}
@@ -45,28 +45,28 @@ module _ (bytes name : List ℕ) (number : ℕ) (room : Room) (k : ℕ) (swap : 
       (was : child rows parent name ≡ Some old) (above : 0 < number) (fits : number < 2 ^ 32)
       (is : child changed parent name ≡ Some number) (others : (q : List ℕ) → name ≢ q → child changed parent q ≡ child rows parent q) where
     -- what is listed is what was listed, with another number for the name
-    swapped_listed : listed (splice bytes room.off room.block) ≡ renumbered name number (listed bytes)
+    swapped_listed : all_entries (splice bytes room.off room.block) ≡ renumbered name number (all_entries bytes)
     swapped_listed =
         let before = entries_below bytes k in
         let after = entries_from bytes (k + 1) (behind bytes k room.block swap.block.size whole within) in
-        let was : listed bytes ≡ (before ++ entries_of (block_at bytes k)) ++ after = old_listed bytes k room.block swap.block.size whole within in
-        ap listed swapped_put ∙ new_listed bytes k room.block swap.block.size whole within
+        let was : all_entries bytes ≡ (before ++ entries_of (block_at bytes k)) ++ after = old_listed bytes k room.block swap.block.size whole within in
+        ap all_entries swapped_put ∙ new_listed bytes k room.block swap.block.size whole within
         ∙ ap (λ es. (before ++ es) ++ after) swap.swaps
         ∙ renumbered-middle name number before (entries_of (block_at bytes k)) after (subst AreEntries was listing.distinct) swap.listed
         ∙ ap (renumbered name number) (sym was)
 
     -- the bytes with the block list the rows that hang there after it
-    pub IsListing-swapped : ListsRows changed parent (splice bytes room.off room.block)
-    IsListing-swapped = record {
+    pub ListsRows-swapped : ListsRows changed parent (splice bytes room.off room.block)
+    ListsRows-swapped = record {
       blocks = subst AreBlocks (sym swapped_put) (blocks_after bytes k room.block swap.block.size whole within listing.blocks swap.block);
-      distinct = subst AreEntries (sym swapped_listed) (AreEntries-renumbered name number (listed bytes) above fits listing.distinct);
+      distinct = subst AreEntries (sym swapped_listed) (AreEntries-renumbered name number (all_entries bytes) above fits listing.distinct);
       names = λ q. ap (number_in q) swapped_listed ∙ ⊎_elim
           (λ t.
           let same : q ≡ name = (bytes_eq-Decides q name).0 t in
-          subst (λ x. number_in x (renumbered name number (listed bytes)) ≡ child changed parent x) (sym same)
-          (number_in-renumbered name number (listed bytes) (present (listing.names name ∙ was)) ∙ sym is))
+          subst (λ x. number_in x (renumbered name number (all_entries bytes)) ≡ child changed parent x) (sym same)
+          (number_in-renumbered name number (all_entries bytes) (present (listing.names name ∙ was)) ∙ sym is))
           (λ t.
           let other : name ≢ q = λ e. both_ways _ t ((bytes_eq-Decides q name).1 (sym e)) in
-          number_in-renumbered_other name q number (listed bytes) other ∙ listing.names q ∙ sym (others q other))
+          number_in-renumbered_other name q number (all_entries bytes) other ∙ listing.names q ∙ sym (others q other))
           (cases_Bool (bytes_eq q name));
     }

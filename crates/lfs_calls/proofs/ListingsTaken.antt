@@ -10,7 +10,7 @@ use Rattle.lfs_dirs.specs.Directory.{Entry, AreEntries, has_name, number_in, wit
 use Rattle.lfs_dirs.specs.Reading.{entries_of}
 use Rattle.lfs_calls.specs.declared.making.Room.{Room}
 use Rattle.lfs_model.specs.World.{Rows, child, IsChild}
-use Rattle.lfs_calls.specs.Content.{block_at, entries_below, listed, AreBlocks, ListsRows}
+use Rattle.lfs_calls.specs.Content.{block_at, entries_below, all_entries, AreBlocks, ListsRows}
 use Rattle.lfs_calls.specs.Removes.{IsTaking}
 use Rattle.lfs_model.proofs.Children.{IsUnique}
 use Rattle.lfs_calls.proofs.Listings.{entries_from, behind, old_listed, new_listed, blocks_after}
@@ -89,29 +89,29 @@ module _ (rows : Rows) (unique : IsUnique rows) (parent n : ℕ) (name : List �
   put = taken_put bytes name room k taking
 
   -- what is listed is what was listed, without the name
-  pub taken_listed : listed (splice bytes room.off room.block) ≡ without name (listed bytes)
+  pub taken_listed : all_entries (splice bytes room.off room.block) ≡ without name (all_entries bytes)
   taken_listed =
       let before = entries_below bytes k in
       let after = entries_from bytes (k + 1) (behind bytes k room.block taking.block.size whole within) in
-      let was : listed bytes ≡ (before ++ entries_of (block_at bytes k)) ++ after = old_listed bytes k room.block taking.block.size whole within in
-      ap listed put ∙ new_listed bytes k room.block taking.block.size whole within
+      let was : all_entries bytes ≡ (before ++ entries_of (block_at bytes k)) ++ after = old_listed bytes k room.block taking.block.size whole within in
+      ap all_entries put ∙ new_listed bytes k room.block taking.block.size whole within
       ∙ ap (λ es. (before ++ es) ++ after) taking.takes
       ∙ without-middle name before (entries_of (block_at bytes k)) after (subst AreEntries was listing.distinct) taking.listed
       ∙ ap (without name) (sym was)
 
   -- the bytes with the block list the rows without the one
-  pub IsListing-taken : ListsRows (map.remove rows n) parent (splice bytes room.off room.block)
-  IsListing-taken = record {
+  pub ListsRows-taken : ListsRows (map.remove rows n) parent (splice bytes room.off room.block)
+  ListsRows-taken = record {
     blocks = subst AreBlocks (sym put) (blocks_after bytes k room.block taking.block.size whole within listing.blocks taking.block);
-    distinct = subst AreEntries (sym taken_listed) (AreEntries-without name (listed bytes) listing.distinct);
+    distinct = subst AreEntries (sym taken_listed) (AreEntries-without name (all_entries bytes) listing.distinct);
     names = λ q. ap (number_in q) taken_listed ∙ ⊎_elim
         (λ t.
         let same : q ≡ name = (bytes_eq-Decides q name).0 t in
-        subst (λ x. number_in x (without name (listed bytes)) ≡ child (map.remove rows n) parent x) (sym same)
-        (number_in-without name (listed bytes) ∙ sym (child-removed rows n unique parent name hangs)))
+        subst (λ x. number_in x (without name (all_entries bytes)) ≡ child (map.remove rows n) parent x) (sym same)
+        (number_in-without name (all_entries bytes) ∙ sym (child-removed rows n unique parent name hangs)))
         (λ t.
         let other : q ≢ name = λ e. both_ways _ t ((bytes_eq-Decides q name).1 e) in
-        number_in-without_other name q (listed bytes) (λ e. other (sym e)) ∙ listing.names q
+        number_in-without_other name q (all_entries bytes) (λ e. other (sym e)) ∙ listing.names q
         ∙ sym (child-left_elsewhere rows n unique parent name hangs parent q (λ _ e. other e)))
         (cases_Bool (bytes_eq q name));
   }

@@ -17,7 +17,7 @@ use Rattle.lfs_dirs.specs.Reading.{entries_of}
 use Rattle.lfs_calls.specs.declared.making.Room.{Room}
 use Rattle.lfs_calls.specs.declared.renaming.Move.{Move}
 use Rattle.lfs_model.specs.World.{child, IsChild, IsTree}
-use Rattle.lfs_calls.specs.Content.{Shows, ListsRows, FitsNowhere, block_at, left_of, listed}
+use Rattle.lfs_calls.specs.Content.{Shows, ListsRows, FitsNowhere, block_at, left_of, all_entries}
 use Rattle.lfs_calls.specs.Makes.{IsRoom, StandsIn, with_block}
 use Rattle.lfs_calls.specs.Removes.{IsTaking}
 use Rattle.lfs_calls.specs.Renames.{Leaves, block_put, name_left}
@@ -62,12 +62,12 @@ module _ {c : Content} {w : World} (shows : Shows c w) (tree : IsTree w.rows) {m
   old_listing = bytes_listing shows p move.removal.dir.attrs goes.hangs.shown_dir goes.hangs.directory
 
   -- and is listed there
-  pub old_is_listed : number_in old (listed old_bytes) ≡ Some n
+  pub old_is_listed : number_in old (all_entries old_bytes) ≡ Some n
   old_is_listed = old_listing.names old ∙ goes.hangs.hangs
 
   -- the row's number is that of an entry
   is_entry : IsEntry (n, old)
-  is_entry = All-contains IsEntry (listed old_bytes) (n, old) (AreEntries-each (listed old_bytes) old_listing.distinct) (Contains-number_in old n (listed old_bytes) old_is_listed)
+  is_entry = All-contains IsEntry (all_entries old_bytes) (n, old) (AreEntries-each (all_entries old_bytes) old_listing.distinct) (Contains-number_in old n (all_entries old_bytes) old_is_listed)
 
   -- it isn't 0
   pub above : 0 < n
@@ -139,11 +139,11 @@ module _ {c : Content} {w : World} (shows : Shows c w) (tree : IsTree w.rows) {m
     seen_through now same o b is chosen = ap (λ x. with_block (bytes_of x q) o) same ∙ ap (with_block new_bytes) chosen ∙ seen_is b is
 
     -- the new name isn't among the listed ones
-    pub seen_free : (new : List ℕ) → child w.rows q new ≡ None → number_in new (listed seen) ≡ None
+    pub seen_free : (new : List ℕ) → child w.rows q new ≡ None → number_in new (all_entries seen) ≡ None
     seen_free new free = seen_listing.names new ∙ free_still w.rows n (record hung.row { parent = q; name = new }) hung.below tree.unique free
 
     -- that of another row is
-    pub seen_there : (new : List ℕ) (m : ℕ) → child w.rows q new ≡ Some m → m ≢ n → number_in new (listed seen) ≡ Some m
+    pub seen_there : (new : List ℕ) (m : ℕ) → child w.rows q new ≡ Some m → m ≢ n → number_in new (all_entries seen) ≡ Some m
     seen_there new m is apart = seen_listing.names new
         ∙ child-answer _ (unique-shrunk w.rows n tree.unique) q new (Some m) (hangs_still w.rows n q new m apart (child-is w.rows q new m is))
 
@@ -166,7 +166,7 @@ module _ {c : Content} {w : World} (shows : Shows c w) (tree : IsTree w.rows) {m
         (λ apart.
         let other : 512 * j ≢ taken.off = λ x. apart (omega (arith, x, taking.off)) in
         let block : block_at seen j ≡ block_at old_bytes j = ap (λ bs. block_at bs j) (sym here) ∙ stood-other old_bytes taken stands (512 * j) (omega arith) other in
-        let gone : number_in old (listed seen) ≡ None = seen_listing.names old ∙ ap (λ m. child (map.remove w.rows n) m old) (sym e) ∙ child-removed w.rows n tree.unique p old hung in
+        let gone : number_in old (all_entries seen) ≡ None = seen_listing.names old ∙ ap (λ m. child (map.remove w.rows n) m old) (sym e) ∙ child-removed w.rows n tree.unique p old hung in
         let absent = absent_in_block old seen j (omega (arith, seen_length, ap (λ m. length (bytes_of c m)) e)) gone in
         without-absent old (entries_of (block_at old_bytes j)) (ap (λ b. number_in old (entries_of b)) (sym block) ∙ absent) ∙ ap entries_of (sym block))
         (cases_eq j k)

@@ -16,8 +16,8 @@ use Rattle.lfs_calls.specs.Content.{visible, Shows, ListsRows}
 use Rattle.lfs_calls.specs.Makes.{IsRoom}
 use Rattle.lfs_calls.specs.Removes.{IsTaking}
 use Rattle.lfs_calls.specs.Renames.{block_put}
-use Rattle.lfs_calls.proofs.Listings.{IsListing-added}
-use Rattle.lfs_calls.proofs.ListingsTaken.{IsListing-taken, taken_length}
+use Rattle.lfs_calls.proofs.Listings.{ListsRows-added}
+use Rattle.lfs_calls.proofs.ListingsTaken.{ListsRows-taken, taken_length}
 use Rattle.lfs_types.proofs.Maps.{get-insert_same, get-insert_other, each_value}
 use Rattle.lfs_model.proofs.MovedRows.{free_still, child-moved, child-moved_other}
 use Rattle.lfs_types.proofs.Pieces.{put_over, splice-put_over, length-put_over}
@@ -105,7 +105,7 @@ module _ (c : Content) (w : World) (shows : Shows c w) (tree : IsTree w.rows) (n
   pub taken_listed : AreListed (block_put p taken c) (map.remove w.rows n)
   taken_listed = listed_after c p f stored directory taken w.rows (map.remove w.rows n) shows.listings
       (λ q apart name. child-left_elsewhere w.rows n tree.unique p old hangs q name (λ e _. apart e))
-      (IsListing-taken w.rows tree.unique p n old hangs f.bytes listing long.1 taken k taking)
+      (ListsRows-taken w.rows tree.unique p n old hangs f.bytes listing long.1 taken k taking)
 
   -- ---- and put into another directory, or into the same
 
@@ -146,7 +146,7 @@ module _ (c : Content) (w : World) (shows : Shows c w) (tree : IsTree w.rows) (n
 
     listing_after : ListsRows rows_moved q (splice g.bytes room.off room.block)
     listing_after = subst (ListsRows rows_moved q) (sym put)
-        (IsListing-added g.bytes j room.block size long_new.1 fits.within (map.remove w.rows n) rows_moved q n name
+        (ListsRows-added g.bytes j room.block size long_new.1 fits.within (map.remove w.rows n) rows_moved q n name
         (taken_listed q g stored_new directory_new) fits.block fits.adds is_entry
         (free_still w.rows n row hangs.below tree.unique free)
         (child-moved w.rows n row hangs.below tree.unique free)

@@ -19,7 +19,7 @@ use Rattle.lfs_calls.specs.declared.walking.Reached.{Reached}
 use Rattle.lfs_model.specs.World.{Rows, child, children, IsTree}
 use Rattle.lfs_model.specs.Rules.{Check, attrs_at, first_failing, decide, last, reached, removing, rmdir_tests, rule_table, unlink_tests}
 use Rattle.lfs_model.specs.Effects.{without_row}
-use Rattle.lfs_calls.specs.Content.{Shows, listed, visible}
+use Rattle.lfs_calls.specs.Content.{Shows, all_entries, visible}
 use Rattle.lfs_types.specs.StoreStates.{StoreState}
 use Rattle.lfs_calls.specs.Volumes.{InWorld, IsVolume}
 use Rattle.lfs_calls.proofs.StateLemmas.{same_content}
@@ -56,15 +56,15 @@ module _ (c : Content) (w : World) (shows : Shows c w) (n : ℕ) (a : Attrs) (sh
   file_childless tree regular name = child-answer w.rows tree.unique n name None (no_parent w.rows tree n (directory_reads c w shows n a shown ∙ regular) name)
 
   module _ (directory : is_directory_kind a.kind ≡ true) where
-    listed_childless : listed (bytes_of c n) ≡ [] → (name : List ℕ) → child w.rows n name ≡ None
+    listed_childless : all_entries (bytes_of c n) ≡ [] → (name : List ℕ) → child w.rows n name ≡ None
     listed_childless none name = sym (child_listed c w shows n a shown directory name) ∙ ap (number_in name) none ∙ number_in-nil name
 
     -- in a directory none hangs exactly where it lists none
-    pub directory_empty : (b : Bool) → (IsTrue b ↔ (listed (bytes_of c n) ≡ [])) → b ≡ (length (children w.rows n) == 0)
+    pub directory_empty : (b : Bool) → (IsTrue b ↔ (all_entries (bytes_of c n) ≡ [])) → b ≡ (length (children w.rows n) == 0)
     directory_empty true same = sym (ap (λ (ms : List ℕ). length ms == 0) (no_children w.rows n (listed_childless (same.0 refl))))
     directory_empty false same =
         let fewer = listed-le-children w.rows n (bytes_of c n) (bytes_listing shows n a shown directory) in
-        let many = some_entry (listed (bytes_of c n)) (λ none. let wrong = same.1 none in absurd (cc)) in
+        let many = some_entry (all_entries (bytes_of c n)) (λ none. let wrong = same.1 none in absurd (cc)) in
         sym (ne_eqb (length (children w.rows n)) 0 (λ z. absurd (omega (arith, fewer, many))))
 
 -- ---- the rules behind those that files and directories share

@@ -18,7 +18,7 @@ use Rattle.lfs_rules.specs.Grants.{grants_of}
 use Rattle.lfs_model.specs.World.{child, file_at, IsTree}
 use Rattle.lfs_model.specs.Rules.{is_directory_row, judged, row_grants, attrs_at}
 use Rattle.lfs_model.specs.Rules.{searching_tests}
-use Rattle.lfs_calls.specs.Content.{visible, Shows, listed}
+use Rattle.lfs_calls.specs.Content.{visible, Shows, all_entries}
 use Rattle.lfs_model.specs.Walks.{stepped, walked}
 use Rattle.lfs_calls.proofs.Visible.{Stored, shown_of, stored_of}
 use Rattle.lfs_model.proofs.Children.{child-is}
@@ -75,8 +75,8 @@ module _ (c : Content) (w : World) (shows : Shows c w) (n : ℕ) (a : Attrs) (sh
       ∙ ap (λ (x : Attrs). record x { size = length (visible the_file.file).bytes }) (sym the_file.same)
 
   -- what the directory lists under a name is its child
-  pub child_listed : is_directory_kind a.kind ≡ true → (name : List ℕ) → number_in name (listed (bytes_of c n)) ≡ child w.rows n name
-  child_listed h name = ap (λ o. number_in name (listed (bytes_of_file o))) the_file.stored ∙ (shows.listings n the_file.file the_file.stored (stored_directory c n a shown h)).names name
+  pub child_listed : is_directory_kind a.kind ≡ true → (name : List ℕ) → number_in name (all_entries (bytes_of c n)) ≡ child w.rows n name
+  child_listed h name = ap (λ o. number_in name (all_entries (bytes_of_file o))) the_file.stored ∙ (shows.listings n the_file.file the_file.stored (stored_directory c n a shown h)).names name
 
 -- two tests that say the same ask the same
 cond_same : {A : Type 0} {d s e t : Bool} (x y z : A) → d ≡ e → s ≡ t → cond d (cond s x y) z ≡ cond e (cond t x y) z
@@ -96,7 +96,7 @@ module _ (c : Content) (w : World) (shows : Shows c w) (caller : Caller) (path k
       ∙ stopped (is_directory_kind a.kind) (grants_of caller a bits.Search) _ _ denial tt _ h
 
   -- another goes to the child, or is denied where there is none
-  pub steps_on : is_directory_kind a.kind ≡ true → grants_of caller a bits.Search ≡ true → (o : Option ℕ) → o ≡ number_in name (listed (bytes_of c n))
+  pub steps_on : is_directory_kind a.kind ≡ true → grants_of caller a bits.Search ≡ true → (o : Option ℕ) → o ≡ number_in name (all_entries (bytes_of c n))
       → ok_or o (record { rule = NameThere; path = path; at = k + 1 }) ≡ stepped w.rows caller path k n name
   steps_on h g o e =
       ap (λ x. ok_or x (record { rule = NameThere; path = path; at = k + 1 })) (e ∙ child_listed c w shows n a shown h name)

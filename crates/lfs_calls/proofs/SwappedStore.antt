@@ -13,7 +13,7 @@ use Rattle.lfs_model.specs.World.{Rows, IsChild, IsTree}
 use Rattle.lfs_calls.specs.Content.{visible, Shows, ListsRows}
 use Rattle.lfs_calls.specs.Removes.{IsTaking}
 use Rattle.lfs_calls.specs.Renames.{IsSwap, block_put}
-use Rattle.lfs_calls.proofs.ListingsSwapped.{IsListing-swapped, swapped_length}
+use Rattle.lfs_calls.proofs.ListingsSwapped.{ListsRows-swapped, swapped_length}
 use Rattle.lfs_calls.proofs.MovedStore.{AreListed, AreSized, listed_after, seen_same, sized_after, taken_listed, taken_sized}
 use Rattle.lfs_calls.proofs.SwappedRows.{child-swapped, child-swapped_other, swapped, swapped_files, swapped_gone}
 use Rattle.lfs_model.proofs.Children.{child-answer}
@@ -42,7 +42,7 @@ module _ (c : Content) (w : World) (shows : Shows c w) (tree : IsTree w.rows) (n
   long = subst (λ x. IsLength x (length g.bytes)) directory_new (sized_before q g stored_new)
 
   listing_after : ListsRows rows_after q (splice g.bytes room.off room.block)
-  listing_after = IsListing-swapped g.bytes name n room j swap (map.remove w.rows n) rows_after q m
+  listing_after = ListsRows-swapped g.bytes name n room j swap (map.remove w.rows n) rows_after q m
       (listed_before q g stored_new directory_new) long.1
       (child-answer _ (unique-shrunk w.rows n tree.unique) q name (Some m) (hangs_still w.rows n q name m apart there)) above small
       (child-swapped w.rows tree.unique n m p q old name apart hangs there)

@@ -15,14 +15,14 @@ use Rattle.lfs_calls.specs.declared.making.Room.{Room}
 use Rattle.lfs_calls.specs.declared.removing.Removal.{Removal}
 use Rattle.lfs_model.specs.World.{IsChild, IsTree, child}
 use Rattle.lfs_model.specs.Effects.{without_row}
-use Rattle.lfs_calls.specs.Content.{Shows, listed}
+use Rattle.lfs_calls.specs.Content.{Shows, all_entries}
 use Rattle.lfs_calls.specs.Names.{FindsNew}
 use Rattle.lfs_calls.specs.Removes.{HangsAs, IsChildless, IsTaking, TakesFile}
 use Rattle.lfs_model.proofs.Children.{child-is}
 use Rattle.lfs_model.proofs.Shrunk.{child-left_elsewhere, child-removed}
 use Rattle.lfs_calls.proofs.ListedNames.{directory_still, found_gone, found_now, found_still}
 use Rattle.lfs_calls.proofs.Directories.{dir_file, directory_at, file_kind, file_length, file_bytes}
-use Rattle.lfs_calls.proofs.ListingsTaken.{taken_length, IsListing-taken}
+use Rattle.lfs_calls.proofs.ListingsTaken.{taken_length, ListsRows-taken}
 use Rattle.lfs_types.proofs.Maps.{get-insert_same, get-insert_other, get-remove_same, get-remove_other}
 use Rattle.lfs_calls.proofs.ShrunkStore.{Shows-shrunk}
 use Rattle.lfs_types.proofs.Somewhere.{present, is_some_and}
@@ -46,7 +46,7 @@ module _ (c : Content) (w : World) (shows : Shows c w) (tree : IsTree w.rows) (r
   size = file_length shows dir removal.dir.attrs is.shown_dir is.directory
 
   -- the directory lists the name
-  pub taking_listed : IsSome (number_in name (listed (bytes_of c dir)))
+  pub taking_listed : IsSome (number_in name (all_entries (bytes_of c dir)))
   taking_listed = present (child_listed c w shows dir removal.dir.attrs is.shown_dir is.directory name ∙ is.hangs)
 
   hung : IsChild w.rows dir name number
@@ -103,7 +103,7 @@ module _ (c : Content) (w : World) (shows : Shows c w) (tree : IsTree w.rows) (r
     pub shows_without : (after : Content) → TakesFile c after number dir room.off room.block → Shows after (without_row number w)
     shows_without after takes =
         Shows-shrunk c after w shows tree number dir name hung f.file put_file.bytes f.stored kind unlike takes.gone (takes.listed f.file f.stored) takes.others put_length
-        (IsListing-taken w.rows tree.unique dir number name hung f.file.bytes (shows.listings dir f.file f.stored kind) size.1 room k at_file)
+        (ListsRows-taken w.rows tree.unique dir number name hung f.file.bytes (shows.listings dir f.file f.stored kind) size.1 room k at_file)
 
     -- its directories list what they listed, but for the name, under which none is found
     pub loses_name : IsChildless w.rows number → (after : Content) → TakesFile c after number dir room.off room.block → FindsNew c after dir name None

@@ -17,7 +17,7 @@ use Rattle.lfs_types.specs.declared.store.StoreRefusal.{StoreRefusal}
 use Rattle.lfs_types.specs.declared.store.StoreRefusal.TheVariants.{NoSpace, NoMemory}
 use Rattle.lfs_types.specs.declared.store.Change.TheVariants.{SetAttrs, Put}
 use Rattle.lfs_calls.specs.declared.walking.Reached.{Reached}
-use Rattle.lfs_model.specs.Rules.{decide, start_of}
+use Rattle.lfs_model.specs.Rules.{decide, start_in}
 use Rattle.lfs_model.specs.Effects.{mode_after, written, after_write}
 use Rattle.lfs_calls.specs.Outcomes.{IsOutcome, FillsDirectory}
 use Rattle.lfs_model.specs.Steps.{LacksInodes, IsChanging}
@@ -65,14 +65,14 @@ module _ (c : Content) (n : ℕ) (a : Attrs) (shown : Some a ≡ shown_attrs c n
 
 module _ {s mid : StoreState} (new : StoreState) (caller : Caller) (path : List (List ℕ)) (place : Place) (same : mid ≡ s) (file : Reached) (leads : InWorld s (λ w. Reaches s.content w.rows caller 0 path (Ok file)))
     (regular : is_directory_kind file.attrs.kind ≡ false) where
-  some_put : (start b : ℕ) (bs : List ℕ) → start ≡ start_of place file.attrs.size → start + length (b ∷ bs) ≤ FILE_BYTES
+  some_put : (start b : ℕ) (bs : List ℕ) → start ≡ start_in place file.attrs.size → start + length (b ∷ bs) ≤ FILE_BYTES
       → ChangesBytes mid.content new.content file.number caller (λ old. splice old start (b ∷ bs)) → InWorld s (λ w. IsVolume new (after_write w caller path place (b ∷ bs)))
   some_put start b bs begins fits changes w v =
       let r = leads w v in
       let object = walked-reached w.rows caller 0 0 root path file.number r.0 in
       let f = shown_file s.content file.number file.attrs r.1 in
       let here = subst (λ (c : Content). ChangesBytes c new.content file.number caller (λ old. splice old start (b ∷ bs))) (same_content same) changes in
-      let at : start_of place (length f.file.bytes) ≡ start = ap (λ (x : Attrs). start_of place x.size) (sym f.same) ∙ sym begins in
+      let at : start_in place (length f.file.bytes) ≡ start = ap (λ (x : Attrs). start_in place x.size) (sym f.same) ∙ sym begins in
       let written_is : written caller place (b ∷ bs) f.file ≡ record f.file { mode = mode_after caller f.file.mode; bytes = splice f.file.bytes start (b ∷ bs) } =
       ap (λ n. record f.file { mode = mode_after caller f.file.mode; bytes = splice f.file.bytes n (b ∷ bs) }) at in
       let short = length-splice f.file.bytes start FILE_BYTES (b ∷ bs) (subst (λ (x : Attrs). x.size ≤ FILE_BYTES) f.same (size_fits s.content w v.shows file.number file.attrs r.1 regular)) fits in
@@ -82,7 +82,7 @@ module _ {s mid : StoreState} (new : StoreState) (caller : Caller) (path : List 
       }
 
   -- the store that has the written file shows it
-  pub write_volume : (start : ℕ) (bytes : List ℕ) → (length bytes == 0) ≡ false → start ≡ start_of place file.attrs.size → start + length bytes ≤ FILE_BYTES
+  pub write_volume : (start : ℕ) (bytes : List ℕ) → (length bytes == 0) ≡ false → start ≡ start_in place file.attrs.size → start + length bytes ≤ FILE_BYTES
       → ChangesBytes mid.content new.content file.number caller (λ old. splice old start bytes) → InWorld s (λ w. IsVolume new (after_write w caller path place bytes))
   write_volume start [] some begins fits changes = absurd (cc)
   write_volume start (b ∷ bs) some begins fits changes = some_put start b bs begins fits changes

@@ -22,8 +22,8 @@ entries_below bytes zero = []
 entries_below bytes (suc k) = entries_below bytes k ++ entries_of (block_at bytes k)
 
 -- the entries of a directory's bytes
-abbrev pub listed : List ℕ → List Entry
-listed bytes = entries_below bytes (length bytes / BLOCK_SIZE)
+abbrev pub all_entries : List ℕ → List Entry
+all_entries bytes = entries_below bytes (length bytes / BLOCK_SIZE)
 
 -- each block of a directory's bytes is a directory block
 abbrev pub AreBlocks : List ℕ → Type 0
@@ -39,8 +39,8 @@ pub record HasBlocks (c : Content) (n size : ℕ) : Type 0 where
 -- a name's entry has the number of the row that hangs there under that name.
 pub record ListsRows (rows : Rows) (parent : ℕ) (bytes : List ℕ) : Type 0 where
   pub blocks : AreBlocks bytes
-  pub distinct : AreEntries (listed bytes)
-  pub names : (name : List ℕ) → number_in name (listed bytes) ≡ child rows parent name
+  pub distinct : AreEntries (all_entries bytes)
+  pub names : (name : List ℕ) → number_in name (all_entries bytes) ≡ child rows parent name
 
 -- what users see of a file's bytes: of a directory none
 abbrev pub visible_bytes : Kind → List ℕ → List ℕ

@@ -19,7 +19,7 @@ use Rattle.lfs_calls.specs.declared.making.Room.{Room}
 use Rattle.lfs_calls.specs.declared.walking.Reached.{Reached}
 use Rattle.lfs_model.specs.World.{Rows, child}
 use Rattle.lfs_model.specs.Rules.{front, last, reached}
-use Rattle.lfs_calls.specs.Content.{AreBlocks, HasBlocks, KeepsOthers, block_at, listed}
+use Rattle.lfs_calls.specs.Content.{AreBlocks, HasBlocks, KeepsOthers, all_entries, block_at}
 
 -- a directory that a path's names before the last lead to, and that hasn't the last name, as the store shows it
 pub record IsParent (c : Content) (rows : Rows) (path : List (List ℕ)) (dir : Reached) : Type 0 where
@@ -61,7 +61,7 @@ pub record CanEnter (c : Content) (dir size : ℕ) (taken : Option (Bor Room)) (
   pub stands : IfSome taken (λ room. StandsIn (bytes_of c dir) room.now)
   pub blocks : AreBlocks (with_block (bytes_of c dir) taken)
   pub above : 0 < number
-  pub free : number_in name (listed (with_block (bytes_of c dir) taken)) ≡ None
+  pub free : number_in name (all_entries (with_block (bytes_of c dir) taken)) ≡ None
 
 -- a block of a directory's bytes, or one at their end
 pub record IsBlockOf (c : Content) (dir : ℕ) (room : Room) : Type 0 where

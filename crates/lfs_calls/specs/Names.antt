@@ -9,16 +9,16 @@ use Rattle.lfs_dirhints.specs.declared.hints.DirHints.{DirHints}
 use Rattle.lfs_dirs.specs.Directory.{number_in}
 use Rattle.lfs_namecache.specs.Says.{says}
 use Rattle.lfs_namecache.specs.declared.cache.NameCache.{NameCache}
-use Rattle.lfs_calls.specs.Content.{IsDirectoryAt, listed}
+use Rattle.lfs_calls.specs.Content.{IsDirectoryAt, all_entries}
 
 -- a directory lists a number under a name
 pub record Lists (c : Content) (dir : ℕ) (name : List ℕ) (number : ℕ) : Type 0 where
   pub directory : IsDirectoryAt c dir
-  pub listed : number_in name (listed (bytes_of c dir)) ≡ Some number
+  pub listed : number_in name (all_entries (bytes_of c dir)) ≡ Some number
 
 -- what is found under a name of a number: a directory lists a number; or it lists none, if it is a directory
 abbrev pub IsFound : Content → ℕ → List ℕ → Option ℕ → Type 0
-IsFound c dir name None = IsDirectoryAt c dir → number_in name (listed (bytes_of c dir)) ≡ None
+IsFound c dir name None = IsDirectoryAt c dir → number_in name (all_entries (bytes_of c dir)) ≡ None
 IsFound c dir name (Some number) = Lists c dir name number
 
 -- what a cache says of names is what is found

@@ -18,7 +18,7 @@ use Rattle.lfs_calls.specs.declared.making.Room.{Room}
 use Rattle.lfs_calls.specs.declared.removing.Removal.{Removal}
 use Rattle.lfs_model.specs.World.{Rows, child}
 use Rattle.lfs_model.specs.Rules.{Check, front, last, reached, rmdir_tests, unlink_tests}
-use Rattle.lfs_calls.specs.Content.{AreBlocks, HasBlocks, KeepsOthers, block_at, listed}
+use Rattle.lfs_calls.specs.Content.{AreBlocks, HasBlocks, KeepsOthers, all_entries, block_at}
 
 -- the request that removes a file, or an empty directory, as the kind says
 abbrev pub removal_request : Kind → List (List ℕ) → Request
@@ -61,7 +61,7 @@ pub record ListsName (c : Content) (dir size : ℕ) (name : List ℕ) : Type 0 w
   pub stored : HasBlocks c dir size
   pub bounded : size ≤ FILE_BYTES
   pub blocks : AreBlocks (bytes_of c dir)
-  pub listed : IsSome (number_in name (listed (bytes_of c dir)))
+  pub listed : IsSome (number_in name (all_entries (bytes_of c dir)))
 
 -- the block of a directory's bytes that lists a name, without it
 pub record IsTaking (bytes : List ℕ) (name : List ℕ) (room : Room) (k : ℕ) : Type 0 where

@@ -10,7 +10,7 @@ use Rattle.lfs_types.specs.Caller.{Caller}
 use Rattle.lfs_types.specs.Tree.{World, Content, root}
 use Rattle.lfs_dirs.specs.Directory.{IsDirectoryBlock, number_in, renumbered}
 use Rattle.lfs_dirs.specs.Reading.{entries_of}
-use Rattle.lfs_calls.specs.Content.{AreBlocks, FitsNowhere, HasBlocks, block_at, listed}
+use Rattle.lfs_calls.specs.Content.{AreBlocks, FitsNowhere, HasBlocks, all_entries, block_at}
 use Rattle.lfs_calls.specs.declared.making.Room.{Room}
 use Rattle.lfs_calls.specs.declared.renaming.Move.{Move}
 use Rattle.lfs_calls.specs.declared.renaming.Places.{Places}
@@ -40,8 +40,8 @@ target_number moved targets.Free = None
 target_number moved (targets.Taken there) = Some there.number
 
 -- the number that has the new name
-abbrev pub number_of : Move → Option ℕ
-number_of move = target_number move.removal.file.number move.target
+abbrev pub number_there : Move → Option ℕ
+number_there move = target_number move.removal.file.number move.target
 
 -- what has the new name is as the store shows it, and isn't the moved row where it is another
 abbrev pub IsTarget : Content → ℕ → Target → Type 0
@@ -52,7 +52,7 @@ IsTarget c moved (targets.Taken there) = (there.number ≢ moved) × (Some there
 -- the row that a path leads to, and the directory that is to list it at another path, as the store shows them
 pub record IsMove (c : Content) (rows : Rows) (from to : List (List ℕ)) (move : Move) : Type 0 where
   pub removal : IsRemoval c rows from move.removal
-  pub arrival : IsArrival c rows to (record { dir = move.dir; there = number_of move })
+  pub arrival : IsArrival c rows to (record { dir = move.dir; there = number_there move })
   pub target : IsTarget c move.removal.file.number move.target
 
 -- the content after a block of a directory was written
@@ -148,7 +148,7 @@ pub record CanSwap (c : Content) (dir size : ℕ) (taken : Option (Bor Room)) (n
   pub stands : IfSome taken (λ room. StandsIn (bytes_of c dir) room.now)
   pub blocks : AreBlocks (with_block (bytes_of c dir) taken)
   pub above : 0 < number
-  pub listed : IsSome (number_in name (listed (with_block (bytes_of c dir) taken)))
+  pub listed : IsSome (number_in name (all_entries (with_block (bytes_of c dir) taken)))
 
 -- why a row isn't put in a place: there is no room for its name, or the store refuses the changes
 abbrev pub IsCauseOf : StoreState → Type 0 → NotServed → Type 0

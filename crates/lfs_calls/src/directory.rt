@@ -5,7 +5,7 @@ ghost use Rattle.std.specs.FinMap.{get};
 ghost use Rattle.lfs_types.specs.declared.block.TheConstants.{BLOCK_SIZE};
 ghost use Rattle.lfs_types.specs.Stored.{bytes_of};
 ghost use Rattle.lfs_dirs.specs.Directory.{number_in};
-ghost use Rattle.lfs_calls.specs.Content.{HasBlocks, IsDirectoryAt, listed};
+ghost use Rattle.lfs_calls.specs.Content.{HasBlocks, IsDirectoryAt, all_entries};
 
 use crate::tree::Tree;
 use lfs_types::block::{BLOCK_SIZE, Block};
@@ -28,7 +28,7 @@ pub(crate) fn read_block<F: FileStore>(store: &mut Tree<F>, ino: u32, off: u64) 
 pub fn look_up<F: FileStore>(store: &mut Tree<F>, dir: u32, size: u64, name: &Name) -> Option<u32>
     requires stored { HasBlocks (F.state store.old).content dir size }
     requires directory { IsDirectoryAt (F.state store.old).content dir }
-    ensures found { result ≡ number_in name.now (listed
+    ensures found { result ≡ number_in name.now (all_entries
         (bytes_of (F.state store.old).content dir)) }
     ensures state { F.state store.new ≡ F.state store.old }
 {
@@ -45,7 +45,7 @@ pub fn look_up<F: FileStore>(store: &mut Tree<F>, dir: u32, size: u64, name: &Na
 #[inline(never)]
 fn search<F: FileStore>(store: &mut Tree<F>, dir: u32, size: u64, name: &Name) -> Option<u32>
     requires { HasBlocks (F.state store.old).content dir size }
-    ensures found { result ≡ number_in name.now (listed
+    ensures found { result ≡ number_in name.now (all_entries
         (bytes_of (F.state store.old).content dir)) }
     ensures state { F.state store.new ≡ F.state store.old }
 {

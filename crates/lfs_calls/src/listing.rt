@@ -9,7 +9,7 @@ ghost use Rattle.lfs_types.specs.Stored.{bytes_of};
 ghost use Rattle.lfs_dirs.specs.Directory.{IsDirectoryBlock};
 ghost use Rattle.lfs_dirs.specs.Reading.{entries_of};
 ghost use Rattle.lfs_calls.specs.Calls.{IsCall};
-ghost use Rattle.lfs_calls.specs.Content.{AreBlocks, HasBlocks, listed};
+ghost use Rattle.lfs_calls.specs.Content.{AreBlocks, HasBlocks, all_entries};
 ghost use Rattle.lfs_calls.specs.Volumes.{HasWorld};
 
 use crate::directory::read_block;
@@ -58,7 +58,7 @@ fn names_of_directory<F: FileStore>(
     requires stored { HasBlocks (F.state store.old).content dir size }
     requires blocks { AreBlocks (bytes_of (F.state store.old).content dir) }
     ensures names { IfOk result (λ names. names.items
-        ≡ map (λ e. e.1) (listed (bytes_of (F.state store.old).content dir))) }
+        ≡ map (λ e. e.1) (all_entries (bytes_of (F.state store.old).content dir))) }
     ensures state { F.state store.new ≡ F.state store.old }
 {
     let block_size = BLOCK_SIZE as u64;

@@ -13,7 +13,7 @@ ghost use Rattle.lfs_model.specs.Rules.{Judges, judged, removing, rmdir_tests, r
 ghost use Rattle.lfs_model.specs.World.{children};
 ghost use Rattle.lfs_calls.specs.Calls.{ChangesTo, IsCall};
 ghost use Rattle.lfs_calls.specs.Volumes.{HasWorld, InWorld, IsVolume};
-ghost use Rattle.lfs_calls.specs.Content.{AreBlocks, HasBlocks, block_at, listed};
+ghost use Rattle.lfs_calls.specs.Content.{AreBlocks, HasBlocks, all_entries, block_at};
 ghost use Rattle.lfs_calls.specs.Removes.{HangsAs, IsChildless, IsRemovable, IsRemoval, IsTaking, ListsName, TakesRow, removal_request, removed_tests};
 
 use crate::directory::read_block;
@@ -251,7 +251,7 @@ fn may_rmdir<F: FileStore>(store: &mut Tree<F>, row: &Reached, at: u32) -> Resul
 /// Whether a directory of this size lists no name.
 pub fn is_empty_directory<F: FileStore>(store: &mut Tree<F>, dir: u32, size: u64) -> bool
     requires { HasBlocks (F.state store.old).content dir size }
-    ensures empty { IsTrue result ↔ (listed (bytes_of (F.state store.old).content dir) ≡ []) }
+    ensures empty { IsTrue result ↔ (all_entries (bytes_of (F.state store.old).content dir) ≡ []) }
     ensures state { F.state store.new ≡ F.state store.old }
 {
     let block_size = BLOCK_SIZE as u64;

@@ -10,7 +10,7 @@ ghost use Rattle.lfs_attrcache.specs.Says.{AreShown};
 ghost use Rattle.lfs_dirhints.specs.Says.{AreFull, IsFullBefore};
 ghost use Rattle.lfs_model.specs.World.{child};
 ghost use Rattle.lfs_dirs.specs.Directory.{number_in};
-ghost use Rattle.lfs_calls.specs.Content.{IsDirectoryAt, listed};
+ghost use Rattle.lfs_calls.specs.Content.{IsDirectoryAt, all_entries};
 ghost use Rattle.lfs_calls.specs.Names.{FindsNew, IsFound, KeepsNames, MovesName};
 ghost use Rattle.lfs_calls.specs.Volumes.{InWorld};
 
@@ -140,7 +140,7 @@ impl<F: FileStore> Tree<F> {
     pub(crate) fn known(&self, dir: u32, name: &Name) -> Option<Option<u32>>
         requires { IsDirectoryAt (F.state self.now).content dir }
         ensures found { IfSome result (λ found. found
-            ≡ number_in name.now (listed (bytes_of (F.state self.now).content dir))) }
+            ≡ number_in name.now (all_entries (bytes_of (F.state self.now).content dir))) }
         ensures hangs { IfSome result (λ found. InWorld (F.state self.now)
             (λ w. child w.rows dir name.now ≡ found)) }
     {

@@ -2,7 +2,7 @@
 
 ghost use Rattle.std.specs.Prelude.{◌≡◌, ◌+◌, nat_le};
 ghost use Rattle.lfs_types.specs.declared.limits.TheConstants.{FILE_BYTES};
-ghost use Rattle.lfs_model.specs.Rules.{change_tests, is_end, judged, length_tests, read_tests, start_of, write_tests};
+ghost use Rattle.lfs_model.specs.Rules.{change_tests, is_end, judged, length_tests, read_tests, start_in, write_tests};
 
 use crate::asking::ask;
 use crate::site::Site;
@@ -73,7 +73,7 @@ fn is_end(place: Place) -> bool
 
 /// The byte at which bytes that are put at a place begin, in a file of so many bytes.
 pub fn start_in(place: Place, size: u64) -> u64
-    ensures { result ≡ start_of place size }
+    ensures { result ≡ start_in place size }
 {
     match place {
         Place::At(start) => start,

@@ -11,7 +11,7 @@ use Rattle.lfs_types.proofs.Somewhere.{There, some_and}
 use Rattle.lfs_model.specs.World.{Rows, IsTree, children}
 use Rattle.lfs_model.specs.Rules.{chflags_tests, level_tests, reaching, rule_table}
 use Rattle.lfs_explain.specs.Asked.{asked}
-use Rattle.lfs_explain.specs.Tables.{Path, arriving_by, end_of, making_by, moving_by, own_tests, path_of, reaching_by, removing_by, table_by}
+use Rattle.lfs_explain.specs.Tables.{Path, arriving_by, known_path, last_row, making_by, moving_by, own_tests, reaching_by, removing_by, table_by}
 use Rattle.lfs_model.specs.Rules.{rmdir_tests, unlink_tests}
 use Rattle.lfs_explain.specs.Trails.{IsTrail, first_names, second_names, rows_along}
 use Rattle.lfs_explain.specs.declared.trail.ShownRow.{ShownRow}
@@ -24,7 +24,7 @@ pub root_there : (rows : Rows) → IsTree rows → There (fin.get rows root)
 root_there rows tree = let r = some_and (fin.get rows root) _ tree.rooted in record { value = r.value; is = r.is }
 
 module _ {rows : Rows} {names : List (List ℕ)} {trail : Trail} (t : IsTrail rows names trail) where
-  path_is : path_of trail ≡ path_to rows names trail.is_childless
+  path_is : known_path trail ≡ path_to rows names trail.is_childless
   path_is = λ i. record { rows = t.rows_are i; names = t.counted i; is_childless = trail.is_childless }
 
   end_childless : (row : ShownRow) → slice_get (rows_along rows root names) (length names) ≡ Some row → trail.is_childless ≡ (length (children rows row.number) == 0)
@@ -36,16 +36,16 @@ module _ (w : World) (tree : IsTree w.rows) (level : Level) (at : w.level ≡ le
   there = root_there w.rows tree
 
   reaches : (request : Request) (names : List (List ℕ)) → IsTrail w.rows names first
-      → asked (reaching_by caller (own_tests level caller request) (path_of first)) ≡ asked (reaching w.rows caller names (own_tests level caller request))
+      → asked (reaching_by caller (own_tests level caller request) (known_path first)) ≡ asked (reaching w.rows caller names (own_tests level caller request))
   reaches request names t =
       ap (λ (p : Path). asked (reaching_by caller (own_tests level caller request) p)) (path_is t)
       ∙ reaching_told w.rows caller there names first.is_childless (own_tests level caller request)
 
-  makes : (names : List (List ℕ)) → IsTrail w.rows names first → asked (making_by caller (path_of first)) ≡ asked (rule_table w caller (Create names 0))
+  makes : (names : List (List ℕ)) → IsTrail w.rows names first → asked (making_by caller (known_path first)) ≡ asked (rule_table w caller (Create names 0))
   makes names t = ap (λ (p : Path). asked (making_by caller p)) (path_is t) ∙ making_told w.rows caller there names first.is_childless
 
   pub told : (request : Request) → IsTrail w.rows (first_names request) first → IsTrail w.rows (second_names request) second
-      → asked (table_by level caller request (path_of first) (path_of second)) ≡ asked (rule_table w caller request)
+      → asked (table_by level caller request (known_path first) (known_path second)) ≡ asked (rule_table w caller request)
   told (Stat path) t s = reaches (Stat path) path t
   told (Read path off len) t s = reaches (Read path off len) path t
   told (Names path) t s = reaches (Names path) path t
@@ -54,13 +54,13 @@ module _ (w : World) (tree : IsTree w.rows) (level : Level) (at : w.level ≡ le
   told (Create path mode) t s = makes path t
   told (Mkdir path mode) t s = makes path t
   told (Unlink path) t s =
-      ap (λ (p : Path). asked (removing_by caller p ++ unlink_tests (end_of p).attrs p.names)) (path_is t)
+      ap (λ (p : Path). asked (removing_by caller p ++ unlink_tests (last_row p).attrs p.names)) (path_is t)
       ∙ unlink_told w.rows caller there path first.is_childless
   told (Rmdir path) t s =
-      ap (λ (p : Path). asked (removing_by caller p ++ rmdir_tests p.is_childless (end_of p).attrs p.names)) (path_is t)
+      ap (λ (p : Path). asked (removing_by caller p ++ rmdir_tests p.is_childless (last_row p).attrs p.names)) (path_is t)
       ∙ rmdir_told w.rows caller there path first.is_childless (end_childless t)
   told (Rename from to) t s =
-      ap (λ (p : Path). asked (removing_by caller p ++ (arriving_by caller (path_of second) ++ moving_by caller p (path_of second) (slice_get second.rows.items second.names)))) (path_is t)
+      ap (λ (p : Path). asked (removing_by caller p ++ (arriving_by caller (known_path second) ++ moving_by caller p (known_path second) (slice_get second.rows.items second.names)))) (path_is t)
       ∙ ap (λ (p : Path). asked (removing_by caller (path_to w.rows from first.is_childless) ++ (arriving_by caller p ++ moving_by caller (path_to w.rows from first.is_childless) p (slice_get p.rows p.names)))) (path_is s)
       ∙ rename_told w.rows caller there from to first.is_childless second.is_childless (end_childless s)
   told (Chmod path mode) t s = reaches (Chmod path mode) path t

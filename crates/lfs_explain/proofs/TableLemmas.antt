@@ -11,7 +11,7 @@ use Rattle.lfs_model.specs.World.{Rows, child, children}
 use Rattle.lfs_model.specs.Rules.{Check, arriving, attrs_at, front, last, making, making_tests, reached, reaching, removing, removing_tests, rmdir_tests, searching_tests, unlink_tests, walk}
 use Rattle.lfs_calls.proofs.LastNames.{front_stands}
 use Rattle.lfs_explain.specs.Asked.{asked}
-use Rattle.lfs_explain.specs.Tables.{Path, arriving_by, end_of, making_by, no_row, reaching_by, removing_by, row_at, trail_tests}
+use Rattle.lfs_explain.specs.Tables.{Path, arriving_by, last_row, making_by, no_row, reaching_by, removing_by, row_at, trail_tests}
 use Rattle.lfs_explain.specs.Trails.{shown_row, rows_along}
 use Rattle.lfs_explain.specs.declared.trail.ShownRow.{ShownRow}
 use Rattle.lfs_explain.proofs.Askings.{append_same, test_same}
@@ -132,7 +132,7 @@ module _ (rows : Rows) (caller : Caller) (there : There (fin.get rows root)) whe
 
   -- a file
   pub unlink_told : (names : List (List ℕ)) (empty : Bool)
-      → asked (removing_by caller (path_to rows names empty) ++ unlink_tests (end_of (path_to rows names empty)).attrs (length names))
+      → asked (removing_by caller (path_to rows names empty) ++ unlink_tests (last_row (path_to rows names empty)).attrs (length names))
       ≡ asked (removing rows caller names ++ unlink_tests (attrs_at rows (reached rows root names)) (length names))
   unlink_told names empty =
       sym (removing_told names empty _ _ (λ some long. ap (λ (s : ShownRow). asked (unlink_tests s.attrs (length names))) (sym (end_is rows names long))))
@@ -140,7 +140,7 @@ module _ (rows : Rows) (caller : Caller) (there : There (fin.get rows root)) whe
   -- a directory
   pub rmdir_told : (names : List (List ℕ)) (empty : Bool)
       → ((row : ShownRow) → slice_get (rows_along rows root names) (length names) ≡ Some row → empty ≡ (length (children rows row.number) == 0))
-      → asked (removing_by caller (path_to rows names empty) ++ rmdir_tests empty (end_of (path_to rows names empty)).attrs (length names))
+      → asked (removing_by caller (path_to rows names empty) ++ rmdir_tests empty (last_row (path_to rows names empty)).attrs (length names))
       ≡ asked (removing rows caller names ++ rmdir_tests (length (children rows (reached rows root names)) == 0) (attrs_at rows (reached rows root names)) (length names))
   rmdir_told names empty childless =
       sym (removing_told names empty _ _ (λ some long.

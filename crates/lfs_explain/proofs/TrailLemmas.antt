@@ -3,14 +3,10 @@ use Rattle.std.proofs.Common.{◌≡◌, ℕ, zero, suc, ◌+◌, ◌<◌, ◌�
 use Rattle.std.specs.Prelude.{is_some, unwrap_or, option_map, slice_get}
 use Rattle.std.specs.FinMap as fin
 use Rattle.lfs_types.specs.Caller.{Caller}
-use Rattle.lfs_types.specs.Kinds.{is_directory_kind}
-use Rattle.lfs_types.specs.Tree.{Row, attrs_of}
-use Rattle.lfs_types.specs.declared.attrs.Bit.{Bit}
 use Rattle.lfs_types.specs.declared.attrs.Bit.TheVariants as bits
 use Rattle.lfs_types.proofs.Somewhere.{There}
-use Rattle.lfs_rules.specs.Grants.{grants_of}
-use Rattle.lfs_model.specs.World.{Rows, child, file_at}
-use Rattle.lfs_model.specs.Rules.{Check, front, is_directory_row, last, reached, row_grants, visited, walk}
+use Rattle.lfs_model.specs.World.{Rows, child}
+use Rattle.lfs_model.specs.Rules.{Check, front, last, reached, visited, walk}
 use Rattle.lfs_model.proofs.Children.{child-is}
 use Rattle.lfs_explain.specs.Asked.{asked}
 use Rattle.lfs_explain.specs.Tables.{goes_on, trail_tests}

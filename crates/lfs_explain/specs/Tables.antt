@@ -12,7 +12,7 @@ use Rattle.lfs_types.specs.declared.request.Request.{Request}
 use Rattle.lfs_types.specs.declared.request.Request.TheVariants.{Stat, Read, Write, List as Names, SetLength, Create, Mkdir, Unlink, Rmdir, Rename, Chmod, Chown, Chflags, SetLevel, Sync}
 use Rattle.lfs_types.specs.declared.rule.Rule.TheVariants.{IsDirectory, FitsFile, GrantsSearch, NameThere, NameFree, IsNotRoot, IsNotBeneathItself}
 use Rattle.lfs_rules.specs.Grants.{grants_of}
-use Rattle.lfs_model.specs.Rules.{Check, asks, chflags_tests, chmod_tests, chown_tests, entering_tests, leaves_test, length_tests, level_tests, list_tests, making_tests, position, read_tests, removing_tests, replaced_tests, rmdir_tests, searching_tests, start_of, unlink_tests, write_tests, file_max}
+use Rattle.lfs_model.specs.Rules.{Check, asks, chflags_tests, chmod_tests, chown_tests, entering_tests, leaves_test, length_tests, level_tests, list_tests, making_tests, position, read_tests, removing_tests, replaced_tests, rmdir_tests, searching_tests, start_in, unlink_tests, write_tests, file_max}
 use Rattle.lfs_explain.specs.declared.trail.ShownRow.{ShownRow}
 use Rattle.lfs_explain.specs.declared.trail.Trail.{Trail}
 
@@ -47,7 +47,7 @@ trail_tests caller path k (suc n) (row ∷ rows) = step_tests caller path k row.
 
 -- the test of so many bytes in a file from a place on
 abbrev pub fits_test : Place → ℕ → Attrs → ℕ → List Check
-fits_test place count attrs k = asks (nat_le (start_of place attrs.size + count) file_max) FitsFile 0 k ∷ []
+fits_test place count attrs k = asks (nat_le (start_in place attrs.size + count) file_max) FitsFile 0 k ∷ []
 
 -- the test of a file of this length
 abbrev pub length_test : ℕ → ℕ → List Check
@@ -74,12 +74,12 @@ pub record Path : Type 0 where
   pub names : ℕ
   pub is_childless : Bool
 
-abbrev pub path_of : Trail → Path
-path_of trail = record { rows = trail.rows.items; names = trail.names; is_childless = trail.is_childless }
+abbrev pub known_path : Trail → Path
+known_path trail = record { rows = trail.rows.items; names = trail.names; is_childless = trail.is_childless }
 
 -- the row that a path's names lead to
-abbrev pub end_of : Path → ShownRow
-end_of path = row_at path.rows path.names
+abbrev pub last_row : Path → ShownRow
+last_row path = row_at path.rows path.names
 
 -- the directory of that row
 abbrev pub dir_of : Path → ShownRow
@@ -87,7 +87,7 @@ dir_of path = row_at path.rows (path.names - 1)
 
 -- the tests of a call with one path to a file: the walk, and its own
 abbrev pub reaching_by : Caller → (Attrs → ℕ → List Check) → Path → List Check
-reaching_by caller tests path = trail_tests caller 0 0 path.names path.rows ++ tests (end_of path).attrs path.names
+reaching_by caller tests path = trail_tests caller 0 0 path.names path.rows ++ tests (last_row path).attrs path.names
 
 -- the tests of a call that makes a row
 abbrev pub making_by : Caller → Path → List Check
@@ -101,7 +101,7 @@ abbrev pub removing_by : Caller → Path → List Check
 removing_by caller path =
     asks (not (path.names == 0)) IsNotRoot 0 0
     ∷ trail_tests caller 0 0 path.names path.rows
-    ++ removing_tests caller 0 (dir_of path).attrs (end_of path).attrs (path.names - 1)
+    ++ removing_tests caller 0 (dir_of path).attrs (last_row path).attrs (path.names - 1)
 
 -- ---- a row that gets another place
 
@@ -126,8 +126,8 @@ numbers_to to = map (λ (row : ShownRow). row.number) (take to.names to.rows)
 -- the last tests: of the way to the place, and of what is moved
 abbrev pub last_by : Caller → Path → Path → List Check
 last_by caller from to =
-    asks (not (list_any (λ n. n == (end_of from).number) (numbers_to to))) IsNotBeneathItself 1 (position (end_of from).number (numbers_to to))
-    ∷ leaves_test caller ((dir_of from).number == (dir_of to).number) (end_of from).attrs from.names
+    asks (not (list_any (λ n. n == (last_row from).number) (numbers_to to))) IsNotBeneathItself 1 (position (last_row from).number (numbers_to to))
+    ∷ leaves_test caller ((dir_of from).number == (dir_of to).number) (last_row from).attrs from.names
     ∷ []
 
 -- whether what is there is the row of this number
@@ -138,8 +138,8 @@ is_itself n (Some row) = row.number == n
 -- the tests of a row that gets a place: none where it has that place already
 abbrev pub moving_by : Caller → Path → Path → Option ShownRow → List Check
 moving_by caller from to there =
-    if is_itself (end_of from).number there then [] else
-    placing_by caller (end_of from).attrs to there ++ last_by caller from to
+    if is_itself (last_row from).number there then [] else
+    placing_by caller (last_row from).attrs to there ++ last_by caller from to
 
 -- ---- a call
 
@@ -152,9 +152,9 @@ table_by level caller (Write path place bytes) first second = reaching_by caller
 table_by level caller (SetLength path len) first second = reaching_by caller (own_tests level caller (SetLength path len)) first
 table_by level caller (Create path mode) first second = making_by caller first
 table_by level caller (Mkdir path mode) first second = making_by caller first
-table_by level caller (Unlink path) first second = removing_by caller first ++ unlink_tests (end_of first).attrs first.names
+table_by level caller (Unlink path) first second = removing_by caller first ++ unlink_tests (last_row first).attrs first.names
 table_by level caller (Rmdir path) first second =
-    removing_by caller first ++ rmdir_tests first.is_childless (end_of first).attrs first.names
+    removing_by caller first ++ rmdir_tests first.is_childless (last_row first).attrs first.names
 table_by level caller (Rename from to) first second =
     removing_by caller first ++ (arriving_by caller second ++ moving_by caller first second (slice_get second.rows second.names))
 table_by level caller (Chmod path mode) first second = reaching_by caller (own_tests level caller (Chmod path mode)) first

@@ -4,12 +4,12 @@ ghost use Rattle.std.specs.Prelude.{◌≡◌, ◌==◌, ◌++◌, ◌≤◌, On
 ghost use Rattle.std.specs.List.{list_any};
 ghost use Rattle.lfs_types.specs.declared.path.TheConstants.{PATH_MAX};
 ghost use Rattle.lfs_model.specs.Rules.{leaves_test, position};
-ghost use Rattle.lfs_explain.specs.Tables.{arriving_by, is_itself, last_by, moving_by, path_of, placing_by};
+ghost use Rattle.lfs_explain.specs.Tables.{arriving_by, is_itself, known_path, last_by, moving_by, placing_by};
 ghost use Rattle.lfs_explain.specs.declared.trail.ShownRow.{ShownRow};
 
 use crate::check::Check;
 use crate::looking::row_of;
-use crate::telling::{dir_of, end_of, push, push_trail};
+use crate::telling::{dir_of, last_row, push, push_trail};
 use crate::testing;
 use crate::trail::{ShownRow, Trail};
 use lfs_checks::site::Site;
@@ -27,7 +27,7 @@ pub(crate) fn push_arriving(
 ) -> Result<(), AllocError>
     requires { to.now.names ≤ PATH_MAX }
     ensures { OnOk result (checks.new.items ≡ checks.old.items
-        ++ arriving_by cred.now (path_of to.now)) }
+        ++ arriving_by cred.now (known_path to.now)) }
 {
     let at = to.names.saturating_sub(1);
     let root = Site { path: 1, at: 0 };
@@ -46,10 +46,10 @@ pub(crate) fn push_moving(
 ) -> Result<(), AllocError>
     requires { to.now.names ≤ PATH_MAX }
     ensures { OnOk result (checks.new.items ≡ checks.old.items
-        ++ moving_by cred.now (path_of from.now) (path_of to.now)
+        ++ moving_by cred.now (known_path from.now) (known_path to.now)
         (slice_get to.now.rows.items to.now.names)) }
 {
-    let moved = end_of(from);
+    let moved = last_row(from);
     if is_itself(moved.number, to) {
         return Ok(());
     }
@@ -76,7 +76,7 @@ fn push_placing(
 ) -> Result<(), AllocError>
     requires { to.now.names ≤ PATH_MAX }
     ensures { OnOk result (checks.new.items ≡ checks.old.items
-        ++ placing_by cred.now moved.now (path_of to.now)
+        ++ placing_by cred.now moved.now (known_path to.now)
         (slice_get to.now.rows.items to.now.names)) }
 {
     let at = to.names.saturating_sub(1);
@@ -101,9 +101,9 @@ fn push_last(
 ) -> Result<(), AllocError>
     requires { to.now.names ≤ PATH_MAX }
     ensures { OnOk result (checks.new.items ≡ checks.old.items
-        ++ last_by cred.now (path_of from.now) (path_of to.now)) }
+        ++ last_by cred.now (known_path from.now) (known_path to.now)) }
 {
-    let moved = end_of(from);
+    let moved = last_row(from);
     let stays = dir_of(from).number == dir_of(to).number;
     let (is_on_way, place) = place_on(directories_to(to), moved.number);
     let site = Site { path: 1, at: place };

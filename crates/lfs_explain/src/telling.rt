@@ -3,7 +3,7 @@
 ghost use Rattle.std.specs.Prelude.{◌≡◌, ◌+◌, ◌-◌, ◌++◌, ◌≤◌, OnOk, slice_get};
 ghost use Rattle.lfs_types.specs.declared.path.TheConstants.{PATH_MAX};
 ghost use Rattle.lfs_explain.specs.Asked.{asked};
-ghost use Rattle.lfs_explain.specs.Tables.{dir_of, end_of, making_by, no_row, own_tests, path_of, reaching_by, removing_by, row_at, table_by, trail_tests};
+ghost use Rattle.lfs_explain.specs.Tables.{dir_of, known_path, last_row, making_by, no_row, own_tests, reaching_by, removing_by, row_at, table_by, trail_tests};
 
 use crate::check::Check;
 use crate::looking::row_of;
@@ -33,17 +33,20 @@ pub(crate) fn push_table(
     requires short { first.now.names ≤ PATH_MAX }
     requires short_second { second.now.names ≤ PATH_MAX }
     ensures { OnOk result (asked checks.new.items ≡ asked (checks.old.items
-        ++ table_by level cred.now request.now (path_of first.now) (path_of second.now))) }
+        ++ table_by level cred.now request.now (known_path first.now) (known_path second.now))) }
 {
     match request {
         Request::Create { .. } | Request::Mkdir { .. } => push_making(checks, cred, first),
         Request::Unlink { .. } => {
             push_removing(checks, cred, first)?;
-            push(checks, &testing::unlink(&end_of(first).attrs, first.names))
+            push(
+                checks,
+                &testing::unlink(&last_row(first).attrs, first.names),
+            )
         }
         Request::Rmdir { .. } => {
             push_removing(checks, cred, first)?;
-            let end = end_of(first);
+            let end = last_row(first);
             push(
                 checks,
                 &testing::rmdir(&end.attrs, first.is_childless, first.names),
@@ -117,15 +120,15 @@ fn row_at(rows: &[ShownRow], at: u32) -> ShownRow
 }
 
 /// The row that a path's names lead to.
-pub(crate) fn end_of(path: &Trail) -> ShownRow
-    ensures { result ≡ end_of (path_of path.now) }
+pub(crate) fn last_row(path: &Trail) -> ShownRow
+    ensures { result ≡ last_row (known_path path.now) }
 {
     row_at(&path.rows, path.names)
 }
 
 /// The directory of that row.
 pub(crate) fn dir_of(path: &Trail) -> ShownRow
-    ensures { result ≡ dir_of (path_of path.now) }
+    ensures { result ≡ dir_of (known_path path.now) }
 {
     row_at(&path.rows, path.names.saturating_sub(1))
 }
@@ -140,7 +143,7 @@ fn push_reaching(
 ) -> Result<(), AllocError>
     requires { path.now.names ≤ PATH_MAX }
     ensures { OnOk result (asked checks.new.items ≡ asked (checks.old.items
-        ++ reaching_by cred.now (own_tests level cred.now request.now) (path_of path.now))) }
+        ++ reaching_by cred.now (own_tests level cred.now request.now) (known_path path.now))) }
 {
     push_trail(checks, cred, 0, path.names, &path.rows)?;
     push_own(
@@ -148,7 +151,7 @@ fn push_reaching(
         level,
         cred,
         request,
-        &end_of(path).attrs,
+        &last_row(path).attrs,
         path.names,
     )
 }
@@ -193,7 +196,7 @@ fn push_own(
 fn push_making(checks: &mut Vec<Check>, cred: &Cred, path: &Trail) -> Result<(), AllocError>
     requires { path.now.names ≤ PATH_MAX }
     ensures { OnOk result (checks.new.items ≡ checks.old.items
-        ++ making_by cred.now (path_of path.now)) }
+        ++ making_by cred.now (known_path path.now)) }
 {
     let at = path.names.saturating_sub(1);
     let free = row_of(&path.rows, path.names as usize).is_none();
@@ -207,10 +210,10 @@ fn push_making(checks: &mut Vec<Check>, cred: &Cred, path: &Trail) -> Result<(),
 fn push_removing(checks: &mut Vec<Check>, cred: &Cred, path: &Trail) -> Result<(), AllocError>
     requires { path.now.names ≤ PATH_MAX }
     ensures { OnOk result (checks.new.items ≡ checks.old.items
-        ++ removing_by cred.now (path_of path.now)) }
+        ++ removing_by cred.now (known_path path.now)) }
 {
     let at = path.names.saturating_sub(1);
-    let (dir, file) = (dir_of(path), end_of(path));
+    let (dir, file) = (dir_of(path), last_row(path));
     let root = Site { path: 0, at: 0 };
     push(
         checks,

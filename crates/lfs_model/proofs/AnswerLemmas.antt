@@ -11,7 +11,7 @@ use Rattle.lfs_model.specs.declared.journal.Entry.{Entry}
 use Rattle.lfs_model.specs.declared.journal.Event.{Event}
 use Rattle.lfs_model.specs.declared.journal.Event.TheVariants.{User, Cleaner}
 use Rattle.lfs_model.specs.LawsRuns.{SameAnswers}
-use Rattle.lfs_model.specs.Runs.{call_of, calls_of, entry_of, users_alone, users_event}
+use Rattle.lfs_model.specs.Runs.{call_of, calls_of, journaled, users_alone, users_event}
 use Rattle.lfs_model.specs.Steps.{IsAnswer, IsEvent, IsLegal, after_event, world_after}
 use Rattle.lfs_model.proofs.EntryLemmas.{users_alone_law}
 
@@ -27,7 +27,7 @@ AllJudged [] = Unit {0}
 AllJudged (e ∷ es) = IsJudged e.event × AllJudged es
 
 AllJudged-left : (session : ℕ) (caller : Caller) (event : Event) (es : List Entry) → AllJudged es
-    → AllJudged (entry_of session caller (users_event event) ++ es)
+    → AllJudged (journaled session caller (users_event event) ++ es)
 AllJudged-left session caller (User Sync (Served shown)) es all = all
 AllJudged-left session caller (User Sync (Denied denial)) es all = all
 AllJudged-left session caller (User Sync (Refused resource)) es all = all

@@ -18,7 +18,7 @@ use Rattle.lfs_model.proofs.Trees.{no_parent}
 use Rattle.lfs_types.specs.declared.attrs.Kind.{Kind}
 use Rattle.lfs_types.specs.declared.attrs.Kind.TheVariants.{File as Regular, Directory}
 use Rattle.lfs_model.specs.World.{Rows, child, children, file_at, IsChild, IsTree}
-use Rattle.lfs_model.specs.Rules.{Check, asks, attrs_at, change_tests, chflags_tests, chmod_tests, chown_tests, file_max, is_end, length_tests, level_tests, list_tests, read_tests, start_of, stat_tests, write_tests, decide, first_failing, front, last, making, next, position, reached, reaching, removing, removing_tests, rmdir_tests, unlink_tests, row_grants, is_directory_row, visited, walk, arriving, is_there, placing_tests, replaced_tests, entering_tests, moving_tests, last_tests}
+use Rattle.lfs_model.specs.Rules.{Check, asks, attrs_at, change_tests, chflags_tests, chmod_tests, chown_tests, file_max, is_end, length_tests, level_tests, list_tests, read_tests, start_in, stat_tests, write_tests, decide, first_failing, front, last, making, next, position, reached, reaching, removing, removing_tests, rmdir_tests, unlink_tests, row_grants, is_directory_row, visited, walk, arriving, is_there, placing_tests, replaced_tests, entering_tests, moving_tests, last_tests}
 use Rattle.lfs_model.specs.LawDenied.{child_of, led, IsKept, IsTooLong, MayEnter, MayPass, Says, SaysAt, Tells, Told, TellsLittle}
 use Rattle.lfs_model.specs.Rights.{IsGivable}
 use Rattle.lfs_rules.specs.Bits.{has_bit}
@@ -567,7 +567,7 @@ module _ (w : World) (caller : Caller) (tree : IsTree w.rows) where
     (λ f. object (Names path) path n a GrantsRead (λ r there. (refl, of_row w.rows n r there (λ x. grants_of caller x bits.Read ≡ false) f)), tt),
   ))
   told (Write path place bytes) = by_path (Write path place bytes) path (write_tests caller place (length bytes))
-      (change_told (Write path place bytes) path (is_end place) (λ attrs. nat_le (start_of place attrs.size + length bytes) file_max) (λ r f. not_most _ _ f))
+      (change_told (Write path place bytes) path (is_end place) (λ attrs. nat_le (start_in place attrs.size + length bytes) file_max) (λ r f. not_most _ _ f))
   told (SetLength path len) = by_path (SetLength path len) path (length_tests caller len) (change_told (SetLength path len) path false (λ attrs. nat_le len file_max) (λ r f. not_most _ _ f))
   told (Create path mode) = made w caller (Create path mode) tree path (Along (Create path mode) path) (λ rule k t. t)
   told (Mkdir path mode) = made w caller (Mkdir path mode) tree path (Along (Mkdir path mode) path) (λ rule k t. t)

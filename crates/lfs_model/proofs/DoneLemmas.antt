@@ -9,7 +9,7 @@ use Rattle.lfs_types.specs.declared.request.Request.TheVariants.{Stat, Read, Wri
 use Rattle.lfs_rules.specs.Bits.{has_bit}
 use Rattle.lfs_rules.specs.SetId.{set_id_cleared}
 use Rattle.lfs_model.specs.World.{IsTree, child, IsChild}
-use Rattle.lfs_model.specs.Rules.{decide, reached, front, last, start_of}
+use Rattle.lfs_model.specs.Rules.{decide, reached, front, last, start_in}
 use Rattle.lfs_model.specs.Effects.{effect, with_file, written, cut, given, mode_after, least_unused, after_rename, with_place, without_row}
 use Rattle.lfs_model.specs.LawDone.{Became, Did, Done, GaveWay}
 use Rattle.lfs_model.specs.LawServed.{HasRow, May}
@@ -93,7 +93,7 @@ module _ (numbers : ℕ) (w : World) (caller : Caller) (tree : IsTree w.rows) wh
   did (Names path) h room = refl
   did (Write path place []) h room = refl
   did (Write path place (b ∷ bs)) h room = changed path (written caller place (b ∷ bs)) _ _ (may w caller tree (Write path place (b ∷ bs)) h) (λ r.
-      let start = start_of place (length r.file.bytes) in (
+      let start = start_in place (length r.file.bytes) in (
         length-spliced r.file.bytes start b bs ∙ most (length r.file.bytes) (start + length (b ∷ bs)),
         (λ i value c. ap (λ j. get_or (splice r.file.bytes start (b ∷ bs)) j 0) (sym c.at) ∙ splice-inside r.file.bytes start b bs c.k c.inside ∙ c.is),
         left caller r.file.mode,

@@ -8,7 +8,7 @@ use Rattle.lfs_model.specs.declared.journal.Entry.{Entry}
 use Rattle.lfs_model.specs.declared.journal.Event.{Event}
 use Rattle.lfs_model.specs.declared.journal.Event.TheVariants.{User, Cleaner}
 use Rattle.lfs_model.specs.LawsRuns.{UsersAlone}
-use Rattle.lfs_model.specs.Runs.{entry_of, users_alone, users_event}
+use Rattle.lfs_model.specs.Runs.{journaled, users_alone, users_event}
 use Rattle.lfs_model.specs.Steps.{IsEvent, IsLegal, after_event, world_after}
 
 -- entries and their users' alone, made from worlds that lead to the same
@@ -18,7 +18,7 @@ Alike numbers segments users w entries v =
 
 left_out : (numbers segments session : ℕ) (caller : Caller) (event : Event) (entries : List Entry) (w : World) → IsEvent numbers segments w caller event
     → Alike numbers segments (users_alone entries) (after_event numbers w caller event) entries (after_event numbers w caller event)
-    → Alike numbers segments (entry_of session caller (users_event event) ++ users_alone entries) w entries (after_event numbers w caller event)
+    → Alike numbers segments (journaled session caller (users_event event) ++ users_alone entries) w entries (after_event numbers w caller event)
 left_out numbers segments session caller (User Sync (Served shown)) entries w is rest = rest
 left_out numbers segments session caller (User Sync (Denied denial)) entries w is rest = rest
 left_out numbers segments session caller (User Sync (Refused resource)) entries w is rest = rest

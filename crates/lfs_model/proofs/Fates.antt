@@ -24,7 +24,7 @@ use Rattle.lfs_rules.specs.Owners.{is_the_superuser, is_the_owner, is_in_group, 
 use Rattle.lfs_rules.specs.Securelevel.{is_above_zero}
 use Rattle.lfs_rules.specs.Sticky.{is_barred}
 use Rattle.lfs_model.specs.World.{child, file_at, IsChild, IsTree}
-use Rattle.lfs_model.specs.Rules.{decide, first_failing, reached, front, last, row_grants, is_directory_row, attrs_at, asks, start_of, file_max, is_end, walk, removing, arriving, moving_tests}
+use Rattle.lfs_model.specs.Rules.{decide, first_failing, reached, front, last, row_grants, is_directory_row, attrs_at, asks, start_in, file_max, is_end, walk, removing, arriving, moving_tests}
 use Rattle.lfs_model.specs.Effects.{effect, after_rename, with_file, with_place, without_row, mode_after, written, cut, given}
 use Rattle.lfs_model.specs.LawGone as gone
 use Rattle.lfs_model.specs.LawMoved.{MayMove}
@@ -199,11 +199,11 @@ module _ (w : World) (caller : Caller) (tree : IsTree w.rows) (n : ℕ) (r : Row
   -- ---- written
 
   put_bytes : (path : List (List ℕ)) (place : Place) (b : ℕ) (bs : List ℕ) → n ≡ reached w.rows root path
-      → MayChange w.rows caller path (is_end place) → (nat_le (start_of place (attrs_at w.rows (reached w.rows root path)).size + length (b ∷ bs)) file_max ≡ true)
-      → MayRewrite w caller (Write path place (b ∷ bs)) n r (splice r.file.bytes (start_of place (length r.file.bytes)) (b ∷ bs))
+      → MayChange w.rows caller path (is_end place) → (nat_le (start_in place (attrs_at w.rows (reached w.rows root path)).size + length (b ∷ bs)) file_max ≡ true)
+      → MayRewrite w caller (Write path place (b ∷ bs)) n r (splice r.file.bytes (start_in place (length r.file.bytes)) (b ∷ bs))
   put_bytes path place b bs same may fits =
-      let start = start_of place (length r.file.bytes) in
-      let within : start + length (b ∷ bs) ≤ file_max = le-true _ _ (known (λ a. nat_le (start_of place a.size + length (b ∷ bs)) file_max ≡ true) _ same fits) in
+      let start = start_in place (length r.file.bytes) in
+      let within : start + length (b ∷ bs) ≤ file_max = le-true _ _ (known (λ a. nat_le (start_in place a.size + length (b ∷ bs)) file_max ≡ true) _ same fits) in
       let long = length-spliced r.file.bytes start b bs in
       record {
         regular = regular_of r.file.kind (known (λ a. is_directory_kind a.kind ≡ false) _ same may.regular);
@@ -221,7 +221,7 @@ module _ (w : World) (caller : Caller) (tree : IsTree w.rows) (n : ℕ) (r : Row
             (cases_lt i start);
         appends = λ append.
             let at = at_end place (is_append_only (attrs_of r.file)) (known (λ a. (is_end place || not (is_append_only a)) ≡ true) _ same may.keeps) append in
-            (subst (λ p. Appends (Write path p (b ∷ bs))) (sym at) tt, ap (λ p. splice r.file.bytes (start_of p (length r.file.bytes)) (b ∷ bs)) at ∙ splice_end r.file.bytes b bs);
+            (subst (λ p. Appends (Write path p (b ∷ bs))) (sym at) tt, ap (λ p. splice r.file.bytes (start_in p (length r.file.bytes)) (b ∷ bs)) at ∙ splice_end r.file.bytes b bs);
         asked = sym same;
       }
 
@@ -418,7 +418,7 @@ module _ (numbers : ℕ) (w : World) (caller : Caller) (tree : IsTree w.rows) (n
   served_fate (Names path) allowed room = Stays there
   served_fate (Write path place []) allowed room = Stays there
   served_fate (Write path place (b ∷ bs)) allowed room =
-      let more = λ (attrs : Attrs) (k : ℕ). asks (nat_le (start_of place attrs.size + length (b ∷ bs)) file_max) FitsFile 0 k ∷ [] in
+      let more = λ (attrs : Attrs) (k : ℕ). asks (nat_le (start_in place attrs.size + length (b ∷ bs)) file_max) FitsFile 0 k ∷ [] in
       let may = may_change w.rows caller path (is_end place) more allowed in
       let fits = fits_last w.rows caller path (is_end place) more allowed in
       changed_fate _ path (written caller place (b ∷ bs)) (λ same e. Changes _ e (put_bytes w caller tree n r there path place b bs same may (met_first _ _ _ fits).0))

@@ -19,7 +19,7 @@ use Rattle.lfs_model.proofs.ServedLemmas.{led_none}
 use Rattle.lfs_model.specs.LawDenied.{MayEnter, MayPass, SaysAt, Tells, led}
 use Rattle.lfs_model.specs.World.{Rows, ancestor, child, children, file_at, parent_of, IsChild, IsTree}
 use Rattle.lfs_model.specs.LawHidden.{DifferBeneath, HasSameNames, HidesFromCall, IsBeneath, IsListing, IsOnto}
-use Rattle.lfs_model.specs.LawView.{HasSameView, ShowsAlike, TellsEmpty, may_enter, seen, sight}
+use Rattle.lfs_model.specs.LawView.{HasSameView, ShowsAlike, TellsEmpty, may_enter, sight, sights}
 use Rattle.lfs_model.specs.Rights.{Reaches, paths}
 use Rattle.lfs_model.specs.Rules.{decide, first_failing, is_directory_row, next, reached, removing, row_grants, walk}
 use Rattle.lfs_model.proofs.Allowed.{child_there}
@@ -147,21 +147,21 @@ module _ (w v : World) (d : ℕ) (dir : Row) (tree : IsTree w.rows) (other : IsT
 
     -- ---- what he sees
 
-    seen_from : (names : List (List ℕ)) (o : Option ℕ) → ((n : ℕ) → o ≡ Some n → IsApart n) → seen w.rows caller o names ≡ seen v.rows caller o names
-    unfolding seen
+    seen_from : (names : List (List ℕ)) (o : Option ℕ) → ((n : ℕ) → o ≡ Some n → IsApart n) → sights w.rows caller o names ≡ sights v.rows caller o names
+    unfolding sights
     seen_from [] None h = refl
     seen_from [] (Some n) h = ap (λ x. option_map (λ (r : Row). (n, attrs_of r.file)) x ∷ []) (h n refl).same
     seen_from (name ∷ names) None h = refl
     seen_from (name ∷ names) (Some n) h =
         let a = h n refl in
         (λ i. option_map (λ (r : Row). (n, attrs_of r.file)) (a.same i)
-        ∷ cond (is_directory_row (a.same i) && row_grants caller bits.Search (a.same i)) (seen w.rows caller (child w.rows n name) names) [])
+        ∷ cond (is_directory_row (a.same i) && row_grants caller bits.Search (a.same i)) (sights w.rows caller (child w.rows n name) names) [])
         ∙ ap (λ l. sight v.rows (Some n) ∷ l) (when (may_enter v.rows caller (Some n)) _ _ (λ enters.
         let off = entered n (ap (row_grants caller bits.Search) a.same ∙ (and_parts _ _ enters).1) in
         seen_from names (child w.rows n name) (λ m e. child_apart n a off name m (child-is w.rows n name m e))
-        ∙ ap (λ o. seen v.rows caller o names) (same_child n a off name)))
+        ∙ ap (λ o. sights v.rows caller o names) (same_child n a off name)))
 
-    seen_root : (names : List (List ℕ)) → seen w.rows caller (Some root) names ≡ seen v.rows caller (Some root) names
+    seen_root : (names : List (List ℕ)) → sights w.rows caller (Some root) names ≡ sights v.rows caller (Some root) names
     seen_root names = seen_from names (Some root) (λ n e. subst IsApart (number e) (top w v d dir tree other below differ))
       where
         number : {m n : ℕ} → Some m ≡ Some n → m ≡ n

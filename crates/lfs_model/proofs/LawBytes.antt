@@ -19,7 +19,7 @@ use Rattle.lfs_model.specs.declared.journal.Entry.{Entry}
 use Rattle.lfs_model.specs.declared.journal.Event.{Event}
 use Rattle.lfs_model.specs.declared.journal.Event.TheVariants.{User, Cleaner}
 use Rattle.lfs_model.specs.World.{Rows, child, file_at, IsTree}
-use Rattle.lfs_model.specs.Rules.{reached, front, last, start_of}
+use Rattle.lfs_model.specs.Rules.{reached, front, last, start_in}
 use Rattle.lfs_model.specs.Effects.{effect, after_rename, least_unused, with_file, with_place, without_row, new_file, written, cut, given}
 use Rattle.lfs_model.specs.LawsBytes.{SetsByte, SetsSome, IsLastSet, LastWritten}
 use Rattle.lfs_model.specs.LawsRuns.{IsServed, NoneServed}
@@ -216,8 +216,8 @@ module _ (numbers : ℕ) (w : World) (n i : ℕ) (after : Row) where
       → map.get (effect numbers w caller (Write path place (b ∷ bs))).rows n ≡ Some after → Byte numbers w (Write path place (b ∷ bs)) n i after
   rewritten caller path place b bs h =
       let before = was w n (reached w.rows root path) (written caller place (b ∷ bs)) after _ refl h in
-      let start = start_of place (length before.row.file.bytes) in
-      let here : start_of place (length (file_at (map.get w.rows n)).bytes) ≡ start = ap (λ o. start_of place (length (file_at o).bytes)) before.there in
+      let start = start_in place (length before.row.file.bytes) in
+      let here : start_in place (length (file_at (map.get w.rows n)).bytes) ≡ start = ap (λ o. start_in place (length (file_at o).bytes)) before.there in
       let outside : (i < start) ⊎ (start + length (b ∷ bs) ≤ i) → (value : ℕ) → SetsByte numbers w n i value (Write path place (b ∷ bs)) → ⊥ =
       λ out value sets. let k = sets.1.inside in let at = sets.1.at in ⊎_elim (λ low. omega (arith, here, k, at, low)) (λ high. omega (arith, here, k, at, high)) out in
       ⊎_elim

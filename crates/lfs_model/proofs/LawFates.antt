@@ -18,7 +18,7 @@ use Rattle.lfs_rules.specs.SetId.{set_id_cleared}
 use Rattle.lfs_types.specs.declared.rule.Rule.TheVariants.{FitsFile}
 use Rattle.std.specs.Prelude.{nat_le}
 use Rattle.lfs_model.specs.World.{Rows, file_at}
-use Rattle.lfs_model.specs.Rules.{decide, first_failing, reached, front, last, attrs_at, asks, start_of, file_max, is_end, walk, removing, arriving, moving_tests}
+use Rattle.lfs_model.specs.Rules.{decide, first_failing, reached, front, last, attrs_at, asks, start_in, file_max, is_end, walk, removing, arriving, moving_tests}
 use Rattle.lfs_model.specs.Effects.{effect, after_rename, with_file, with_place, without_row, written, cut, given}
 use Rattle.lfs_model.specs.LawsFlags.{SetsFlags}
 use Rattle.lfs_model.specs.LawOneThing.{KeepsMode}
@@ -196,14 +196,14 @@ module _ (numbers : ℕ) (w : World) (caller : Caller) (n : ℕ) (r : Row) (ther
   fate (Names path) allowed room = Stays there
   fate (Write path place []) allowed room = Stays there
   fate (Write path place (b ∷ bs)) allowed room =
-      let may = may_change w.rows caller path (is_end place) (λ attrs k. asks (nat_le (start_of place attrs.size + length (b ∷ bs)) file_max) FitsFile 0 k ∷ []) allowed in
+      let may = may_change w.rows caller path (is_end place) (λ attrs k. asks (nat_le (start_in place attrs.size + length (b ∷ bs)) file_max) FitsFile 0 k ∷ []) allowed in
       ⊎_elim
       (λ same. Rewrites (written caller place (b ∷ bs) r.file) (file_changed w n _ r (written caller place (b ∷ bs)) there same)
       (rewritten_here path (is_end place) (written caller place (b ∷ bs) r.file) same may refl refl refl (kept_mode (caller.uid == 0) r.file.mode) refl
       (λ append.
       let is : is_append_only (attrs_at w.rows (reached w.rows root path)) ≡ true = ap is_append_only (attrs_here _ same) ∙ append in
       let at = at_end place _ may.keeps is in
-      (b ∷ bs, ap (λ p. splice r.file.bytes (start_of p (length r.file.bytes)) (b ∷ bs)) at ∙ splice_end r.file.bytes b bs))))
+      (b ∷ bs, ap (λ p. splice r.file.bytes (start_in p (length r.file.bytes)) (b ∷ bs)) at ∙ splice_end r.file.bytes b bs))))
       (λ other. Stays (file_unchanged (map.get w.rows (reached w.rows root path)) w n _ (written caller place (b ∷ bs)) other ∙ there))
       (cases_eq n (reached w.rows root path))
   fate (SetLength path len) allowed room =

@@ -16,7 +16,7 @@ use Rattle.lfs_model.specs.declared.journal.Event.TheVariants.{User, Cleaner}
 use Rattle.lfs_types.specs.declared.rule.Rule.TheVariants.{FitsFile}
 use Rattle.std.specs.Prelude.{nat_le}
 use Rattle.lfs_model.specs.World.{Rows, child, children, ancestor, IsChild, IsTree}
-use Rattle.lfs_model.specs.Rules.{decide, first_failing, is_directory_row, reached, front, last, asks, start_of, file_max, is_end, removing, arriving, moving_tests}
+use Rattle.lfs_model.specs.Rules.{decide, first_failing, is_directory_row, reached, front, last, asks, start_in, file_max, is_end, removing, arriving, moving_tests}
 use Rattle.lfs_model.specs.Effects.{effect, after_rename, least_unused, with_file, with_place, without_row, new_file, written, cut, given}
 use Rattle.lfs_model.specs.Steps.{IsAnswer, IsEvent, IsLegal, LacksInodes, AllUsed, after_answer, after_event, world_after}
 use Rattle.lfs_model.proofs.Changed.{IsTree-changed}
@@ -139,7 +139,7 @@ module _ (numbers : ℕ) (w : World) (caller : Caller) (tree : IsTree w.rows) wh
   effect_tree (Names path) allowed room = tree
   effect_tree (Write path place []) allowed room = tree
   effect_tree (Write path place (b ∷ bs)) allowed room =
-      changed_tree path (is_end place) (written caller place (b ∷ bs)) (may_change w.rows caller path (is_end place) (λ attrs k. asks (nat_le (start_of place attrs.size + length (b ∷ bs)) file_max) FitsFile 0 k ∷ []) allowed) (λ f. refl)
+      changed_tree path (is_end place) (written caller place (b ∷ bs)) (may_change w.rows caller path (is_end place) (λ attrs k. asks (nat_le (start_in place attrs.size + length (b ∷ bs)) file_max) FitsFile 0 k ∷ []) allowed) (λ f. refl)
   effect_tree (SetLength path len) allowed room =
       changed_tree path false (cut caller len) (may_change w.rows caller path false (λ attrs k. asks (nat_le len file_max) FitsFile 0 k ∷ []) allowed) (λ f. refl)
   effect_tree (Create path mode) allowed room = new_tree numbers w tree caller path Regular _ mode (may_make w.rows tree caller path allowed) room

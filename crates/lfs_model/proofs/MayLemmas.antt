@@ -21,7 +21,7 @@ use Rattle.lfs_model.specs.World.{Rows, child, IsChild, IsTree}
 use Rattle.lfs_model.specs.LawDenied.{child_of, led}
 use Rattle.lfs_model.specs.LawServed.{HasPlace, HasPlaceFor, HasRow, IsAnsweredAsMay, May, MayBring, MayHang, ServedExactlyWhereMay}
 use Rattle.lfs_model.specs.Rights.{MayReplace, MayTakeAway, Reaches}
-use Rattle.lfs_model.specs.Rules.{arriving, asks, attrs_at, decide, file_max, first_failing, front, is_end, is_there, last, making, moving_tests, next, reached, removing, start_of, walk}
+use Rattle.lfs_model.specs.Rules.{arriving, asks, attrs_at, decide, file_max, first_failing, front, is_end, is_there, last, making, moving_tests, next, reached, removing, start_in, walk}
 use Rattle.lfs_model.specs.Steps.{IsAnswer}
 use Rattle.lfs_model.proofs.Allowed.{MayArrive, MayGo, MayRemove, child_there, directory_row_there, fits_last, grants_attrs, may_arrive, may_be_replaced, may_change, may_go, may_make, may_remove, path_there, same_kinds}
 use Rattle.lfs_model.proofs.Children.{child-is, child-none}
@@ -190,14 +190,14 @@ module _ (w : World) (caller : Caller) (tree : IsTree w.rows) where
         known w caller tree _ r there (λ x. grants_of caller x bits.Read ≡ true) _ refl b.0,
       ))
   may (Write path place bytes) h =
-      let more = λ (attrs : Attrs) (k : ℕ). asks (nat_le (start_of place attrs.size + length bytes) file_max) FitsFile 0 k ∷ [] in
+      let more = λ (attrs : Attrs) (k : ℕ). asks (nat_le (start_in place attrs.size + length bytes) file_max) FitsFile 0 k ∷ [] in
       let change = may_change w.rows caller path (is_end place) more h in
       let fits = met_first _ _ _ (fits_last w.rows caller path (is_end place) more h) in
       at_end path _ change.walks (λ r there. (
         regular_of _ (known w caller tree _ r there (λ x. is_directory_kind x.kind ≡ false) _ refl change.regular),
         may_write w caller tree _ r there path (is_end place) refl change,
         (λ e. end_of (is_end place) _ (known w caller tree _ r there (λ x. (is_end place || not (is_append_only x)) ≡ true) _ refl change.keeps) e),
-        le-true _ _ (known w caller tree _ r there (λ x. nat_le (start_of place x.size + length bytes) file_max ≡ true) _ refl fits.0),
+        le-true _ _ (known w caller tree _ r there (λ x. nat_le (start_in place x.size + length bytes) file_max ≡ true) _ refl fits.0),
       ))
   may (SetLength path len) h =
       let more = λ (attrs : Attrs) (k : ℕ). asks (nat_le len file_max) FitsFile 0 k ∷ [] in

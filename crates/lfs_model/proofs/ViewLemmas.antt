@@ -12,7 +12,7 @@ use Rattle.lfs_types.specs.declared.rule.Denial.{Denial}
 use Rattle.lfs_rules.specs.Grants.{grants_of}
 use Rattle.lfs_model.specs.World.{Rows, child, file_at}
 use Rattle.lfs_model.specs.Rules.{Check, attrs_at, first_failing, is_directory_row, next, reached, row_grants, visited, walk}
-use Rattle.lfs_model.specs.LawView.{may_enter, seen, sight}
+use Rattle.lfs_model.specs.LawView.{may_enter, sight, sights}
 use Rattle.lfs_model.proofs.Allowed.{child_there}
 use Rattle.lfs_model.proofs.Children.{child-is}
 use Rattle.lfs_model.proofs.Deciding.{failing-behind, failing-front, met_first}
@@ -124,10 +124,10 @@ and_true false q h g = absurd (cc)
 module _ (rows others : Rows) (caller : Caller) where
   -- the same is seen along names from a row
   abbrev pub Sees : Option ℕ → List (List ℕ) → Type 0
-  Sees o names = seen rows caller o names ≡ seen others caller o names
+  Sees o names = sights rows caller o names ≡ sights others caller o names
 
-  seen_first : (o p : Option ℕ) (names : List (List ℕ)) → seen rows caller o names ≡ seen others caller p names → sight rows o ≡ sight others p
-  unfolding seen
+  seen_first : (o p : Option ℕ) (names : List (List ℕ)) → sights rows caller o names ≡ sights others caller p names → sight rows o ≡ sight others p
+  unfolding sights
   seen_first o p [] e = first_same _ _ _ _ e
   seen_first o p (name ∷ names) e = first_same _ _ _ _ e
 
@@ -136,8 +136,8 @@ module _ (rows others : Rows) (caller : Caller) where
   sees_first n names e = seen_first (Some n) (Some n) names e
 
   seen_rest : (at : ℕ) (name : List ℕ) (names : List (List ℕ)) → Sees (Some at) (name ∷ names) → may_enter rows caller (Some at) ≡ true → may_enter others caller (Some at) ≡ true
-      → seen rows caller (child rows at name) names ≡ seen others caller (child others at name) names
-  unfolding seen
+      → sights rows caller (child rows at name) names ≡ sights others caller (child others at name) names
+  unfolding sights
   seen_rest at name names e h g = rest_same _ _ _ _ _ _ h g e
 
   -- a row that the caller may enter
@@ -152,7 +152,7 @@ module _ (rows others : Rows) (caller : Caller) where
       let rest = seen_rest at name names e (and_true _ _ d s)
       (and_true _ _ (sym (directory_alike rows others at here) ∙ d) (sym (grants_alike rows others caller bits.Search at here) ∙ s)) in
       let same = same_child rows others at name (seen_first (child rows at name) (child others at name) names rest) in
-      record { leads = same; sees = subst (λ o. seen rows caller (child rows at name) names ≡ seen others caller o names) (sym same) rest }
+      record { leads = same; sees = subst (λ o. sights rows caller (child rows at name) names ≡ sights others caller o names) (sym same) rest }
 
   -- and the name is there
   sees_next : (at : ℕ) (name : List ℕ) (names : List (List ℕ)) → Step at name names → is_some (child rows at name) ≡ true → Sees (Some (next rows at name)) names

@@ -18,7 +18,7 @@ use Rattle.lfs_types.specs.declared.request.Request.{Request}
 use Rattle.lfs_types.specs.declared.request.Request.TheVariants.{Stat, Read, Write, List as Names, SetLength, Create, Mkdir, Unlink, Rmdir, Rename, Chmod, Chown, Chflags, SetLevel, Sync}
 use Rattle.lfs_rules.specs.SetId.{set_id_cleared}
 use Rattle.lfs_model.specs.World.{Rows, file_at, name_of, child, children}
-use Rattle.lfs_model.specs.Rules.{front, last, reached, start_of}
+use Rattle.lfs_model.specs.Rules.{front, last, reached, start_in}
 
 -- the least number from n up that no row has, looked for among so many numbers
 unfoldable pub least_unused : Rows → ℕ → ℕ → ℕ
@@ -36,7 +36,7 @@ mode_after caller mode = if caller.uid == 0 then mode else set_id_cleared mode
 
 -- a file with bytes written to it
 abbrev pub written : Caller → Place → List ℕ → File → File
-written caller place bytes f = record f { mode = mode_after caller f.mode; bytes = splice f.bytes (start_of place (length f.bytes)) bytes }
+written caller place bytes f = record f { mode = mode_after caller f.mode; bytes = splice f.bytes (start_in place (length f.bytes)) bytes }
 
 -- the world after a Write: no bytes change nothing
 abbrev pub after_write : World → Caller → List (List ℕ) → Place → List ℕ → World

@@ -6,12 +6,12 @@ use Rattle.lfs_types.specs.declared.request.Place.{Place}
 use Rattle.lfs_types.specs.declared.request.Request.{Request}
 use Rattle.lfs_types.specs.declared.request.Request.TheVariants.{Read, Write, SetLength, Create, Mkdir, Chmod, Chown, Chflags}
 use Rattle.lfs_rules.specs.Owners.{is_in_group}
-use Rattle.lfs_model.specs.Rules.{attrs_at, decide, file_max, is_end, reached, start_of}
+use Rattle.lfs_model.specs.Rules.{attrs_at, decide, file_max, is_end, reached, start_in}
 
 -- whether bytes that go to a place of a file fit it
 abbrev pub fits : World → List (List ℕ) → Place → List ℕ → Bool
 fits w path place bytes =
-    nat_le (start_of place (attrs_at w.rows (reached w.rows root path)).size + length bytes) file_max
+    nat_le (start_in place (attrs_at w.rows (reached w.rows root path)).size + length bytes) file_max
 
 -- Two calls of a caller differ only in the mode; in bytes, places and lengths, both at the end or both at a place,
 -- both within or both past the limit of a file; in a Read's offset and length; in user flags; or in the group of a

@@ -17,7 +17,7 @@ use Rattle.lfs_rules.specs.Grants.{grants_of}
 use Rattle.lfs_rules.specs.Locks.{is_immutable, is_append_only, changes_system_flags, clears_system_lock, has_system_lock}
 use Rattle.lfs_rules.specs.Securelevel.{is_above_zero, is_lower}
 use Rattle.lfs_model.specs.World.{Rows, child, children, IsTree}
-use Rattle.lfs_model.specs.Rules.{attrs_at, decide, file_max, is_directory_row, row_grants, start_of}
+use Rattle.lfs_model.specs.Rules.{attrs_at, decide, file_max, is_directory_row, row_grants, start_in}
 use Rattle.lfs_model.specs.Rights.{IsGivable, paths}
 
 -- the row that a name leads to from a row, if both are there
@@ -63,7 +63,7 @@ TurnsOffLock request r = ⊥
 
 -- the call is to make a file longer than a file may be, or to write past that
 abbrev pub IsTooLong : Request → Row → Type 0
-IsTooLong (Write path place bytes) r = file_max < start_of place (length r.file.bytes) + length bytes
+IsTooLong (Write path place bytes) r = file_max < start_in place (length r.file.bytes) + length bytes
 IsTooLong (SetLength path len) r = file_max < len
 IsTooLong request r = ⊥
 

@@ -10,7 +10,7 @@ use Rattle.lfs_rules.specs.Bits.{has_bit}
 use Rattle.lfs_model.specs.LawsBytes.{Covers}
 use Rattle.lfs_model.specs.World.{IsChild}
 use Rattle.lfs_model.specs.Rights.{Law}
-use Rattle.lfs_model.specs.Rules.{front, last, reached, start_of}
+use Rattle.lfs_model.specs.Rules.{front, last, reached, start_in}
 
 -- the row of a number was there and still is, and P holds of what it was and what it is
 pub record Became (w after : World) (n : ℕ) (P : Row → Row → Type 0) : Type 0 where
@@ -40,8 +40,8 @@ GaveWay w after n parent name = (m : ℕ) → IsChild w.rows parent name m → m
 abbrev pub Did : World → Caller → Request → World → Type 0
 Did w caller (Write path place []) after = after ≡ w
 Did w caller (Write path place (b ∷ bs)) after = Became w after (reached w.rows root path) (λ r s.
-    (length s.file.bytes ≡ max (length r.file.bytes) (start_of place (length r.file.bytes) + length (b ∷ bs)))
-    × ((i value : ℕ) → Covers (start_of place (length r.file.bytes)) (b ∷ bs) i value → get_or s.file.bytes i 0 ≡ value)
+    (length s.file.bytes ≡ max (length r.file.bytes) (start_in place (length r.file.bytes) + length (b ∷ bs)))
+    × ((i value : ℕ) → Covers (start_in place (length r.file.bytes)) (b ∷ bs) i value → get_or s.file.bytes i 0 ≡ value)
     × HasNoSetIds caller s)
 Did w caller (SetLength path len) after = Became w after (reached w.rows root path) (λ r s. (length s.file.bytes ≡ len) × HasNoSetIds caller s)
 Did w caller (Create path mode) after = Appeared w after (λ s. (s.parent ≡ reached w.rows root (front path)) × (s.name ≡ last path))

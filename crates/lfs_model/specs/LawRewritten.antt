@@ -8,7 +8,7 @@ use Rattle.lfs_types.specs.declared.request.Place.TheVariants.{End}
 use Rattle.lfs_types.specs.declared.request.Request.{Request}
 use Rattle.lfs_types.specs.declared.request.Request.TheVariants.{Write, SetLength}
 use Rattle.lfs_rules.specs.Locks.{is_append_only}
-use Rattle.lfs_model.specs.Rules.{file_max, reached, start_of}
+use Rattle.lfs_model.specs.Rules.{file_max, reached, start_in}
 use Rattle.lfs_model.specs.LawsBytes.{Covers}
 use Rattle.lfs_model.specs.Rights.{Law, MayWrite}
 
@@ -20,7 +20,7 @@ Rewrites w n request = ⊥
 
 -- the call brings this value for byte i of a file of this size
 abbrev pub Brings : Request → ℕ → ℕ → ℕ → Type 0
-Brings (Write path place bytes) size i value = Covers (start_of place size) bytes i value
+Brings (Write path place bytes) size i value = Covers (start_in place size) bytes i value
 Brings request size i value = ⊥
 
 -- all bytes that a call brings
@@ -35,7 +35,7 @@ Appends request = ⊥
 
 -- how many bytes a file of this size has after the call
 abbrev pub new_size : Request → ℕ → ℕ
-new_size (Write path place bytes) size = max size (start_of place size + length bytes)
+new_size (Write path place bytes) size = max size (start_in place size + length bytes)
 new_size (SetLength path len) size = len
 new_size request size = size
 

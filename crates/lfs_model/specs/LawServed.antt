@@ -17,7 +17,7 @@ use Rattle.lfs_rules.specs.Securelevel.{is_above_zero, is_lower}
 use Rattle.lfs_model.specs.World.{Rows, ancestor, children, IsTree}
 use Rattle.lfs_model.specs.LawDenied.{led}
 use Rattle.lfs_model.specs.Rights.{IsGivable, MayPlace, MayRetitle, MayTakeAway, MayTakePlace, MayWrite, Owns, Reaches}
-use Rattle.lfs_model.specs.Rules.{decide, file_max, front, is_end, last, start_of}
+use Rattle.lfs_model.specs.Rules.{decide, file_max, front, is_end, last, start_in}
 
 -- a path leads to a row, of which P holds
 pub record HasRow (w : World) (path : List (List ℕ)) (P : ℕ → Row → Type 0) : Type 0 where
@@ -69,7 +69,7 @@ May w caller (Names path) = HasRow w path (λ n r.
 May w caller (Write path place bytes) = HasRow w path (λ n r.
     (r.file.kind ≡ Regular) × MayWrite w.rows caller n
     × (is_append_only (attrs_of r.file) ≡ true → is_end place ≡ true)
-    × (start_of place (length r.file.bytes) + length bytes ≤ file_max))
+    × (start_in place (length r.file.bytes) + length bytes ≤ file_max))
 May w caller (SetLength path len) = HasRow w path (λ n r.
     (r.file.kind ≡ Regular) × MayWrite w.rows caller n × (is_append_only (attrs_of r.file) ≡ false) × (len ≤ file_max))
 May w caller (Create path mode) = HasPlace w caller path (λ p. Unit {0})

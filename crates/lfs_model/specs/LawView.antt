@@ -31,14 +31,14 @@ may_enter rows caller (Some n) = is_directory_row (map.get rows n) && row_grants
 
 -- what a caller sees along names from a row: each row, up to and including the first that is no directory which grants
 -- him search
-unfoldable pub seen : Rows → Caller → Option ℕ → List (List ℕ) → List (Option (ℕ × Attrs))
-seen rows caller o [] = sight rows o ∷ []
-seen rows caller o (name ∷ names) =
-    sight rows o ∷ (if may_enter rows caller o then seen rows caller (child_of rows o name) names else [])
+unfoldable pub sights : Rows → Caller → Option ℕ → List (List ℕ) → List (Option (ℕ × Attrs))
+sights rows caller o [] = sight rows o ∷ []
+sights rows caller o (name ∷ names) =
+    sight rows o ∷ (if may_enter rows caller o then sights rows caller (child_of rows o name) names else [])
 
 -- what he sees along each path of a call, from the root
 abbrev pub views : World → Caller → Request → List (List (Option (ℕ × Attrs)))
-views w caller request = lists.map (seen w.rows caller (Some root)) (paths request)
+views w caller request = lists.map (sights w.rows caller (Some root)) (paths request)
 
 -- a caller reaches a row at a path, and it grants him read
 abbrev pub MayRead : World → Caller → List (List ℕ) → Type 0

@@ -8,7 +8,7 @@ use Rattle.lfs_types.specs.declared.request.Request.{Request}
 use Rattle.lfs_types.specs.declared.request.Request.TheVariants.{Write, SetLength, Create}
 use Rattle.lfs_model.specs.declared.journal.Entry.{Entry}
 use Rattle.lfs_model.specs.World.{file_at}
-use Rattle.lfs_model.specs.Rules.{reached, start_of}
+use Rattle.lfs_model.specs.Rules.{reached, start_in}
 use Rattle.lfs_model.specs.Effects.{least_unused}
 use Rattle.lfs_model.specs.LawsRuns.{IsServed, NoneServed}
 use Rattle.lfs_model.specs.Steps.{IsLegal, after_event, world_of}
@@ -25,7 +25,7 @@ pub record Covers (start : ℕ) (bytes : List ℕ) (i value : ℕ) : Type 0 wher
 abbrev pub SetsByte : ℕ → World → ℕ → ℕ → ℕ → Request → Type 0
 SetsByte numbers w n i value (Write path place bytes) =
     (reached w.rows root path ≡ n)
-    × Covers (start_of place (length (file_at (map.get w.rows n)).bytes)) bytes i value
+    × Covers (start_in place (length (file_at (map.get w.rows n)).bytes)) bytes i value
 SetsByte numbers w n i value (SetLength path len) = (reached w.rows root path ≡ n) × (len ≤ i) × (value ≡ 0)
 SetsByte numbers w n i value (Create path mode) = (least_unused w.rows numbers FIRST_INODE ≡ n) × (value ≡ 0)
 SetsByte numbers w n i value request = ⊥

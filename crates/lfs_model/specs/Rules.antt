@@ -86,9 +86,9 @@ walk rows caller path k at (name ∷ names) =
     ∷ walk rows caller path (k + 1) (next rows at name) names
 
 -- where a Write's bytes go in a file of this many bytes
-abbrev pub start_of : Place → ℕ → ℕ
-start_of (At start) size = start
-start_of End size = size
+abbrev pub start_in : Place → ℕ → ℕ
+start_in (At start) size = start
+start_in End size = size
 
 -- the most bytes of a file
 abbrev pub file_max : ℕ
@@ -265,7 +265,7 @@ change_tests caller appends attrs k =
 abbrev pub write_tests : Caller → Place → ℕ → Attrs → ℕ → List Check
 write_tests caller place count attrs k =
     change_tests caller (is_end place) attrs k ++
-    (asks (nat_le (start_of place attrs.size + count) file_max) FitsFile 0 k
+    (asks (nat_le (start_in place attrs.size + count) file_max) FitsFile 0 k
     ∷ [])
 
 -- the tests of giving a file this length

@@ -61,13 +61,13 @@ step_event (acts.Cleaner call) (answers.User answer) = None
 step_event (acts.Cleaner call) (answers.Cleaner answer) = cleaner_event call answer
 
 -- the entry of an event of a session, if there is one
-abbrev pub entry_of : ℕ → Caller → Option Event → List Entry
-entry_of session caller None = []
-entry_of session caller (Some event) = record { session = session; cred = caller; event = event } ∷ []
+abbrev pub journaled : ℕ → Caller → Option Event → List Entry
+journaled session caller None = []
+journaled session caller (Some event) = record { session = session; cred = caller; event = event } ∷ []
 
 -- the entry of a user's call that was answered so
 abbrev pub kept_entry : ℕ → Caller → Request → Answer → List Entry
-kept_entry session caller request answer = entry_of session caller (user_event request answer)
+kept_entry session caller request answer = journaled session caller (user_event request answer)
 
 -- the entries of calls with their answers, in order
 abbrev pub kept : List Call → List Answer → List Entry
@@ -77,11 +77,11 @@ kept (call ∷ calls) (answer ∷ answers) = kept_entry call.session call.cred c
 
 -- the entry of a cleaner's call that was answered so
 abbrev pub kept_cleaning : ℕ → Caller → CleanerCall → CleanerAnswer → List Entry
-kept_cleaning session caller call answer = entry_of session caller (cleaner_event call answer)
+kept_cleaning session caller call answer = journaled session caller (cleaner_event call answer)
 
 -- the entry of a step that was answered so
 abbrev pub kept_step : Step → StepAnswer → List Entry
-kept_step step answer = entry_of step.session step.cred (step_event step.act answer)
+kept_step step answer = journaled step.session step.cred (step_event step.act answer)
 
 -- the entries of steps with their answers, in order
 abbrev pub kept_steps : List Step → List StepAnswer → List Entry
@@ -107,7 +107,7 @@ users_event (Cleaner kind outcome) = None
 -- the entries without the cleaner's, the Syncs and those refused for a resource
 abbrev pub users_alone : List Entry → List Entry
 users_alone [] = []
-users_alone (entry ∷ entries) = entry_of entry.session entry.cred (users_event entry.event) ++ users_alone entries
+users_alone (entry ∷ entries) = journaled entry.session entry.cred (users_event entry.event) ++ users_alone entries
 
 -- the user's call of an event of a session, if it is one
 abbrev pub call_of : ℕ → Caller → Event → List Call

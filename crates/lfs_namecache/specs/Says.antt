@@ -1,5 +1,5 @@
 -- What a cache of names says.
-use Rattle.std.specs.Prelude.{◌≡◌, ℕ, List, Option, None, Some}
+use Rattle.std.specs.Prelude.{◌≡◌, ℕ, List, Option, Some}
 use Rattle.lfs_namecache.specs.Slots.{said}
 use Rattle.lfs_namecache.specs.declared.cache.NameCache.{NameCache}
 

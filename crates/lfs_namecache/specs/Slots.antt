@@ -4,13 +4,13 @@ use Rattle.lfs_namecache.specs.Places.{place_of}
 use Rattle.lfs_namecache.specs.declared.pair.Pair.{Pair}
 
 -- whether a pair is of this directory and this name
-abbrev pub is_of : Pair → ℕ → List ℕ → Bool
-is_of pair dir name = (pair.dir == dir) && bytes_eq (take pair.len pair.bytes) name
+abbrev pub is_pair_of : Pair → ℕ → List ℕ → Bool
+is_pair_of pair dir name = (pair.dir == dir) && bytes_eq (take pair.len pair.bytes) name
 
 -- what a slot has for a name of a directory, if anything: the number that is listed under it, or that none is
 abbrev pub slot_says : Option Pair → ℕ → List ℕ → Option (Option ℕ)
 slot_says None dir name = None
-slot_says (Some pair) dir name = if is_of pair dir name then Some pair.found else None
+slot_says (Some pair) dir name = if is_pair_of pair dir name then Some pair.found else None
 
 -- what is kept of a name: of a long one nothing
 abbrev pub kept_of : List ℕ → Option (Option ℕ) → Option (Option ℕ)

@@ -16,7 +16,7 @@ pub(crate) struct Pair {
 }
 
 impl Pair {
-    ghost use Rattle.lfs_namecache.specs.Slots.{is_of, slot_says};
+    ghost use Rattle.lfs_namecache.specs.Slots.{is_pair_of, slot_says};
 
     /// A pair of a name that is short enough to be kept, and what is listed under it.
     pub(crate) fn new(dir: u32, name: &[u8], found: Option<u32>) -> Pair
@@ -37,7 +37,7 @@ impl Pair {
 
     /// Whether this is the pair of a directory and a name.
     fn is_of(&self, dir: u32, name: &[u8]) -> bool
-        ensures { result ≡ is_of self.now dir name.now }
+        ensures { result ≡ is_pair_of self.now dir name.now }
     {
         self.dir == dir && self.name() == name
     }

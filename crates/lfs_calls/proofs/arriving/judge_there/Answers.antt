@@ -6,7 +6,7 @@ use Rattle.lfs_types.specs.Tree.{Content, World}
 use Rattle.lfs_model.specs.World.{children}
 use Rattle.lfs_model.specs.Rules.{entering_tests, first_failing, placing_tests}
 use Rattle.lfs_model.proofs.Deciding.{judged_none}
-use Rattle.lfs_calls.specs.Content.{HasBlocks, listed}
+use Rattle.lfs_calls.specs.Content.{HasBlocks, all_entries}
 use Rattle.lfs_calls.specs.Volumes.{IsVolume}
 use Rattle.lfs_calls.specs.declared.walking.Reached.{Reached}
 use Rattle.lfs_calls.proofs.AskLemmas.{denies}
@@ -25,7 +25,7 @@ empty_is : (g : _) (c : After-ask g) (w : World) → IsVolume (g.F.FileStore.sta
 empty_is g c w v = elim c.if-not-is_directory.branch [
   | then-not-is_directory b ↦ b.empty-is ∙ ap not b.if-not-is_directory.true ∙ sym (file_empty (g.F.FileStore.state c.args.store.now).content w v.shows v.tree c.args.cred.now c.args.moved.now.number c.args.arrival.now.dir.number c.args.moved.now.attrs c.args.arrival.now.dir.attrs c.requires.moved c.requires.dir c.args.at c.in-Some.number c.in-Some-learn_attrs.attrs c.in-Some-learn_attrs.ensures.attrs (sym b.if-not-is_directory.ensures))
   | else-not-is_directory b ↦ b.empty-is ∙ directory_empty (g.F.FileStore.state c.args.store.now).content w v.shows c.in-Some.number c.in-Some-learn_attrs.attrs c.in-Some-learn_attrs.ensures.attrs (sym b.if-not-is_directory.ensures) b.is_empty_directory-empty.result
-      (subst (λ x. IsTrue b.is_empty_directory-empty.result ↔ (listed (bytes_of (g.F.FileStore.state x).content c.in-Some.number) ≡ [])) c.in-Some-learn_attrs.ensures.same b.is_empty_directory-empty.ensures.empty)
+      (subst (λ x. IsTrue b.is_empty_directory-empty.result ↔ (all_entries (bytes_of (g.F.FileStore.state x).content c.in-Some.number) ≡ [])) c.in-Some-learn_attrs.ensures.same b.is_empty_directory-empty.ensures.empty)
 ]
 
 pub returns-in_err-may_enter-clause-judge : goal.returns-in_err-may_enter-clause-judge

@@ -8,7 +8,7 @@ use Rattle.lfs_types.specs.Tree.{root}
 use Rattle.lfs_dirs.specs.Directory.{Entry}
 use Rattle.lfs_model.specs.Rules.{list_tests}
 use Rattle.lfs_model.proofs.Deciding.{judged_all, met_first, walked-reached}
-use Rattle.lfs_calls.specs.Content.{AreBlocks, HasBlocks, listed}
+use Rattle.lfs_calls.specs.Content.{AreBlocks, HasBlocks, all_entries}
 use Rattle.lfs_calls.proofs.CallLemmas.{lacking, shown}
 use Rattle.lfs_calls.proofs.Directories.{dir_stored, bytes_listing}
 use Rattle.lfs_calls.proofs.ListLemmas.{list_answer}
@@ -48,7 +48,7 @@ returns-in-Ok-clause-call g c level =
     let leads = c.in_ok-dir.ensures.reach in
     let content = (g.F.FileStore.state c.args.store.now).content in
     let directory = (met_first _ _ _ (judged_all (list_tests c.args.cred.now dir.attrs c.depth.result) (sym c.in_ok-may_list.ensures))).0 in
-    let names = c.in-Ok.ensures.names ∙ ap (λ x. map (λ (e : Entry). e.1) (listed (bytes_of x dir.number))) (same_content c.find.ensures.state) in
+    let names = c.in-Ok.ensures.names ∙ ap (λ x. map (λ (e : Entry). e.1) (all_entries (bytes_of x dir.number))) (same_content c.find.ensures.state) in
     let moved = subst (λ ns. IsPermutation ns c.sorted.result.items) names c.sorted.ensures.permutation in
     shown level (c.names_of_directory.ensures.state ∙ c.find.ensures.state) (served.Names c.from.result)
     (serves (list_path level c.args.cred.now c.args.path.now) dir leads c.depth.result c.depth.ensures c.in_ok-may_list.ensures (λ w h. h) (λ w h. h))

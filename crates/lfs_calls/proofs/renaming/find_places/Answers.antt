@@ -3,7 +3,7 @@ use Rattle.lfs_calls.proofs.StateLemmas.{same_content}
 use Rattle.std.specs.Prelude.{MatchOption}
 use Rattle.lfs_types.specs.Stored.{bytes_of}
 use Rattle.lfs_dirs.specs.Directory.{number_in}
-use Rattle.lfs_calls.specs.Content.{AreBlocks, HasBlocks, FitsNowhere, listed}
+use Rattle.lfs_calls.specs.Content.{AreBlocks, HasBlocks, FitsNowhere, all_entries}
 use Rattle.lfs_calls.specs.Makes.{IsRoom}
 use Rattle.lfs_calls.specs.Renames.{name_left, ArePlaces}
 use Rattle.lfs_calls.proofs.Directories.{lists_name, dir_stored, size_bounded}
@@ -30,7 +30,7 @@ find_room-requires g c =
       stands = search rules;
       blocks = subst AreBlocks (sym seen) (seen_listing t.1.0.shows t.1.0.tree t.1.1.leaves taking).blocks;
       above = above t.1.0.shows t.1.0.tree t.1.1.leaves;
-      free = ap (λ bs. number_in c.args.new.now (listed bs)) seen ∙ seen_free t.1.0.shows t.1.0.tree t.1.1.leaves taking c.args.new.now t.1.1.free;
+      free = ap (λ bs. number_in c.args.new.now (all_entries bs)) seen ∙ seen_free t.1.0.shows t.1.0.tree t.1.1.leaves taking c.args.new.now t.1.1.free;
     }
 
 pub returns-in_err-room-clause-places : goal.returns-in_err-room-clause-places

@@ -1,7 +1,7 @@
 use Rattle.std.proofs.Common.{refl, sym, ap, subst, ◌∙◌, rules}
 use Rattle.lfs_calls.proofs.StateLemmas.{same_content}
 use Rattle.lfs_dirs.specs.Directory.{number_in}
-use Rattle.lfs_calls.specs.Content.{AreBlocks, HasBlocks, listed}
+use Rattle.lfs_calls.specs.Content.{AreBlocks, HasBlocks, all_entries}
 use Rattle.lfs_calls.specs.Renames.{IsSwap}
 use Rattle.lfs_calls.proofs.Directories.{lists_name, dir_stored, size_bounded}
 use Rattle.lfs_types.proofs.Somewhere.{present}
@@ -27,7 +27,7 @@ swap_number-room-requires g c =
       stands = search rules;
       blocks = subst AreBlocks (sym seen) (seen_listing t.1.0.shows t.1.0.tree t.1.1.leaves taking).blocks;
       above = above t.1.0.shows t.1.0.tree t.1.1.leaves;
-      listed = present (ap (λ bs. number_in c.args.new.now (listed bs)) seen ∙ seen_there t.1.0.shows t.1.0.tree t.1.1.leaves taking c.args.new.now c.args.there t.1.1.taken t.1.1.other);
+      listed = present (ap (λ bs. number_in c.args.new.now (all_entries bs)) seen ∙ seen_there t.1.0.shows t.1.0.tree t.1.1.leaves taking c.args.new.now c.args.there t.1.1.taken t.1.1.other);
     }
 
 pub returns-clause-places : goal.returns-clause-places

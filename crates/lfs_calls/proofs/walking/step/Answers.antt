@@ -3,7 +3,7 @@ use Rattle.std.specs.Prelude.{ok_or}
 use Rattle.std.proofs.lemmas.Result.{err_from_is_err_and}
 use Rattle.lfs_types.specs.Stored.{bytes_of}
 use Rattle.lfs_dirs.specs.Directory.{number_in}
-use Rattle.lfs_calls.specs.Content.{HasBlocks, IsDirectoryAt, listed}
+use Rattle.lfs_calls.specs.Content.{HasBlocks, IsDirectoryAt, all_entries}
 use Rattle.lfs_model.proofs.Deciding.{judged_all, met_first}
 use Rattle.lfs_model.specs.Rules.{searching_tests}
 use Rattle.lfs_calls.proofs.Directories.{dir_stored, directory_at}
@@ -37,4 +37,4 @@ returns-clause-step g c w v =
     c.ok_or.ensures.value ∙ ap (ok_or c.look_up.result) c.denial.ensures
     ∙ steps_on (g.F.FileStore.state c.args.store.now).content w v.shows c.args.cred.now c.args.site.path c.args.site.at c.args.dir c.args.name.now c.in-Some.attrs c.in-Some.ensures.attrs
     kind.0 search.0 c.look_up.result
-    (c.look_up.ensures.found ∙ ap (λ x. number_in c.args.name.now (listed (bytes_of (g.F.FileStore.state x).content c.args.dir))) c.in-Some.ensures.same)
+    (c.look_up.ensures.found ∙ ap (λ x. number_in c.args.name.now (all_entries (bytes_of (g.F.FileStore.state x).content c.args.dir))) c.in-Some.ensures.same)

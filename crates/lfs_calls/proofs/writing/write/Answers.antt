@@ -6,7 +6,7 @@ use Rattle.lfs_types.specs.Kinds.{is_directory_kind}
 use Rattle.lfs_types.specs.declared.answer.Served.TheVariants.{Done}
 use Rattle.lfs_types.specs.declared.rule.Rule.TheVariants.{FitsFile}
 use Rattle.lfs_model.specs.Effects.{after_write}
-use Rattle.lfs_model.specs.Rules.{asks, is_end, judged, start_of, write_tests}
+use Rattle.lfs_model.specs.Rules.{asks, is_end, judged, start_in, write_tests}
 use Rattle.lfs_model.proofs.Deciding.{judged_all}
 use Rattle.lfs_calls.specs.Volumes.{InWorld, IsVolume}
 use Rattle.lfs_calls.proofs.CallLemmas.{done, refused, shown}
@@ -24,13 +24,13 @@ tested g c = c.in_ok-may_write.ensures ∙ ap (λ n. judged (write_tests c.args.
 regular : (g : _) (c : In_ok-may_write g) → is_directory_kind c.in_ok-file.file.attrs.kind ≡ false
 regular g c =
     let a = c.in_ok-file.file.attrs in
-    change_regular c.args.cred.now (is_end c.args.place) a c.depth.result (asks (nat_le (start_of c.args.place a.size + length c.as_slice-bytes.result.now) FILE_BYTES) FitsFile 0 c.depth.result ∷ [])
+    change_regular c.args.cred.now (is_end c.args.place) a c.depth.result (asks (nat_le (start_in c.args.place a.size + length c.as_slice-bytes.result.now) FILE_BYTES) FitsFile 0 c.depth.result ∷ [])
     (judged_all (write_tests c.args.cred.now c.args.place (length c.as_slice-bytes.result.now) a c.depth.result) (sym c.in_ok-may_write.ensures))
 
-fitting : (g : _) (c : In_ok-may_write g) → nat_le (start_of c.args.place c.in_ok-file.file.attrs.size + length c.as_slice-bytes.result.now) FILE_BYTES ≡ true
+fitting : (g : _) (c : In_ok-may_write g) → nat_le (start_in c.args.place c.in_ok-file.file.attrs.size + length c.as_slice-bytes.result.now) FILE_BYTES ≡ true
 fitting g c =
     let a = c.in_ok-file.file.attrs in
-    change_more c.args.cred.now (is_end c.args.place) a c.depth.result (nat_le (start_of c.args.place a.size + length c.as_slice-bytes.result.now) FILE_BYTES) (record { rule = FitsFile; path = 0; at = c.depth.result })
+    change_more c.args.cred.now (is_end c.args.place) a c.depth.result (nat_le (start_in c.args.place a.size + length c.as_slice-bytes.result.now) FILE_BYTES) (record { rule = FitsFile; path = 0; at = c.depth.result })
     (judged_all (write_tests c.args.cred.now c.args.place (length c.as_slice-bytes.result.now) a c.depth.result) (sym c.in_ok-may_write.ensures))
 
 pub returns-in_err-file : goal.returns-in_err-file

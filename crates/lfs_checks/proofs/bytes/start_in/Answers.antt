@@ -1,9 +1,9 @@
 use Rattle.std.proofs.Common.{sym, ap}
-use Rattle.lfs_model.specs.Rules.{start_of}
+use Rattle.lfs_model.specs.Rules.{start_in}
 use Rattle.lfs_checks.proofs.bytes.start_in.Goals as goal
 
 pub returns-in-At : goal.returns-in-At
-returns-in-At c = sym (ap (λ place. start_of place c.args.size) c.in-At.is)
+returns-in-At c = sym (ap (λ place. start_in place c.args.size) c.in-At.is)
 
 pub returns-in-End : goal.returns-in-End
-returns-in-End c = sym (ap (λ place. start_of place c.args.size) c.in-End.is)
+returns-in-End c = sym (ap (λ place. start_in place c.args.size) c.in-End.is)

@@ -2,7 +2,7 @@ use Rattle.std.proofs.Common.{List, ◌++◌, take, sym, ap, subst, ◌∙◌}
 use Rattle.lfs_calls.proofs.CallLemmas.{still}
 use Rattle.lfs_model.specs.Rules.{Check, first_failing, rule_table}
 use Rattle.lfs_explain.specs.Asked.{asked}
-use Rattle.lfs_explain.specs.Tables.{path_of, table_by}
+use Rattle.lfs_explain.specs.Tables.{known_path, table_by}
 use Rattle.lfs_explain.specs.Trails.{IsTrail}
 use Rattle.lfs_explain.proofs.Askings.{failing_asked}
 use Rattle.lfs_explain.proofs.ExplainLemmas.{told}
@@ -19,7 +19,7 @@ returns-clause-checks g c w v at =
     ∙ c.asked_count-count.ensures
     ∙ ap asked c.deref.ensures.value
     ∙ c.in_ok-push_table.ensures
-    ∙ ap (λ (l : List Check). asked (l ++ table_by c.args.level c.args.cred.now c.args.request.now (path_of c.in_ok-first.first) (path_of c.in_ok-second.second))) c.new-checks.ensures.items
+    ∙ ap (λ (l : List Check). asked (l ++ table_by c.args.level c.args.cred.now c.args.request.now (known_path c.in_ok-first.first) (known_path c.in_ok-second.second))) c.new-checks.ensures.items
     ∙ told w v.tree c.args.level at c.args.cred.now c.in_ok-first.first c.in_ok-second.second c.args.request.now
     (subst (λ ns. IsTrail w.rows ns c.in_ok-first.first) c.first_of.ensures.names (c.in_ok-first.ensures.trail w v))
     (subst (λ ns. IsTrail w.rows ns c.in_ok-second.second) c.second_of.ensures.names (c.in_ok-second.ensures.trail w (still c.trail.ensures.state v)))

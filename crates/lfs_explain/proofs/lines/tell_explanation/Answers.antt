@@ -1,4 +1,4 @@
-use Rattle.std.proofs.Common.{ℕ, ◌+◌, List, drop, [], sym, ap, ◌∙◌}
+use Rattle.std.proofs.Common.{ℕ, ◌+◌, List, drop, sym, ap, ◌∙◌}
 use Rattle.lfs_types.specs.declared.rule.Denial.{Denial}
 use Rattle.std.specs.Prelude.{Option}
 use Rattle.lfs_model.specs.Rules.{Check, first_failing}

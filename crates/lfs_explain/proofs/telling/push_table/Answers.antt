@@ -3,7 +3,7 @@ use Rattle.std.proofs.lemmas.Result.{on_ok_weaker}
 use Rattle.lfs_types.specs.declared.request.Request.{Request}
 use Rattle.lfs_model.specs.Rules.{level_tests}
 use Rattle.lfs_explain.specs.Asked.{asked}
-use Rattle.lfs_explain.specs.Tables.{path_of, table_by}
+use Rattle.lfs_explain.specs.Tables.{known_path, table_by}
 use Rattle.lfs_explain.proofs.Askings.{append_same}
 use Rattle.lfs_explain.proofs.telling.push_table.Goals as goal
 
@@ -12,5 +12,5 @@ returns-in-SetLevel c =
     on_ok_weaker c.push-in-SetLevel.result
     (λ e. ap asked e
     ∙ append_same c.args.checks.now.items c.set_level.result (level_tests c.args.cred.now c.args.level c.in-SetLevel.new) c.set_level.ensures
-    ∙ ap (λ (r : Request). asked (c.args.checks.now.items ++ table_by c.args.level c.args.cred.now r (path_of c.args.first.now) (path_of c.args.second.now))) (sym c.in-SetLevel.is))
+    ∙ ap (λ (r : Request). asked (c.args.checks.now.items ++ table_by c.args.level c.args.cred.now r (known_path c.args.first.now) (known_path c.args.second.now))) (sym c.in-SetLevel.is))
     c.push-in-SetLevel.ensures
