@@ -9,11 +9,11 @@ use Rattle.lfs_types.specs.declared.request.Request.TheVariants.{Mkdir}
 use Rattle.lfs_words.specs.Numbers.{long_of}
 use Rattle.lfs_words.specs.declared.fault.FaultKind.TheVariants.{Words}
 use Rattle.lfs_script.specs.CleanerCalls.{cleaner_said, segment_of}
-use Rattle.lfs_script.specs.Requests.{path_and_mode, place_of, request_said, write_words}
+use Rattle.lfs_script.specs.Requests.{path_and_mode, request_said, write_place, write_words}
 use Rattle.lfs_script.specs.declared.verb.RequestKind.TheVariants as kind
 
 -- a place at a byte
-pub place_there : (word : List ℕ) (off : ℕ) → long_of word ≡ Ok off → Ok (At off) ≡ place_of (Some word)
+pub place_there : (word : List ℕ) (off : ℕ) → long_of word ≡ Ok off → Ok (At off) ≡ write_place (Some word)
 place_there word off read = rw read refl
 
 -- a new directory

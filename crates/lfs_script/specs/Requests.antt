@@ -41,9 +41,9 @@ write_words (path ∷ mark ∷ off ∷ bytes ∷ []) = if bytes_eq mark (codes "
 write_words (path ∷ mark ∷ off ∷ bytes ∷ fifth ∷ more) = Err Words
 
 -- a place: at a byte, or at the end where no word says at which
-abbrev pub place_of : Option (List ℕ) → Result Place FaultKind
-place_of None = Ok End
-place_of (Some word) = do
+abbrev pub write_place : Option (List ℕ) → Result Place FaultKind
+write_place None = Ok End
+write_place (Some word) = do
   off ← long_of word
   Ok (At off)
 
@@ -61,7 +61,7 @@ request_said kind.Read words = do
 request_said kind.Write words = do
   three ← write_words words
   path ← path_of three.0
-  place ← place_of three.1
+  place ← write_place three.1
   bytes ← bytes_of three.2
   Ok (Write path place bytes)
 request_said kind.List words = do

@@ -3,7 +3,7 @@
 ghost use Rattle.std.specs.Prelude.{◌≡◌, Ok, Err, map, MatchResult};
 ghost use Rattle.std.specs.Option.{option_copied};
 ghost use Rattle.lfs_words.specs.Faults.{ReadsAs};
-ghost use Rattle.lfs_script.specs.Requests.{lone_path, path_and_mode, place_of, request_said, write_words};
+ghost use Rattle.lfs_script.specs.Requests.{lone_path, path_and_mode, request_said, write_place, write_words};
 ghost use Rattle.lfs_script.specs.declared.verb.RequestKind.TheVariants as kind;
 
 use crate::verb::RequestKind;
@@ -106,7 +106,7 @@ fn write_words<'a>(words: &[&'a str]) -> Result<(&'a str, Option<&'a str>, &'a s
 
 /// The place at the byte that a word spells, or the end where there is no word.
 fn place_of(off: Option<&str>) -> Result<Place, FaultKind>
-    ensures { result ≡ place_of (option_copied off.entry) }
+    ensures { result ≡ write_place (option_copied off.entry) }
 {
     match off {
         Some(off) => Ok(Place::At(decimal(off)?)),

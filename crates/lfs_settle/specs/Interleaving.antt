@@ -69,13 +69,13 @@ IsBegun is_full entries setup answers later =
 -- ---- a session
 
 -- the entries of a session, in order
-abbrev pub entries_of : ℕ → List Entry → List Entry
-entries_of session entries = filter (λ (entry : Entry). entry.session == session) entries
+abbrev pub session_entries : ℕ → List Entry → List Entry
+session_entries session entries = filter (λ (entry : Entry). entry.session == session) entries
 
 -- the session's entries are those of its calls
 abbrev pub MadeItsCalls : Bool → List Entry → ℕ → List (Caller × Request) → List Answer → Type 0
 MadeItsCalls is_full entries session script answers =
-    AreAnswered is_full script answers × (entries_of session entries ≡ entries_kept session script answers)
+    AreAnswered is_full script answers × (session_entries session entries ≡ entries_kept session script answers)
 
 -- the session's two lists meet its entries, or there is neither
 abbrev pub Agrees : Bool → List Entry → ℕ → Option (List (Caller × Request)) → Option (List Answer) → Type 0

@@ -2,7 +2,7 @@
 
 ghost use Rattle.std.specs.Prelude.{◌≡◌, ◌↔◌, ◌∷◌, [], IsTrue, MatchOption};
 ghost use Rattle.lfs_model.specs.Memory.{IsCopying};
-ghost use Rattle.lfs_settle.specs.Interleaving.{IsBegun, MadeItsCalls, MayAnswer, entries_of};
+ghost use Rattle.lfs_settle.specs.Interleaving.{IsBegun, MadeItsCalls, MayAnswer, session_entries};
 ghost use Rattle.lfs_settle.specs.Entering.{makes_entry};
 
 use lfs_model::journal::Entry;
@@ -40,8 +40,8 @@ pub fn makes_entry(answer: &Answer) -> bool
 
 /// The first entry of a session, and those behind it.
 pub fn next_of(session: u8, entries: &[Entry]) -> Option<(&Entry, &[Entry])>
-    ensures { MatchOption result (entries_of session entries.now ≡ [])
-        (λ p. entries_of session entries.now ≡ p.0.now ∷ entries_of session p.1.now) }
+    ensures { MatchOption result (session_entries session entries.now ≡ [])
+        (λ p. session_entries session entries.now ≡ p.0.now ∷ session_entries session p.1.now) }
 {
     let mut rest = entries;
     while let Some((entry, later)) = rest.split_first() {
