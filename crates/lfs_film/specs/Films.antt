@@ -1,7 +1,7 @@
 -- What a film keeps of a talk, and its page.
 use Rattle.std.specs.Prelude.{ℕ, ◌+◌, ◌==◌, ◌&&◌, ◌||◌, nat_lt, Bool, false, List, [], ◌∷◌, ◌++◌, length, bytes_eq, if◌then◌else◌}
-use Rattle.lfs_film.specs.Quoting.{cut}
-use Rattle.lfs_film.specs.Frames.{changed, frame_text}
+use Rattle.lfs_film.specs.Quoting.{shortened}
+use Rattle.lfs_film.specs.Frames.{changed_rows, frame_text}
 use Rattle.lfs_film.specs.declared.film.TheConstants.{FRAMES_MAX}
 use Rattle.lfs_film.specs.declared.page.TheConstants.{BODY, CODE, FRAMES, FULL, HEAD, TAIL}
 use Rattle.lfs_film.specs.declared.script.TheConstants.{SCRIPT}
@@ -24,21 +24,21 @@ empty_reel = record { rows = []; waiting = []; lines = 0; frames = []; is_full =
 abbrev pub frame_of : Reel → List ℕ → List ℕ → List ℕ → List (List ℕ) → List ℕ
 frame_of reel line told waiting rows =
     if length rows == 0 && bytes_eq reel.waiting waiting then []
-    else frame_text reel.lines (cut line ∷ cut told ∷ waiting ∷ rows)
+    else frame_text reel.lines (shortened line ∷ shortened told ∷ waiting ∷ rows)
 
 -- whether a frame finds no room behind the others, or an earlier one found none
 abbrev pub has_no_room : Reel → List ℕ → Bool
 has_no_room reel frame = reel.is_full || nat_lt FRAMES_MAX (length reel.frames + length frame)
 
 -- one more frame, where it finds room
-abbrev pub with_frame : Reel → List ℕ → Reel
-with_frame reel frame =
+abbrev pub with_frame_text : Reel → List ℕ → Reel
+with_frame_text reel frame =
     record reel { frames = if has_no_room reel frame then reel.frames else reel.frames ++ frame; is_full = has_no_room reel frame }
 
 -- one more line: what was told of it, and the rows and what waits as it left them
-abbrev pub shown : Reel → List ℕ → List ℕ → List (List ℕ) → List ℕ → Reel
-shown reel line told rows waiting =
-    record (with_frame reel (frame_of reel line told waiting (changed reel.rows rows))) { rows = rows; waiting = waiting; lines = reel.lines + 1 }
+abbrev pub with_line : Reel → List ℕ → List ℕ → List (List ℕ) → List ℕ → Reel
+with_line reel line told rows waiting =
+    record (with_frame_text reel (frame_of reel line told waiting (changed_rows reel.rows rows))) { rows = rows; waiting = waiting; lines = reel.lines + 1 }
 
 -- what is told where a frame found no room
 abbrev pub told_of : Bool → List ℕ

@@ -20,5 +20,5 @@ abbrev pub quoted : List ℕ → List ℕ
 quoted text = 34 ∷ flat_map escaped text ++ 34 ∷ []
 
 -- at most 400 bytes of a text; of a longer one 397, and then a space and two full stops
-abbrev pub cut : List ℕ → List ℕ
-cut text = if nat_le (length text) 400 then text else take 397 text ++ codes " .."
+abbrev pub shortened : List ℕ → List ℕ
+shortened text = if nat_le (length text) 400 then text else take 397 text ++ codes " .."

@@ -1,18 +1,18 @@
 //! Which rows are others than before.
 
 ghost use Rattle.std.specs.Prelude.{◌≡◌, ◌++◌, bytes_eq, map, IfOk, OnOk};
-ghost use Rattle.lfs_film.specs.Frames.{changed, changed_at, row_at};
+ghost use Rattle.lfs_film.specs.Frames.{changed_row, changed_rows, row_at};
 
 use lfs_view::rows::Row;
 use std::alloc::{AllocError, Global};
 
 /// The new rows that aren't the old ones, in order.
-pub(crate) fn changed<'a>(
+pub(crate) fn changed_rows<'a>(
     alloc: Global,
     old: &[Row],
     new: &'a [Row],
 ) -> Result<Vec<&'a [u8]>, AllocError>
-    ensures { IfOk result (λ rows. map (λ x. x.now) rows.items ≡ changed old.now new.now) }
+    ensures { IfOk result (λ rows. map (λ x. x.now) rows.items ≡ changed_rows old.now new.now) }
 {
     let mut rows = Vec::new(alloc);
     for number in 0..new.len() {

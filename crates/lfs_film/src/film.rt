@@ -2,15 +2,15 @@
 
 ghost use Rattle.std.specs.Prelude.{◌≡◌, ◌≤◌, length, IfOk, OnErr, OnOk};
 ghost use Rattle.std.specs.Io.KnownBytes.{Appends};
-ghost use Rattle.lfs_film.specs.Films.{empty_reel, frame_of, page_text, shown, with_frame};
-ghost use Rattle.lfs_film.specs.Frames.{changed};
+ghost use Rattle.lfs_film.specs.Films.{empty_reel, frame_of, page_text, with_frame_text, with_line};
+ghost use Rattle.lfs_film.specs.Frames.{changed_rows};
 ghost use Rattle.lfs_view.specs.MapText.{waiting_text};
 ghost use Rattle.lfs_view.specs.Rows.{rows_of};
 
-use crate::changed::changed;
+use crate::changed::changed_rows;
 use crate::frame::frame;
 use crate::page::write_parts;
-use crate::quoting::cut;
+use crate::quoting::shortened;
 use lfs_io::output::WriteFault;
 use lfs_logstore::LogStore;
 use lfs_view::rows::{Row, rows, waiting};
@@ -79,7 +79,7 @@ impl Film {
         store: &LogStore,
     ) -> Result<(), AllocError>
         ensures shown { OnOk result
-            (self.new ≡ shown self.old line.now told.now (rows_of store.now) (waiting_text store.now)) }
+            (self.new ≡ with_line self.old line.now told.now (rows_of store.now) (waiting_text store.now)) }
         ensures kept { OnErr result (self.new ≡ self.old) }
     {
         let Some(lines) = self.lines.checked_add(1) else {
@@ -105,21 +105,21 @@ impl Film {
         waiting: &[u8],
     ) -> Result<Vec<u8>, AllocError>
         ensures { IfOk result (λ text. text.items ≡
-            frame_of self.now line.now told.now waiting.now (changed self.now.rows rows.now)) }
+            frame_of self.now line.now told.now waiting.now (changed_rows self.now.rows rows.now)) }
     {
-        let rows = changed(alloc, self.rows.as_slice(), rows)?;
+        let rows = changed_rows(alloc, self.rows.as_slice(), rows)?;
         if rows.is_empty() && self.waiting.as_slice() == waiting {
             return Ok(Vec::new(alloc));
         }
-        let line = cut(alloc, line)?;
-        let told = cut(alloc, told)?;
+        let line = shortened(alloc, line)?;
+        let told = shortened(alloc, told)?;
         let head = [line.as_slice(), told.as_slice(), waiting];
         frame(alloc, self.lines, &head, rows.as_slice())
     }
 
     /// Adds a frame, where it finds room.
     fn add(&mut self, frame: &[u8]) -> Result<(), AllocError>
-        ensures added { OnOk result (self.new ≡ with_frame self.old frame.now) }
+        ensures added { OnOk result (self.new ≡ with_frame_text self.old frame.now) }
         ensures kept { OnErr result (self.new ≡ self.old) }
     {
         if frame.len() > FRAMES_MAX - self.frames.len() {

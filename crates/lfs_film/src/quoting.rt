@@ -3,7 +3,7 @@
 ghost use Rattle.std.specs.Prelude.{◌≡◌, ◌<◌, ◌++◌, IfOk, OnOk};
 ghost use Rattle.std.specs.Char.{digit_char};
 ghost use Rattle.std.specs.List.{flat_map};
-ghost use Rattle.lfs_film.specs.Quoting.{cut, escaped, quoted};
+ghost use Rattle.lfs_film.specs.Quoting.{escaped, quoted, shortened};
 
 use std::alloc::{AllocError, Global};
 
@@ -18,8 +18,8 @@ const CUT_TEXT: usize = 397;
 /// # Errors
 ///
 /// Memory ran out.
-pub fn cut(alloc: Global, text: &[u8]) -> Result<Vec<u8>, AllocError>
-    ensures { IfOk result (λ kept. kept.items ≡ cut text.now) }
+pub fn shortened(alloc: Global, text: &[u8]) -> Result<Vec<u8>, AllocError>
+    ensures { IfOk result (λ kept. kept.items ≡ shortened text.now) }
 {
     let mut kept = Vec::new(alloc);
     if text.len() <= TEXT_MAX {

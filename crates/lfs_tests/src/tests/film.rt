@@ -3,7 +3,7 @@
 use super::scripts::log::SIX_SEGMENTS;
 use super::{expect_eq, push};
 use lfs_film::film::Film;
-use lfs_film::quoting::{cut, push_quoted};
+use lfs_film::quoting::{push_quoted, shortened};
 use lfs_live::start::run_watched;
 use lfs_live::watch::Watch;
 use lfs_logstore::LogStore;
@@ -124,7 +124,7 @@ fn texts_in_quotation_marks(rt: HostRuntime) {
 fn expect_cut(rt: &impl Abort, alloc: Global, count: usize, left: usize, is_cut: bool) {
     let mut text = Vec::new(alloc);
     text.resize(count, b'x').expect(rt, "memory");
-    let kept = cut(alloc, text.as_slice()).expect(rt, "memory");
+    let kept = shortened(alloc, text.as_slice()).expect(rt, "memory");
     expect_eq(rt, kept.len(), left);
     expect_eq(rt, kept.as_slice().ends_with(b"x .."), is_cut);
 }

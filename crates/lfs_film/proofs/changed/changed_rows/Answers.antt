@@ -1,6 +1,6 @@
 use Rattle.lfs_film.proofs.FilmLemmas.{rows_kept, rows_more, rows_none}
-use Rattle.lfs_film.proofs.changed.changed.Goals.{then-ne+in_ok-push, else-ne}
-use Rattle.lfs_film.proofs.changed.changed.Goals as goal
+use Rattle.lfs_film.proofs.changed.changed_rows.Goals.{then-ne+in_ok-push, else-ne}
+use Rattle.lfs_film.proofs.changed.changed_rows.Goals as goal
 
 pub loop-number-init : goal.loop-number-init
 loop-number-init c = rw c.new-rows.ensures.items (rows_none c.args.old.now c.args.new.now)
