@@ -9,7 +9,7 @@ use Rattle.lfs_ifile.specs.declared.segment.SegState.TheVariants.{Clean}
 use Rattle.lfs_bmap.specs.declared.blocks.TheConstants.{BLOCK_CODES}
 use Rattle.lfs_bmap.specs.Counting.{seg_of, placed}
 use Rattle.lfs_bmap.specs.Log.{LogState, IsPlaced, IsLog}
-use Rattle.lfs_bmap.specs.Ways.{way_of, code_at, HasWay}
+use Rattle.lfs_bmap.specs.Ways.{way_of, code_at, IsBlockWay}
 use Rattle.lfs_bmap.specs.Reading.{Tree, address, read, data_block, IsUnread, SameReadings, Stages, Lands, Clears, places}
 use Rattle.lfs_bmap.proofs.CountingLemmas.{placed-cases, placed-here, placed-code, placed-number}
 use Rattle.lfs_bmap.proofs.ReadingLemmas.{address-root, data_leaf, staged_others, staged_bytes, landed_address, landed_addresses, landed_data, cleared_address, cleared_addresses}
@@ -38,10 +38,10 @@ data_block-same old new h n = data_block-alike old new n (λ low. h.bytes (way_o
 
 -- other bytes that wait for a data block change that block alone
 module _ (old new : Tree) (n : ℕ) (bytes : List ℕ) (below : n < FILE_BLOCKS) (h : Stages old new (way_of (131 + n)) bytes) where
-  leaf : (i : ℕ) → HasWay (i ∷ way_of (131 + n)) → ⊥
+  leaf : (i : ℕ) → IsBlockWay (i ∷ way_of (131 + n)) → ⊥
   leaf = data_leaf (131 + n) (omega arith)
 
-  known_data : HasWay (way_of (131 + n))
+  known_data : IsBlockWay (way_of (131 + n))
   known_data = way_of-known (131 + n) (omega arith)
 
   pub data_block-staged : data_block new n ≡ bytes
@@ -53,7 +53,7 @@ module _ (old new : Tree) (n : ℕ) (bytes : List ℕ) (below : n < FILE_BLOCKS)
       (λ e. ne (let same : 131 + m ≡ 131 + n = same_code (131 + m) (131 + n) e in omega arith)))
 
 -- no data block changes where a block lands
-pub data_block-landed : (old new : Tree) (i : ℕ) (up : List ℕ) (a : ℕ) → HasWay (i ∷ up) → Lands old new i up a → IsUnread old a → (n : ℕ) → data_block new n ≡ data_block old n
+pub data_block-landed : (old new : Tree) (i : ℕ) (up : List ℕ) (a : ℕ) → IsBlockWay (i ∷ up) → Lands old new i up a → IsUnread old a → (n : ℕ) → data_block new n ≡ data_block old n
 data_block-landed old new i up a known h unread n =
     data_block-alike old new n (λ low. landed_data old new i up a known h unread (131 + n) (omega arith) (omega arith))
 
@@ -82,8 +82,8 @@ module _ (numbers : ℕ) (records : ℕ → ℕ) (old new : ℕ → Tree) (numbe
 -- So after a block landed, and after one was given back.
 module _ (numbers : ℕ) (records : ℕ → ℕ) (old new : ℕ → Tree) (number code i : ℕ) (up : List ℕ) (way : way_of code ≡ i ∷ up) (below : code < BLOCK_CODES)
     (same : (n : ℕ) → n < numbers → n ≢ number → SameReadings (old n) (new n)) where
-  known_block : HasWay (i ∷ up)
-  known_block = subst HasWay way (way_of-known code below)
+  known_block : IsBlockWay (i ∷ up)
+  known_block = subst IsBlockWay way (way_of-known code below)
 
   other_way : (c : ℕ) → c ≢ code → way_of c ≢ i ∷ up
   other_way c ne e = ne (same_code c code (e ∙ sym way))

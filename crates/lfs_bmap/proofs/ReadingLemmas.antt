@@ -6,7 +6,7 @@ use Rattle.std.proofs.lemmas.List.{get_or-set_same, get_or-set_other}
 use Rattle.lfs_types.specs.Blocks.{zero_block}
 use Rattle.lfs_inodes.specs.Addresses.{cells}
 use Rattle.lfs_bmap.specs.declared.blocks.TheConstants.{BLOCK_CODES}
-use Rattle.lfs_bmap.specs.Ways.{way_of, IsWay, HasWay}
+use Rattle.lfs_bmap.specs.Ways.{way_of, IsWay, IsBlockWay}
 use Rattle.lfs_bmap.specs.Reading.{Tree, bytes_via, table, address, read, IsUnread, SameReadings, StoresBlock, Stages, Lands, Clears}
 use Rattle.lfs_bmap.proofs.WayLemmas.{up_known, cases_way, way_of-known, no_way_through}
 
@@ -66,19 +66,19 @@ via-same old new way a waits block =
 
 -- Where the record is the same, and each known block has at its old address the bytes that it had, all readings are the
 -- same. Staging the bytes that a block has, settling one that the log has, and writing where nothing is read are such.
-module _ (old new : Tree) (root : new.root ≡ old.root) (same : (way : List ℕ) → HasWay way → bytes_via new way (address old way) ≡ read old way) where
-  read_kept : (way : List ℕ) → HasWay way → address new way ≡ address old way → read new way ≡ read old way
+module _ (old new : Tree) (root : new.root ≡ old.root) (same : (way : List ℕ) → IsBlockWay way → bytes_via new way (address old way) ≡ read old way) where
+  read_kept : (way : List ℕ) → IsBlockWay way → address new way ≡ address old way → read new way ≡ read old way
   read_kept way known e = read-via new way ∙ ap (bytes_via new way) e ∙ same way known
 
   cell_kept : (i : ℕ) (up : List ℕ) → table new up ≡ table old up → address new (i ∷ up) ≡ address old (i ∷ up)
   cell_kept i up above = address-cell new i up ∙ ap (λ ys. slice_index ys i) above ∙ sym (address-cell old i up)
 
-  table_kept : (way : List ℕ) → HasWay way → table new way ≡ table old way
+  table_kept : (way : List ℕ) → IsBlockWay way → table new way ≡ table old way
   table_kept [] known = table-root new ∙ root ∙ sym (table-root old)
   table_kept (i ∷ up) known =
       table-read new i up ∙ ap cells (read_kept (i ∷ up) known (cell_kept i up (table_kept up (up_known i up known)))) ∙ sym (table-read old i up)
 
-  address_kept : (way : List ℕ) → HasWay way → address new way ≡ address old way
+  address_kept : (way : List ℕ) → IsBlockWay way → address new way ≡ address old way
   address_kept [] known = address-root new ∙ sym (address-root old)
   address_kept (i ∷ up) known = cell_kept i up (table_kept up (up_known i up known))
 
@@ -96,8 +96,8 @@ SameReadings-trans a b c p q = record {
 }
 
 -- no reading changes where the log keeps the blocks at the known blocks' addresses
-pub kept_blocks : (old new : Tree) → new.root ≡ old.root → ((way : List ℕ) → HasWay way → new.waits way ≡ old.waits way)
-    → ((way : List ℕ) → HasWay way → address old way ≢ 0 → new.block (address old way) ≡ old.block (address old way)) → SameReadings old new
+pub kept_blocks : (old new : Tree) → new.root ≡ old.root → ((way : List ℕ) → IsBlockWay way → new.waits way ≡ old.waits way)
+    → ((way : List ℕ) → IsBlockWay way → address old way ≢ 0 → new.block (address old way) ≡ old.block (address old way)) → SameReadings old new
 kept_blocks old new root waits blocks =
     same_readings old new root (λ way known. via-same old new way (address old way) (waits way known) (blocks way known) ∙ sym (read-via old way))
 
@@ -107,7 +107,7 @@ appended_unread old new a h unread =
     kept_blocks old new h.root h.waits (λ way known some. h.blocks (address old way) (unread way known))
 
 -- or where the bytes wait that a block has
-pub staged_same : (old new : Tree) (way : List ℕ) → HasWay way → Stages old new way (read old way) → SameReadings old new
+pub staged_same : (old new : Tree) (way : List ℕ) → IsBlockWay way → Stages old new way (read old way) → SameReadings old new
 staged_same old new way known h =
     same_readings old new h.root (λ other there. elim (cases_way other way there known) [
       | inl e ↦ via-waits new other (address old other) (read old way) (ap (λ w. new.waits w) e ∙ h.waiting) ∙ ap (read old) (sym e)
@@ -115,8 +115,8 @@ staged_same old new way known h =
     ])
 
 -- Other bytes wait for a block through which no way leads: its reading alone changes.
-module _ (old new : Tree) (way bytes : List ℕ) (known : HasWay way) (leaf : (i : ℕ) → HasWay (i ∷ way) → ⊥) (h : Stages old new way bytes) where
-  staged_read : (other : List ℕ) → HasWay other → other ≢ way → address new other ≡ address old other → read new other ≡ read old other
+module _ (old new : Tree) (way bytes : List ℕ) (known : IsBlockWay way) (leaf : (i : ℕ) → IsBlockWay (i ∷ way) → ⊥) (h : Stages old new way bytes) where
+  staged_read : (other : List ℕ) → IsBlockWay other → other ≢ way → address new other ≡ address old other → read new other ≡ read old other
   staged_read other there ne e =
       read-via new other ∙ ap (bytes_via new other) e
       ∙ via-same old new other (address old other) (h.waits other there ne) (λ some. h.blocks (address old other)) ∙ sym (read-via old other)
@@ -125,34 +125,34 @@ module _ (old new : Tree) (way bytes : List ℕ) (known : HasWay way) (leaf : (i
   staged_cell i up above = address-cell new i up ∙ ap (λ ys. slice_index ys i) above ∙ sym (address-cell old i up)
 
   -- what a way leads through is another block
-  through : (i : ℕ) (up : List ℕ) → HasWay (i ∷ up) → up ≢ way
-  through i up there e = leaf i (subst (λ w. HasWay (i ∷ w)) e there)
+  through : (i : ℕ) (up : List ℕ) → IsBlockWay (i ∷ up) → up ≢ way
+  through i up there e = leaf i (subst (λ w. IsBlockWay (i ∷ w)) e there)
 
-  staged_table : (other : List ℕ) → HasWay other → other ≢ way → table new other ≡ table old other
+  staged_table : (other : List ℕ) → IsBlockWay other → other ≢ way → table new other ≡ table old other
   staged_table [] there ne = table-root new ∙ h.root ∙ sym (table-root old)
   staged_table (i ∷ up) there ne =
       table-read new i up
       ∙ ap cells (staged_read (i ∷ up) there ne (staged_cell i up (staged_table up (up_known i up there) (through i up there))))
       ∙ sym (table-read old i up)
 
-  pub staged_addresses : (other : List ℕ) → HasWay other → address new other ≡ address old other
+  pub staged_addresses : (other : List ℕ) → IsBlockWay other → address new other ≡ address old other
   staged_addresses [] there = address-root new ∙ sym (address-root old)
   staged_addresses (i ∷ up) there = staged_cell i up (staged_table up (up_known i up there) (through i up there))
 
-  pub staged_others : (other : List ℕ) → HasWay other → other ≢ way → read new other ≡ read old other
+  pub staged_others : (other : List ℕ) → IsBlockWay other → other ≢ way → read new other ≡ read old other
   staged_others other there ne = staged_read other there ne (staged_addresses other there)
 
   pub staged_bytes : read new way ≡ bytes
   staged_bytes = read-waits new way bytes h.waiting
 
 -- A block lands at an address that no known block had.
-module _ (old new : Tree) (i : ℕ) (up : List ℕ) (a : ℕ) (known : HasWay (i ∷ up)) (h : Lands old new i up a) (unread : IsUnread old a) where
+module _ (old new : Tree) (i : ℕ) (up : List ℕ) (a : ℕ) (known : IsBlockWay (i ∷ up)) (h : Lands old new i up a) (unread : IsUnread old a) where
   -- its address is the new one
   pub landed_address : address new (i ∷ up) ≡ a
   landed_address =
       address-cell new i up ∙ ap (λ ys. slice_index ys i) h.parent ∙ get_or-set_same (table old up) i a 0 h.room
 
-  landed_cell : (j : ℕ) (above : List ℕ) → HasWay above → (above ≢ up → table new above ≡ table old above) → j ∷ above ≢ i ∷ up
+  landed_cell : (j : ℕ) (above : List ℕ) → IsBlockWay above → (above ≢ up → table new above ≡ table old above) → j ∷ above ≢ i ∷ up
       → address new (j ∷ above) ≡ address old (j ∷ above)
   landed_cell j above there kept ne =
       elim (cases_way above up there (up_known i up known)) [
@@ -163,7 +163,7 @@ module _ (old new : Tree) (i : ℕ) (up : List ℕ) (a : ℕ) (known : HasWay (i
         | inr apart ↦ address-cell new j above ∙ ap (λ ys. slice_index ys j) (kept apart) ∙ sym (address-cell old j above)
       ]
 
-  landed_read : (way : List ℕ) → HasWay way → way ≢ up → (way ≢ i ∷ up → address new way ≡ address old way) → read new way ≡ read old way
+  landed_read : (way : List ℕ) → IsBlockWay way → way ≢ up → (way ≢ i ∷ up → address new way ≡ address old way) → read new way ≡ read old way
   landed_read way there ne kept =
       elim (cases_way way (i ∷ up) there known) [
         | inl e ↦
@@ -175,7 +175,7 @@ module _ (old new : Tree) (i : ℕ) (up : List ℕ) (a : ℕ) (known : HasWay (i
             ∙ sym (read-via old way)
       ]
 
-  landed_table : (way : List ℕ) → HasWay way → way ≢ up → table new way ≡ table old way
+  landed_table : (way : List ℕ) → IsBlockWay way → way ≢ up → table new way ≡ table old way
   landed_table [] there ne = table-root new ∙ h.root (λ e. ne (sym e)) ∙ sym (table-root old)
   landed_table (j ∷ above) there ne =
       let beyond = up_known j above there in
@@ -184,13 +184,13 @@ module _ (old new : Tree) (i : ℕ) (up : List ℕ) (a : ℕ) (known : HasWay (i
       ∙ sym (table-read old j above)
 
   -- all other addresses stay
-  pub landed_addresses : (way : List ℕ) → HasWay way → way ≢ i ∷ up → address new way ≡ address old way
+  pub landed_addresses : (way : List ℕ) → IsBlockWay way → way ≢ i ∷ up → address new way ≡ address old way
   landed_addresses [] there ne = address-root new ∙ sym (address-root old)
   landed_addresses (j ∷ above) there ne =
       landed_cell j above (up_known j above there) (landed_table above (up_known j above there)) ne
 
   -- no block reads otherwise, but for the one that holds the address
-  pub landed_bytes : (way : List ℕ) → HasWay way → way ≢ up → read new way ≡ read old way
+  pub landed_bytes : (way : List ℕ) → IsBlockWay way → way ≢ up → read new way ≡ read old way
   landed_bytes way there ne = landed_read way there ne (landed_addresses way there)
 
   -- so no data block does
@@ -200,11 +200,11 @@ module _ (old new : Tree) (i : ℕ) (up : List ℕ) (a : ℕ) (known : HasWay (i
       (λ e. no_way_through code i data_ (subst (λ w. IsWay (i ∷ w)) (sym e) known.leads))
 
 -- no way leads through a data block
-pub data_leaf : (code : ℕ) → 131 ≤ code → (i : ℕ) → HasWay (i ∷ way_of code) → ⊥
+pub data_leaf : (code : ℕ) → 131 ≤ code → (i : ℕ) → IsBlockWay (i ∷ way_of code) → ⊥
 data_leaf code data_ i known = no_way_through code i data_ known.leads
 
 -- A block is given back.
-module _ (old new : Tree) (i : ℕ) (up : List ℕ) (known : HasWay (i ∷ up)) (empty : (j : ℕ) → slice_index (cells zero_block) j ≡ 0) (h : Clears old new i up) where
+module _ (old new : Tree) (i : ℕ) (up : List ℕ) (known : IsBlockWay (i ∷ up)) (empty : (j : ℕ) → slice_index (cells zero_block) j ≡ 0) (h : Clears old new i up) where
   -- it has no address
   pub cleared_address : address new (i ∷ up) ≡ 0
   cleared_address =
@@ -215,7 +215,7 @@ module _ (old new : Tree) (i : ℕ) (up : List ℕ) (known : HasWay (i ∷ up)) 
   cleared_bytes = read-via new (i ∷ up) ∙ ap (bytes_via new (i ∷ up)) cleared_address ∙ via-none new (i ∷ up) h.settled
 
   -- the cell of another block keeps its address, where it stands in the same block or in one whose cells were kept
-  cleared_cell : (j : ℕ) (above : List ℕ) → HasWay (j ∷ above) → (above ≢ up → above ≢ i ∷ up → table new above ≡ table old above)
+  cleared_cell : (j : ℕ) (above : List ℕ) → IsBlockWay (j ∷ above) → (above ≢ up → above ≢ i ∷ up → table new above ≡ table old above)
       → j ∷ above ≢ i ∷ up → address new (j ∷ above) ≡ address old (j ∷ above)
   cleared_cell j above there kept ne =
       let beyond = up_known j above there in
@@ -226,19 +226,19 @@ module _ (old new : Tree) (i : ℕ) (up : List ℕ) (known : HasWay (i ∷ up)) 
             ∙ get_or-set_other (table old up) i j 0 0 other ∙ ap (λ w. slice_index (table old w) j) (sym e) ∙ sym (address-cell old j above)
         | inr apart ↦ elim (cases_way above (i ∷ up) beyond known) [
           | inl e ↦
-              let under : HasWay (j ∷ i ∷ up) = subst (λ w. HasWay (j ∷ w)) e there in
+              let under : IsBlockWay (j ∷ i ∷ up) = subst (λ w. IsBlockWay (j ∷ w)) e there in
               ap (λ w. address new (j ∷ w)) e ∙ address-cell new j (i ∷ up) ∙ ap (λ ys. slice_index ys j) (table-read new i up)
               ∙ ap (λ b. slice_index (cells b) j) cleared_bytes ∙ empty j ∙ sym (h.beneath j under) ∙ ap (λ w. address old (j ∷ w)) (sym e)
           | inr far ↦ address-cell new j above ∙ ap (λ ys. slice_index ys j) (kept apart far) ∙ sym (address-cell old j above)
         ]
       ]
 
-  cleared_read : (way : List ℕ) → HasWay way → way ≢ up → way ≢ i ∷ up → address new way ≡ address old way → read new way ≡ read old way
+  cleared_read : (way : List ℕ) → IsBlockWay way → way ≢ up → way ≢ i ∷ up → address new way ≡ address old way → read new way ≡ read old way
   cleared_read way there ne far e =
       read-via new way ∙ ap (bytes_via new way) e
       ∙ via-same old new way (address old way) (h.waits way there far ne) (λ some. h.blocks (address old way)) ∙ sym (read-via old way)
 
-  cleared_table : (way : List ℕ) → HasWay way → way ≢ up → way ≢ i ∷ up → table new way ≡ table old way
+  cleared_table : (way : List ℕ) → IsBlockWay way → way ≢ up → way ≢ i ∷ up → table new way ≡ table old way
   cleared_table [] there ne far = table-root new ∙ h.root (λ e. ne (sym e)) ∙ sym (table-root old)
   cleared_table (j ∷ above) there ne far =
       table-read new j above
@@ -246,10 +246,10 @@ module _ (old new : Tree) (i : ℕ) (up : List ℕ) (known : HasWay (i ∷ up)) 
       ∙ sym (table-read old j above)
 
   -- all other addresses stay
-  pub cleared_addresses : (way : List ℕ) → HasWay way → way ≢ i ∷ up → address new way ≡ address old way
+  pub cleared_addresses : (way : List ℕ) → IsBlockWay way → way ≢ i ∷ up → address new way ≡ address old way
   cleared_addresses [] there ne = address-root new ∙ sym (address-root old)
   cleared_addresses (j ∷ above) there ne = cleared_cell j above there (cleared_table above (up_known j above there)) ne
 
   -- and no other block reads otherwise, but for the one that held the address
-  pub cleared_others : (way : List ℕ) → HasWay way → way ≢ up → way ≢ i ∷ up → read new way ≡ read old way
+  pub cleared_others : (way : List ℕ) → IsBlockWay way → way ≢ up → way ≢ i ∷ up → read new way ≡ read old way
   cleared_others way there ne far = cleared_read way there ne far (cleared_addresses way there far)

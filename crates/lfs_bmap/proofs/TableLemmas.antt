@@ -7,7 +7,7 @@ use Rattle.lfs_bmap.specs.declared.blocks.FileBlock.TheVariants.{Record, Single,
 use Rattle.lfs_bmap.specs.declared.blocks.TheConstants.{BLOCK_CODES, FIRST_DATA_CODE}
 use Rattle.lfs_bmap.specs.Blocks.{IsFileBlock, code_of, first_under, table_of, way_to}
 use Rattle.lfs_bmap.specs.Tables.{rank_of, tables_between}
-use Rattle.lfs_bmap.specs.Ways.{HasWay, IsWay, code_at, codes_on, data_way}
+use Rattle.lfs_bmap.specs.Ways.{IsBlockWay, IsWay, code_at, codes_on, data_way}
 use Rattle.lfs_bmap.proofs.BlockLemmas.{code_of-below}
 use Rattle.lfs_bmap.proofs.WayLemmas.{code_at-data, data_way-double, data_way-single, no_way_through, way_of-code_of, way_of-data, way_of-known}
 use Rattle.lfs_bmap.proofs.HolderLemmas.{code_cases, codes_on-block, codes_on-record, data_table, table_of-child, table_of-single}
@@ -60,7 +60,7 @@ pub record IsUnder (t : FileBlock) (j : ℕ) : Type 0 where
   pub table : table_of block ≡ t
   pub other : code_of block ≢ 0
 
-under_child : (k j : ℕ) → k < 128 → HasWay (j ∷ k ∷ 13 ∷ []) → IsUnder (Child k) j
+under_child : (k j : ℕ) → k < 128 → IsBlockWay (j ∷ k ∷ 13 ∷ []) → IsUnder (Child k) j
 under_child k j is known =
     let leads = known.leads in
     let h = leads.0 in
@@ -78,7 +78,7 @@ under_child k j is known =
       other = λ e. omega arith;
     }
 
-pub under_table : (t : FileBlock) → IsFileBlock t → code_of t ≢ 0 → (j : ℕ) → HasWay (j ∷ way_to t) → IsUnder t j
+pub under_table : (t : FileBlock) → IsFileBlock t → code_of t ≢ 0 → (j : ℕ) → IsBlockWay (j ∷ way_to t) → IsUnder t j
 under_table Record is other j known = absurd (other refl)
 under_table Single is other j known =
     let low = known.leads.0 in
@@ -229,7 +229,7 @@ rank_of-table (Data k) is other =
     (λ far some. let second = rank_of-child ((k - 140) / 128) (omega arith) in omega arith) other
 
 -- ---- how far a block is from the record
-pub way_length : (way : List ℕ) → HasWay way → length way ≤ 3
+pub way_length : (way : List ℕ) → IsBlockWay way → length way ≤ 3
 way_length [] known = omega arith
 way_length (i ∷ []) known = omega arith
 way_length (i ∷ j ∷ []) known = omega arith
@@ -238,7 +238,7 @@ way_length (i ∷ j ∷ k ∷ l ∷ up) known = absurd known.leads
 
 pub block_way_length : (block : FileBlock) → IsFileBlock block → length (way_to block) ≤ 3
 block_way_length block is =
-    way_length (way_to block) (subst HasWay (way_of-code_of block is) (way_of-known (code_of block) (code_of-below block is)))
+    way_length (way_to block) (subst IsBlockWay (way_of-code_of block is) (way_of-known (code_of block) (code_of-below block is)))
 
 -- ---- from one data block to another
 -- what leads to a later data block leads to the first one too, where its code is no greater than that of the first one's holder

@@ -5,7 +5,7 @@ use Rattle.lfs_bmap.specs.declared.blocks.FileBlock.{FileBlock}
 use Rattle.lfs_bmap.specs.declared.blocks.FileBlock.TheVariants.{Record, Single, Double, Child, Data}
 use Rattle.lfs_bmap.specs.declared.blocks.TheConstants.{BLOCK_CODES}
 use Rattle.lfs_bmap.specs.Blocks.{IsFileBlock, code_of, table_at, way_to}
-use Rattle.lfs_bmap.specs.Ways.{data_way, way_of, code_at, IsWay, HasWay}
+use Rattle.lfs_bmap.specs.Ways.{data_way, way_of, code_at, IsWay, IsBlockWay}
 
 -- the number of codes with the double indirect block: 131 and 16,524 data blocks
 abbrev pub all_codes : ℕ
@@ -243,19 +243,19 @@ up_code i (child ∷ place ∷ []) h =
 up_code i (child ∷ place ∷ next ∷ up) h = absurd h
 
 -- the block that holds the address of a known block is known
-pub up_known : (i : ℕ) (up : List ℕ) → HasWay (i ∷ up) → HasWay up
+pub up_known : (i : ℕ) (up : List ℕ) → IsBlockWay (i ∷ up) → IsBlockWay up
 up_known i up h = let low = up_code i up h.leads in record { leads = up_way i up h.leads; coded = omega arith }
 
 -- the way of a code of this profile is known
-pub way_of-known : (code : ℕ) → code < BLOCK_CODES → HasWay (way_of code)
+pub way_of-known : (code : ℕ) → code < BLOCK_CODES → IsBlockWay (way_of code)
 way_of-known code h = record { leads = way_of-way code (omega arith); coded = subst (λ c. c < BLOCK_CODES) (sym (code_at-way_of code)) h }
 
 -- a known way is that of a code of this profile
-pub known_way_of : (way : List ℕ) → HasWay way → way_of (code_at way) ≡ way
+pub known_way_of : (way : List ℕ) → IsBlockWay way → way_of (code_at way) ≡ way
 known_way_of way h = way_of-code_at way h.leads
 
 -- two known ways are one or differ
-pub cases_way : (v w : List ℕ) → HasWay v → HasWay w → (v ≡ w) ⊎ (v ≢ w)
+pub cases_way : (v w : List ℕ) → IsBlockWay v → IsBlockWay w → (v ≡ w) ⊎ (v ≢ w)
 cases_way v w p q =
     elim (cases_eq (code_at v) (code_at w)) [
       | inl e ↦ inl (sym (known_way_of v p) ∙ ap way_of e ∙ known_way_of w q)

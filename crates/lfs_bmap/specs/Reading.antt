@@ -3,7 +3,7 @@ use Rattle.std.specs.Prelude.{◌≡◌, ◌≢◌, ℕ, ◌*◌, ◌<◌, List,
 use Rattle.lfs_types.specs.Blocks.{zero_block}
 use Rattle.lfs_types.specs.declared.limits.TheConstants.{FILE_BLOCKS}
 use Rattle.lfs_inodes.specs.Addresses.{cells}
-use Rattle.lfs_bmap.specs.Ways.{data_way, way_of, HasWay}
+use Rattle.lfs_bmap.specs.Ways.{data_way, way_of, IsBlockWay}
 
 -- A file as its parts show it. The addresses of its record, the waiting one if one waits, else the one in the log; the
 -- bytes that wait to be written, by the way of the block: its LOCKED frame; the block at each address of the log.
@@ -37,24 +37,24 @@ data_block t n = if nat_lt n FILE_BLOCKS then read t (data_way n) else zero_bloc
 
 -- no known block has this address
 abbrev pub IsUnread : Tree → ℕ → Type 0
-IsUnread t a = (way : List ℕ) → HasWay way → address t way ≢ a
+IsUnread t a = (way : List ℕ) → IsBlockWay way → address t way ≢ a
 
 -- Each known block has the address and the bytes that it had.
 pub record SameReadings (old new : Tree) : Type 0 where
-  pub addresses : (way : List ℕ) → HasWay way → address new way ≡ address old way
-  pub bytes : (way : List ℕ) → HasWay way → read new way ≡ read old way
+  pub addresses : (way : List ℕ) → IsBlockWay way → address new way ≡ address old way
+  pub bytes : (way : List ℕ) → IsBlockWay way → read new way ≡ read old way
 
 -- A block was written at an address of the log, and nothing else changed.
 pub record StoresBlock (old new : Tree) (a : ℕ) : Type 0 where
   pub root : new.root ≡ old.root
-  pub waits : (way : List ℕ) → HasWay way → new.waits way ≡ old.waits way
+  pub waits : (way : List ℕ) → IsBlockWay way → new.waits way ≡ old.waits way
   pub blocks : (b : ℕ) → b ≢ a → new.block b ≡ old.block b
 
 -- Bytes wait for a block, and nothing else changed.
 pub record Stages (old new : Tree) (way bytes : List ℕ) : Type 0 where
   pub root : new.root ≡ old.root
   pub waiting : new.waits way ≡ Some bytes
-  pub waits : (other : List ℕ) → HasWay other → other ≢ way → new.waits other ≡ old.waits other
+  pub waits : (other : List ℕ) → IsBlockWay other → other ≢ way → new.waits other ≡ old.waits other
   pub blocks : (b : ℕ) → new.block b ≡ old.block b
 
 -- The block at the way i ∷ up landed at an address: it is there with the bytes that it meant, it waits no more, and the
@@ -65,7 +65,7 @@ pub record Lands (old new : Tree) (i : ℕ) (up : List ℕ) (a : ℕ) : Type 0 w
   pub parent : table new up ≡ slice_set (table old up) i a
   pub root : up ≢ [] → new.root ≡ old.root
   pub settled : new.waits (i ∷ up) ≡ None
-  pub waits : (other : List ℕ) → HasWay other → other ≢ i ∷ up → other ≢ up → new.waits other ≡ old.waits other
+  pub waits : (other : List ℕ) → IsBlockWay other → other ≢ i ∷ up → other ≢ up → new.waits other ≡ old.waits other
   pub written : new.block a ≡ read old (i ∷ up)
   pub blocks : (b : ℕ) → b ≢ a → new.block b ≡ old.block b
 
@@ -75,9 +75,9 @@ pub record Clears (old new : Tree) (i : ℕ) (up : List ℕ) : Type 0 where
   pub parent : table new up ≡ slice_set (table old up) i 0
   pub root : up ≢ [] → new.root ≡ old.root
   pub settled : new.waits (i ∷ up) ≡ None
-  pub waits : (other : List ℕ) → HasWay other → other ≢ i ∷ up → other ≢ up → new.waits other ≡ old.waits other
+  pub waits : (other : List ℕ) → IsBlockWay other → other ≢ i ∷ up → other ≢ up → new.waits other ≡ old.waits other
   pub blocks : (b : ℕ) → new.block b ≡ old.block b
-  pub beneath : (j : ℕ) → HasWay (j ∷ i ∷ up) → address old (j ∷ i ∷ up) ≡ 0
+  pub beneath : (j : ℕ) → IsBlockWay (j ∷ i ∷ up) → address old (j ∷ i ∷ up) ≡ 0
 
 -- The place of each key, a number and a code: a record's stands in the inode map, another block's is four times its
 -- address.

@@ -39,6 +39,6 @@ IsWay (cell ∷ child ∷ place ∷ []) = (cell < 128) × (child < 128) × (plac
 IsWay (cell ∷ child ∷ place ∷ next ∷ up) = ⊥
 
 -- the way of a block that a file of this profile can have
-pub record HasWay (way : List ℕ) : Type 0 where
+pub record IsBlockWay (way : List ℕ) : Type 0 where
   pub leads : IsWay way
   pub coded : code_at way < BLOCK_CODES

@@ -48,8 +48,8 @@ module _ (p : LogParts) (at : ℕ → ℕ → ℕ) (spare number code from : ℕ
       subst (λ (s : ℕ). 128 * units code ≤ live_of p.tables s) segment (left_fits (log_state p at) spare number code log (has_place some))
 
   -- a key that loses its place
-  pub MayMove-left : MayMoveLive p code from 0
-  MayMove-left = record {
+  pub MayMoveLive-left : MayMoveLive p code from 0
+  MayMoveLive-left = record {
     from_inside = old_inside;
     to_inside = let some = log.segments.inside in omega arith;
     had = old_had;
@@ -57,8 +57,8 @@ module _ (p : LogParts) (at : ℕ → ℕ → ℕ) (spare number code from : ℕ
   }
 
   -- a key that takes another
-  pub MayMove-taken : (place to : ℕ) → MayTake (log_state p at) spare number code place → place / 4 ≡ to → MayMoveLive p code from to
-  MayMove-taken place to may is =
+  pub MayMoveLive-taken : (place to : ℕ) → MayTake (log_state p at) spare number code place → place / 4 ≡ to → MayMoveLive p code from to
+  MayMoveLive-taken place to may is =
       let here = may.here in
       let active : to / 64 ≡ p.memory.active = omega arith in
       record {

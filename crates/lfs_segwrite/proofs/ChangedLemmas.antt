@@ -6,7 +6,7 @@ use Rattle.lfs_ifile.specs.Tables.{row_of}
 use Rattle.lfs_log.specs.Parts.{LogParts, record_place}
 use Rattle.lfs_bmap.specs.Log.{SameKeys}
 use Rattle.lfs_bmap.specs.Reading.{address}
-use Rattle.lfs_bmap.specs.Ways.{HasWay, way_of}
+use Rattle.lfs_bmap.specs.Ways.{IsBlockWay, way_of}
 use Rattle.lfs_bmap.proofs.MoveLemmas.{moves-refl, moves-same, moves-trans}
 use Rattle.lfs_bmap.proofs.WayLemmas.{way_of-known}
 use Rattle.lfs_staging.specs.declared.parts.Parts.{Parts}

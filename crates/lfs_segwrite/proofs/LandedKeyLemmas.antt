@@ -19,7 +19,7 @@ use Rattle.lfs_bmap.specs.declared.blocks.TheConstants.{BLOCK_CODES}
 use Rattle.lfs_bmap.specs.declared.blocks.FileBlock.{FileBlock}
 use Rattle.lfs_bmap.specs.Blocks.{IsFileBlock, code_of, logical_of, way_to}
 use Rattle.lfs_bmap.specs.Log.{IsLog}
-use Rattle.lfs_bmap.specs.Ways.{HasWay, code_at, way_of}
+use Rattle.lfs_bmap.specs.Ways.{IsBlockWay, code_at, way_of}
 use Rattle.lfs_bmap.proofs.CountingLemmas.{placed-cases}
 use Rattle.lfs_bmap.proofs.WayLemmas.{known_way_of, up_known, way_of-code_of, way_of-known}
 use Rattle.lfs_staging.specs.declared.parts.Parts.{Parts}
@@ -148,7 +148,7 @@ module _ (p q : Parts) (v : Inode) (block : FileBlock) (a : ℕ) (h : LandsKey p
       elim (same_cases (key_of v.number v.version (code_of block)) holder) [
         | inl same ↦
             let e = same_is (key_of v.number v.version (code_of block)) holder same in
-            let known = subst HasWay way (way_of-known key.lbn (coded_below key.lbn (h.staged.whole.coded key before))) in
+            let known = subst IsBlockWay way (way_of-known key.lbn (coded_below key.lbn (h.staged.whole.coded key before))) in
             let to : way_to block ≡ j ∷ above = sym (way_of-code_of block h.can) ∙ ap way_of (ap (λ (k : Key). k.lbn) e) ∙ known_way_of (j ∷ above) (up_known i (j ∷ above) known) in
             absurd (h.free key before (sym (ap (λ (k : Key). k.ino) e)) i (way ∙ ap (λ w. i ∷ w) (sym to)))
         | inr apart ↦ h.frames holder apart (h.staged.parents.holders key before i (j ∷ above) way)

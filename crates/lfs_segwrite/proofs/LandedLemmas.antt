@@ -20,7 +20,7 @@ use Rattle.lfs_bmap.specs.Blocks.{IsFileBlock, code_of, logical_of, way_to}
 use Rattle.lfs_bmap.specs.Counting.{placed, units}
 use Rattle.lfs_bmap.specs.Log.{Assigns, IsLog, LogState, MayTake}
 use Rattle.lfs_bmap.specs.Reading.{Lands, SameReadings, address, data_block, read, table}
-use Rattle.lfs_bmap.specs.Ways.{HasWay, code_at, data_way, way_of}
+use Rattle.lfs_bmap.specs.Ways.{IsBlockWay, code_at, data_way, way_of}
 use Rattle.lfs_bmap.proofs.BlockLemmas.{code_of-below}
 use Rattle.lfs_bmap.proofs.CountingLemmas.{placed-cases}
 use Rattle.lfs_bmap.proofs.LogLemmas.{taken_log, written_log}
@@ -60,7 +60,7 @@ pub record Steps (p r s q : Parts) (v : Inode) (block : FileBlock) (a i : ℕ) (
 code_over : (block : FileBlock) (i : ℕ) (up : List ℕ) → IsFileBlock block → way_to block ≡ i ∷ up → code_of block ≢ code_at up
 code_over block i up can way e =
     let here : way_of (code_of block) ≡ i ∷ up = way_of-code_of block can ∙ way in
-    let known : HasWay (i ∷ up) = subst HasWay here (way_of-known (code_of block) (code_of-below block can)) in
+    let known : IsBlockWay (i ∷ up) = subst IsBlockWay here (way_of-known (code_of block) (code_of-below block can)) in
     longer i up (sym (known_way_of up (up_known i up known)) ∙ ap way_of (sym e) ∙ here)
 
 -- what waits for a block does still when it was put and its address was set
@@ -95,16 +95,16 @@ module _ (p r s q : Parts) (v : Inode) (block : FileBlock) (a i : ℕ) (up : Lis
   pub way_here : way_of (code_of block) ≡ i ∷ up
   way_here = way_of-code_of block h.can ∙ h.way
 
-  pub known : HasWay (i ∷ up)
-  known = subst HasWay way_here (way_of-known (code_of block) (code_of-below block h.can))
+  pub known : IsBlockWay (i ∷ up)
+  known = subst IsBlockWay way_here (way_of-known (code_of block) (code_of-below block h.can))
 
-  above_known : HasWay up
+  above_known : IsBlockWay up
   above_known = up_known i up known
 
-  code_apart : (way : List ℕ) → HasWay way → way ≢ i ∷ up → code_at way ≢ code_of block
+  code_apart : (way : List ℕ) → IsBlockWay way → way ≢ i ∷ up → code_at way ≢ code_of block
   code_apart way there ne e = ne (sym (known_way_of way there) ∙ ap way_of e ∙ way_here)
 
-  code_above : (way : List ℕ) → HasWay way → way ≢ up → code_at way ≢ code_at up
+  code_above : (way : List ℕ) → IsBlockWay way → way ≢ up → code_at way ≢ code_at up
   code_above way there ne e = ne (sym (known_way_of way there) ∙ ap way_of e ∙ known_way_of up above_known)
 
   -- records
@@ -199,7 +199,7 @@ module _ (p r s q : Parts) (v : Inode) (block : FileBlock) (a i : ℕ) (up : Lis
             | inl e ↦ ap (λ n. read (tree_of q n) (data_way k)) e ∙ ap (read (tree_of q v.number)) (sym (way_of-data k))
                 ∙ landed_data (tree_of p v.number) (tree_of q v.number) i up a known (lands waited) (h.put.unread v.number h.low) (131 + k) (omega arith) (omega arith)
                 ∙ ap (read (tree_of p v.number)) (way_of-data k) ∙ ap (λ n. read (tree_of p n) (data_way k)) (sym e)
-            | inr ne ↦ (others_same m inside ne).bytes (data_way k) (subst HasWay (way_of-data k) (way_of-known (131 + k) (omega arith)))
+            | inr ne ↦ (others_same m inside ne).bytes (data_way k) (subst IsBlockWay (way_of-data k) (way_of-known (131 + k) (omega arith)))
           ]
 
   -- the places of the keys

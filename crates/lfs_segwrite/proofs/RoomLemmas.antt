@@ -21,7 +21,7 @@ use Rattle.lfs_bmap.specs.declared.blocks.TheConstants.{BLOCK_CODES}
 use Rattle.lfs_bmap.specs.Log.{IsPlaced, Opens, SameKeys}
 use Rattle.lfs_bmap.specs.Pieces.{IsPadded, file_bytes}
 use Rattle.lfs_bmap.specs.Reading.{SameReadings, address, data_block}
-use Rattle.lfs_bmap.specs.Ways.{HasWay, code_at, way_of}
+use Rattle.lfs_bmap.specs.Ways.{IsBlockWay, code_at, way_of}
 use Rattle.lfs_bmap.proofs.MoveLemmas.{StaysDirty-opened, StaysDirty-refl}
 use Rattle.lfs_bmap.proofs.PlaceLemmas.{data_block-same}
 use Rattle.lfs_bmap.proofs.ReadingLemmas.{SameReadings-refl, address-root, kept_blocks}
@@ -129,7 +129,7 @@ module _ (p : Parts) (s : ℕ) (store : IsStore p) (inside : s < p.log.memory.se
   ]
 
   -- a block with an address lies in a segment that is in use
-  block_away : (n : ℕ) (way : List ℕ) → HasWay way → address (tree_of p n) way ≢ 0 → address (tree_of p n) way / 64 ≢ s
+  block_away : (n : ℕ) (way : List ℕ) → IsBlockWay way → address (tree_of p n) way ≢ 0 → address (tree_of p n) way / 64 ≢ s
   block_away n way known some =
       elim (cases_lt n (length p.log.tables.rows)) [
         | inr past ↦

@@ -14,7 +14,7 @@ use Rattle.lfs_segments.specs.Log.{first_of}
 use Rattle.lfs_segments.specs.Memory.{SegmentMemory, block_at, next_address}
 use Rattle.lfs_log.specs.Parts.{IsParts, MayMoveLive, record_place}
 use Rattle.lfs_log.specs.Parts as log
-use Rattle.lfs_log.proofs.TakeLemmas.{MayMove-taken, MayTake-written}
+use Rattle.lfs_log.proofs.TakeLemmas.{MayMoveLive-taken, MayTake-written}
 use Rattle.lfs_bmap.specs.declared.blocks.TheConstants.{BLOCK_CODES}
 use Rattle.lfs_bmap.specs.Counting.{placed, units}
 use Rattle.lfs_bmap.specs.Reading as ways
@@ -102,7 +102,7 @@ module _ (p : Parts) (v : Inode) (front : List Inode) (address slot spare : ℕ)
   pub last_move : MayMoveLive p.log 0 (row_of p.log.tables v.number).address address
   last_move =
       let slots = (staged.whole.parts.formed.each_row v.number fresh_row last_low).slot in
-      MayMove-taken p.log (log_state p).at (spare + 128) v.number 0 (row_of p.log.tables v.number).address staged.log last_low (omega arith)
+      MayMoveLive-taken p.log (log_state p).at (spare + 128) v.number 0 (row_of p.log.tables v.number).address staged.log last_low (omega arith)
       (place_quarter p.log.tables v.number slots) (4 * address + slot) address last_may (let low = stands.in_block in omega arith)
 
 -- ---- what settling makes

@@ -18,7 +18,7 @@ use Rattle.lfs_bmap.specs.Counting.{seg_of}
 use Rattle.lfs_bmap.specs.Log.{LogState}
 use Rattle.lfs_bmap.specs.Moves.{DirtyIn, Moves, StaysDirty, present_address}
 use Rattle.lfs_bmap.specs.Reading.{address, data_block}
-use Rattle.lfs_bmap.specs.Ways.{HasWay, codes_on, way_of}
+use Rattle.lfs_bmap.specs.Ways.{IsBlockWay, codes_on, way_of}
 use Rattle.lfs_staging.specs.declared.parts.Parts.{Parts}
 use Rattle.lfs_segwrite.specs.Applying.{WritesWaiting}
 use Rattle.lfs_segwrite.specs.Collecting.{inode_blocks}
@@ -79,7 +79,7 @@ pub record SameShown (old new : Parts) : Type 0 where
   pub log : new.log ≡ old.log
   pub records : (n : ℕ) → record_of new n ≡ record_of old n
   pub blocks : (n m : ℕ) → data_block (tree_of new n) m ≡ data_block (tree_of old n) m
-  pub addresses : (n : ℕ) (way : List ℕ) → HasWay way → address (tree_of new n) way ≡ address (tree_of old n) way
+  pub addresses : (n : ℕ) (way : List ℕ) → IsBlockWay way → address (tree_of new n) way ≡ address (tree_of old n) way
 
 -- The block with a code of a number waits with what it had, and what waited does still. What waits more is on the way to it.
 pub record StagesAgain (number code : ℕ) (old new : Parts) : Type 0 where

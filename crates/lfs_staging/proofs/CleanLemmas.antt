@@ -13,7 +13,7 @@ use Rattle.lfs_bmap.specs.declared.blocks.TheConstants.{BLOCK_CODES}
 use Rattle.lfs_bmap.specs.declared.blocks.FileBlock.{FileBlock}
 use Rattle.lfs_bmap.specs.Blocks.{IsFileBlock, code_of}
 use Rattle.lfs_bmap.specs.Reading.{SameReadings, address, read}
-use Rattle.lfs_bmap.specs.Ways.{HasWay, way_of}
+use Rattle.lfs_bmap.specs.Ways.{IsBlockWay, way_of}
 use Rattle.lfs_bmap.proofs.BlockLemmas.{code_of-below}
 use Rattle.lfs_bmap.proofs.ReadingLemmas.{read-via, via-log}
 use Rattle.lfs_bmap.proofs.WayLemmas.{code_at-way_of, way_of-known}
@@ -52,7 +52,7 @@ logged_kept p q key bytes was present at block = record {
 
 -- so it is where the log and all addresses are the same
 pub mirrors_log : (p q : Parts) → Mirrors p → GainsNoClean p.cache q.cache → q.log ≡ p.log
-    → ((n : ℕ) (way : List ℕ) → HasWay way → address (tree_of q n) way ≡ address (tree_of p n) way) → Mirrors q
+    → ((n : ℕ) (way : List ℕ) → IsBlockWay way → address (tree_of q n) way ≡ address (tree_of p n) way) → Mirrors q
 mirrors_log p q mirrors clean log addresses = record {
   each = λ key bytes there.
       let was = mirrors.each key bytes (clean.each key bytes there) in

@@ -22,7 +22,7 @@ use Rattle.lfs_bmap.specs.Counting.{placed}
 use Rattle.lfs_bmap.specs.Log.{Assigns, IsLog}
 use Rattle.lfs_bmap.specs.Moves.{Moves}
 use Rattle.lfs_bmap.specs.Reading.{Clears, SameReadings, address, data_block, read, table}
-use Rattle.lfs_bmap.specs.Ways.{HasWay, IsWay, code_at, way_of}
+use Rattle.lfs_bmap.specs.Ways.{IsBlockWay, IsWay, code_at, way_of}
 use Rattle.lfs_bmap.proofs.BlockLemmas.{code_of-below}
 use Rattle.lfs_bmap.proofs.CountingLemmas.{placed-cases}
 use Rattle.lfs_bmap.proofs.LogLemmas.{left_log}
@@ -49,7 +49,7 @@ pub record Steps (p s q : Parts) (v : Inode) (block : FileBlock) (i : ℕ) (up :
   pub other : code_of block ≢ 0
   pub way : way_to block ≡ i ∷ up
   pub waited : up ≢ [] → IsSome ((tree_of p v.number).waits up)
-  pub beneath : (j : ℕ) → HasWay (j ∷ i ∷ up) → address (tree_of p v.number) (j ∷ i ∷ up) ≡ 0
+  pub beneath : (j : ℕ) → IsBlockWay (j ∷ i ∷ up) → address (tree_of p v.number) (j ∷ i ∷ up) ≡ 0
   pub set : Sets p s v i up 0
   pub memory : q.log.memory ≡ p.log.memory
   pub rows : q.log.tables.rows ≡ p.log.tables.rows
@@ -70,16 +70,16 @@ module _ (p s q : Parts) (v : Inode) (block : FileBlock) (i : ℕ) (up : List �
   pub way_here : way_of (code_of block) ≡ i ∷ up
   way_here = way_of-code_of block h.can ∙ h.way
 
-  pub known : HasWay (i ∷ up)
-  known = subst HasWay way_here (way_of-known (code_of block) (code_of-below block h.can))
+  pub known : IsBlockWay (i ∷ up)
+  known = subst IsBlockWay way_here (way_of-known (code_of block) (code_of-below block h.can))
 
-  above_known : HasWay up
+  above_known : IsBlockWay up
   above_known = up_known i up known
 
-  code_apart : (way : List ℕ) → HasWay way → way ≢ i ∷ up → code_at way ≢ code_of block
+  code_apart : (way : List ℕ) → IsBlockWay way → way ≢ i ∷ up → code_at way ≢ code_of block
   code_apart way there ne e = ne (sym (known_way_of way there) ∙ ap way_of e ∙ way_here)
 
-  code_above : (way : List ℕ) → HasWay way → way ≢ up → code_at way ≢ code_at up
+  code_above : (way : List ℕ) → IsBlockWay way → way ≢ up → code_at way ≢ code_at up
   code_above way there ne e = ne (sym (known_way_of way there) ∙ ap way_of e ∙ known_way_of up above_known)
 
   -- records
@@ -153,7 +153,7 @@ module _ (p s q : Parts) (v : Inode) (block : FileBlock) (i : ℕ) (up : List �
   pub address_here : address (tree_of q v.number) (i ∷ up) ≡ 0
   address_here = cleared_address (tree_of p v.number) (tree_of q v.number) i up known slice_index-cells_zero_block clears
 
-  pub address_rest : (way : List ℕ) → HasWay way → way ≢ i ∷ up → address (tree_of q v.number) way ≡ address (tree_of p v.number) way
+  pub address_rest : (way : List ℕ) → IsBlockWay way → way ≢ i ∷ up → address (tree_of q v.number) way ≡ address (tree_of p v.number) way
   address_rest = cleared_addresses (tree_of p v.number) (tree_of q v.number) i up known slice_index-cells_zero_block clears
 
   pub zeros_here : (k : ℕ) → block ≡ Data k → data_block (tree_of q v.number) k ≡ zero_block

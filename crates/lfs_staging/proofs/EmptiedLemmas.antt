@@ -18,7 +18,7 @@ use Rattle.lfs_bmap.specs.declared.blocks.FileBlock.{FileBlock}
 use Rattle.lfs_bmap.specs.declared.blocks.FileBlock.TheVariants.{Data}
 use Rattle.lfs_bmap.specs.Blocks.{IsFileBlock, code_of, first_under, table_of, way_to}
 use Rattle.lfs_bmap.specs.Reading.{address, read, table}
-use Rattle.lfs_bmap.specs.Ways.{HasWay, code_at, way_of}
+use Rattle.lfs_bmap.specs.Ways.{IsBlockWay, code_at, way_of}
 use Rattle.lfs_bmap.proofs.HolderLemmas.{data_table}
 use Rattle.lfs_bmap.proofs.ReadingLemmas.{address-cell, read-waits}
 use Rattle.lfs_bmap.proofs.WayLemmas.{data_way-double, data_way-single, known_way_of, up_known, way_of-code_of}
@@ -141,7 +141,7 @@ module _ (p s : Parts) (v : Inode) (t : FileBlock) (b : List ℕ) (i : ℕ) (up 
   k = table_key v t
 
   up_apart : code_at up ≢ code_of t
-  up_apart e = longer i up (sym (known_way_of up (up_known i up (subst HasWay way (block_known t can)))) ∙ ap way_of e ∙ way_of-code_of t can ∙ way)
+  up_apart e = longer i up (sym (known_way_of up (up_known i up (subst IsBlockWay way (block_known t can)))) ∙ ap way_of e ∙ way_of-code_of t can ∙ way)
 
   here_after : IsLocked k s.cache
   here_after = subst IsSome (sym (set.waits k (apart_code v.number v.number v.version v.version (code_at up) (code_of t) (λ e. up_apart (sym e))))) here

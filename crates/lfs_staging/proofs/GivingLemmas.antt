@@ -25,7 +25,7 @@ use Rattle.lfs_bmap.specs.Blocks.{IsFileBlock, code_of, first_under, way_to}
 use Rattle.lfs_bmap.specs.Log.{IsLog}
 use Rattle.lfs_bmap.specs.Pieces.{IsPadded}
 use Rattle.lfs_bmap.specs.Reading.{address, data_block}
-use Rattle.lfs_bmap.specs.Ways.{HasWay, code_at, way_of}
+use Rattle.lfs_bmap.specs.Ways.{IsBlockWay, code_at, way_of}
 use Rattle.lfs_bmap.proofs.PieceLemmas.{zero_block-at, zero_block-length}
 use Rattle.lfs_bmap.proofs.WayLemmas.{code_at-way_of, known_way_of, up_known, way_of-code_of, way_of-known}
 use Rattle.lfs_staging.specs.declared.records.TheConstants.{WAITING_LIMIT}
@@ -73,9 +73,9 @@ parent_of p v block may at i up e = subst (λ n. HolderWaits p.cache v.number n 
 
 -- no block has its address in it
 pub beneath_of : (p : Parts) (number : ℕ) (block : FileBlock) → MayClear p number block → (i : ℕ) (up : List ℕ) → way_to block ≡ i ∷ up
-    → (j : ℕ) → HasWay (j ∷ i ∷ up) → address (tree_of p number) (j ∷ i ∷ up) ≡ 0
+    → (j : ℕ) → IsBlockWay (j ∷ i ∷ up) → address (tree_of p number) (j ∷ i ∷ up) ≡ 0
 beneath_of p number block may i up e j known =
-    ap (λ w. address (tree_of p number) (j ∷ w)) (sym e) ∙ (may.beneath j (subst (λ w. HasWay (j ∷ w)) (sym e) known)).nowhere
+    ap (λ w. address (tree_of p number) (j ∷ w)) (sym e) ∙ (may.beneath j (subst (λ w. IsBlockWay (j ∷ w)) (sym e) known)).nowhere
 
 module _ (p s q : Parts) (v : Inode) (block : FileBlock) (i : ℕ) (up : List ℕ) (h : Steps p s q v block i up) (may : MayClear p v.number block)
     (stays : StaysWaiting p q v) (parts : IsParts q.log) where
@@ -224,9 +224,9 @@ module _ (p s q : Parts) (v : Inode) (block : FileBlock) (i : ℕ) (up : List �
                 let e = same_is (key_of v.number v.version (code_of block)) (key_of key.ino key.version (code_at (j ∷ above))) same in
                 let number : key.ino ≡ v.number = sym (ap (λ (x : Key). x.ino) e) in
                 let below = coded_below key.lbn (files.coded key was) in
-                let known : HasWay (k ∷ j ∷ above) = subst HasWay way (way_of-known key.lbn below) in
+                let known : IsBlockWay (k ∷ j ∷ above) = subst IsBlockWay way (way_of-known key.lbn below) in
                 let up_is : way_to block ≡ j ∷ above = sym (way_of-code_of block may.can) ∙ ap way_of (ap (λ (x : Key). x.lbn) e) ∙ known_way_of (j ∷ above) (up_known k (j ∷ above) known) in
-                let gone = may.beneath k (subst (λ w. HasWay (k ∷ w)) (sym up_is) known) in
+                let gone = may.beneath k (subst (λ w. IsBlockWay (k ∷ w)) (sym up_is) known) in
                 let version : key.version ≡ version_of p v.number = (files.frames key was).at_version ∙ ap (version_of p) number in
                 let code : key.lbn ≡ code_at (k ∷ way_to block) = sym (code_at-way_of key.lbn) ∙ ap code_at way ∙ ap (λ w. code_at (k ∷ w)) (sym up_is) in
                 let there : key ≡ key_of v.number (version_of p v.number) (code_at (k ∷ way_to block)) = λ n. key_of (number n) (version n) (code n) in

@@ -6,7 +6,7 @@ use Rattle.lfs_inodes.proofs.ZeroedLemmas.{slice_index-cells_zero_block}
 use Rattle.lfs_bmap.specs.declared.blocks.FileBlock.{FileBlock}
 use Rattle.lfs_bmap.specs.Blocks.{IsFileBlock, code_of, table_of, way_to}
 use Rattle.lfs_bmap.specs.Reading.{bytes_via}
-use Rattle.lfs_bmap.specs.Ways.{HasWay, code_at}
+use Rattle.lfs_bmap.specs.Ways.{IsBlockWay, code_at}
 use Rattle.lfs_bmap.proofs.HolderLemmas.{table_of-way}
 use Rattle.lfs_bmap.proofs.ReadingLemmas.{address-cell, read-via, table-cells, via-none}
 use Rattle.lfs_bmap.proofs.WayLemmas.{known_way_of}
@@ -19,7 +19,7 @@ use Rattle.lfs_staging.proofs.KeptLemmas.{block_known}
 use Rattle.lfs_staging.proofs.SettingLemmas.{holder_locked}
 use Rattle.lfs_staging.proofs.ViewLemmas.{not_locked, way_to-some}
 
-hole_gone : (p : Parts) (number : ℕ) (t : FileBlock) → ParentsWait p → code_of t ≢ 0 → IsGone p number (way_to t) → (j : ℕ) → HasWay (j ∷ way_to t)
+hole_gone : (p : Parts) (number : ℕ) (t : FileBlock) → ParentsWait p → code_of t ≢ 0 → IsGone p number (way_to t) → (j : ℕ) → IsBlockWay (j ∷ way_to t)
     → IsGone p number (j ∷ way_to t)
 hole_gone p number t parents other gone j known =
     let tree = tree_of p number in
@@ -41,4 +41,4 @@ hole_under p number t block parents other gone is some under =
     let w = way_some block is some in
     let up : w.1 ≡ way_to t = sym (table_of-way block is w.0 w.1 w.2) ∙ ap way_to under in
     let way : way_to block ≡ w.0 ∷ way_to t = w.2 ∙ ap (λ above. w.0 ∷ above) up in
-    subst (IsGone p number) (sym way) (hole_gone p number t parents other gone w.0 (subst HasWay way (block_known block is)))
+    subst (IsGone p number) (sym way) (hole_gone p number t parents other gone w.0 (subst IsBlockWay way (block_known block is)))

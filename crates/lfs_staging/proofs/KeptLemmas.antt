@@ -21,7 +21,7 @@ use Rattle.lfs_bmap.specs.Blocks.{code_of, table_of, way_to}
 use Rattle.lfs_bmap.specs.Log.{IsLog, SameKeys}
 use Rattle.lfs_bmap.specs.Pieces.{IsPadded}
 use Rattle.lfs_bmap.specs.Reading.{SameReadings, Stages, address, data_block, read}
-use Rattle.lfs_bmap.specs.Ways.{HasWay, code_at, codes_on, way_of}
+use Rattle.lfs_bmap.specs.Ways.{IsBlockWay, code_at, codes_on, way_of}
 use Rattle.lfs_bmap.specs.Blocks.{IsFileBlock}
 use Rattle.lfs_bmap.proofs.BlockLemmas.{code_of-below}
 use Rattle.lfs_bmap.proofs.LogLemmas.{written_log}
@@ -54,8 +54,8 @@ AllWithin p = (number : ℕ) (block : FileBlock) (f : Fields) → record_of p nu
     → IsLocked (key_of number (version_of p number) (code_of block)) p.cache → IsWithin block f.attributes.size
 
 -- the way of a block
-pub block_known : (block : FileBlock) → IsFileBlock block → HasWay (way_to block)
-block_known block is = subst HasWay (way_of-code_of block is) (way_of-known (code_of block) (code_of-below block is))
+pub block_known : (block : FileBlock) → IsFileBlock block → IsBlockWay (way_to block)
+block_known block is = subst IsBlockWay (way_of-code_of block is) (way_of-known (code_of block) (code_of-below block is))
 
 -- who is in use at which version, where the log stays
 pub present_kept : (old new : Parts) (n version : ℕ) → new.log ≡ old.log → IsPresent old n version → IsPresent new n version
@@ -66,7 +66,7 @@ present_kept old new n version log h = record {
 
 -- ---- the log, where it and the addresses stay
 -- each key has the place that it had
-pub keys_kept : (old new : Parts) → new.log ≡ old.log → ((n : ℕ) (way : List ℕ) → HasWay way → address (tree_of new n) way ≡ address (tree_of old n) way)
+pub keys_kept : (old new : Parts) → new.log ≡ old.log → ((n : ℕ) (way : List ℕ) → IsBlockWay way → address (tree_of new n) way ≡ address (tree_of old n) way)
     → SameKeys (log_state old) (log_state new)
 keys_kept old new log addresses = record {
   numbers = ap (λ (l : LogParts). length l.tables.rows) log;
@@ -81,7 +81,7 @@ keys_kept old new log addresses = record {
   versions = λ n low. version-same old new n log;
 }
 
-pub log_kept : (old new : Parts) (spare : ℕ) → new.log ≡ old.log → ((n : ℕ) (way : List ℕ) → HasWay way → address (tree_of new n) way ≡ address (tree_of old n) way)
+pub log_kept : (old new : Parts) (spare : ℕ) → new.log ≡ old.log → ((n : ℕ) (way : List ℕ) → IsBlockWay way → address (tree_of new n) way ≡ address (tree_of old n) way)
     → IsLog (log_state old) spare → IsLog (log_state new) spare
 log_kept old new spare log addresses h =
     let to = h.segments.to in
@@ -119,7 +119,7 @@ padded_put old new index size bytes h others here whole zeros = record {
 }
 
 pub files_kept : (old new : Parts) → AreFiles old → new.log ≡ old.log → ((n : ℕ) → record_of new n ≡ record_of old n)
-    → ((n : ℕ) (way : List ℕ) → HasWay way → address (tree_of new n) way ≡ address (tree_of old n) way)
+    → ((n : ℕ) (way : List ℕ) → IsBlockWay way → address (tree_of new n) way ≡ address (tree_of old n) way)
     → ((n : ℕ) (f : Fields) → record_of old n ≡ Some f → IsPadded (data_block (tree_of old n)) f.attributes.size → IsPadded (data_block (tree_of new n)) f.attributes.size)
     → IsContents new.cache → Mirrors new
     → All (λ (v : Inode). IsPresent old v.number v.version) new.waiting
@@ -234,7 +234,7 @@ module _ (old new : Parts) (number : ℕ) (block : FileBlock) (bytes : List ℕ)
 
   -- where the files are well formed still, so is the rest
   pub block_files : AreFiles old → IsPresent old number (version_of old number) → IsBlockCode (code_of block)
-      → ((n : ℕ) (way : List ℕ) → HasWay way → address (tree_of new n) way ≡ address (tree_of old n) way)
+      → ((n : ℕ) (way : List ℕ) → IsBlockWay way → address (tree_of new n) way ≡ address (tree_of old n) way)
       → ((n : ℕ) (f : Fields) → record_of old n ≡ Some f → IsPadded (data_block (tree_of old n)) f.attributes.size → IsPadded (data_block (tree_of new n)) f.attributes.size)
       → AreFiles new
   block_files files present coded addresses padded =
@@ -336,7 +336,7 @@ module _ (old new : Parts) (number index : ℕ) (bytes : List ℕ) (low : index 
     | inr other ↦ ap (λ t. data_block t m) (h.others n other)
   ]
 
-  pub data_addresses : (n : ℕ) (way : List ℕ) → HasWay way → address (tree_of new n) way ≡ address (tree_of old n) way
+  pub data_addresses : (n : ℕ) (way : List ℕ) → IsBlockWay way → address (tree_of new n) way ≡ address (tree_of old n) way
   data_addresses n way known = elim (cases_eq n number) [
     | inl is ↦ subst (λ k. address (tree_of new k) way ≡ address (tree_of old k) way) (sym is)
         (staged_addresses (tree_of old number) (tree_of new number) (way_of (131 + index)) bytes (way_of-known (131 + index) (omega arith)) (data_leaf (131 + index) (omega arith)) staged_way way known)

@@ -7,7 +7,7 @@ use Rattle.lfs_log.specs.Parts.{LogParts}
 use Rattle.lfs_bmap.specs.Blocks.{IsFileBlock, code_of, table_of, way_to}
 use Rattle.lfs_bmap.specs.Log.{Assigns, Renews}
 use Rattle.lfs_bmap.specs.Reading.{address}
-use Rattle.lfs_bmap.specs.Ways.{HasWay, codes_on}
+use Rattle.lfs_bmap.specs.Ways.{IsBlockWay, codes_on}
 use Rattle.lfs_bmap.proofs.MoveLemmas.{moves-assigned, moves-refl, moves-renewed, moves-same, moves-trans}
 use Rattle.lfs_bmap.proofs.PlaceLemmas.{data_block-same}
 use Rattle.lfs_staging.specs.declared.records.TheConstants.{WAITING_LIMIT}
@@ -95,7 +95,7 @@ table_staged_still old new v t may can within h spare staged = record {
 
 -- ---- what a staged change leaves of the log
 -- nothing was written where the log and all addresses stay
-pub stays_same : (old new : Parts) → new.log ≡ old.log → ((n : ℕ) (way : List ℕ) → HasWay way → address (tree_of new n) way ≡ address (tree_of old n) way)
+pub stays_same : (old new : Parts) → new.log ≡ old.log → ((n : ℕ) (way : List ℕ) → IsBlockWay way → address (tree_of new n) way ≡ address (tree_of old n) way)
     → StaysInLog old new
 stays_same old new log addresses = record {
   memory = ap (λ (l : LogParts). l.memory) log;

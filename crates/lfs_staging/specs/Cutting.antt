@@ -18,7 +18,7 @@ use Rattle.lfs_bmap.specs.declared.blocks.FileBlock.TheVariants.{Data}
 use Rattle.lfs_bmap.specs.Blocks.{IsFileBlock, code_of, first_under, table_of, way_to}
 use Rattle.lfs_bmap.specs.Pieces.{IsBlockCut, IsPadded}
 use Rattle.lfs_bmap.specs.Reading.{address, data_block}
-use Rattle.lfs_bmap.specs.Ways.{HasWay, code_at, codes_on, data_way}
+use Rattle.lfs_bmap.specs.Ways.{IsBlockWay, code_at, codes_on, data_way}
 use Rattle.lfs_staging.specs.declared.parts.Parts.{Parts}
 use Rattle.lfs_staging.specs.Changing.{StaysInLog, frames_of_length, length_codes}
 use Rattle.lfs_staging.specs.Staging.{HasFrames, IsStaged, TakesFrames, TakesOnly}
@@ -49,7 +49,7 @@ pub record MayClear (p : Parts) (number : ℕ) (block : FileBlock) : Type 0 wher
   pub other : code_of block ≢ 0
   pub within : (f : Fields) → record_of p number ≡ Some f → IsWithin block f.attributes.size
   pub parent : (i : ℕ) (up : List ℕ) → way_to block ≡ i ∷ up → HolderWaits p.cache number (version_of p number) up
-  pub beneath : (j : ℕ) → HasWay (j ∷ way_to block) → IsGone p number (j ∷ way_to block)
+  pub beneath : (j : ℕ) → IsBlockWay (j ∷ way_to block) → IsGone p number (j ∷ way_to block)
 
 -- the record of a number has these attributes
 pub record HasAttributes (p : Parts) (number : ℕ) (a : Attributes) : Type 0 where
@@ -71,7 +71,7 @@ pub record ClearsBlock (number : ℕ) (block : FileBlock) (old new : Parts) : Ty
   pub rest : KeepsRest number old new
   pub nowhere : address (tree_of new number) (way_to block) ≡ 0
   pub free : IsLocked (key_of number (version_of old number) (code_of block)) new.cache → ⊥
-  pub addresses : (way : List ℕ) → HasWay way → way ≢ way_to block → address (tree_of new number) way ≡ address (tree_of old number) way
+  pub addresses : (way : List ℕ) → IsBlockWay way → way ≢ way_to block → address (tree_of new number) way ≡ address (tree_of old number) way
   pub only : (key : Key) → IsLocked key new.cache → IsLocked key old.cache
   pub kept : (key : Key) → same_key (key_of number (version_of old number) (code_of block)) key ≡ false → IsLocked key old.cache → IsLocked key new.cache
   pub data_same : (n index : ℕ) → (n ≢ number) ⊎ (FIRST_DATA_CODE + index ≢ code_of block) → data_block (tree_of new n) index ≡ data_block (tree_of old n) index
@@ -192,7 +192,7 @@ pub record CutsBlock (number index len : ℕ) (old new : Parts) : Type 0 where
   pub staged : IsStaged new 0
   pub log : new.log ≡ old.log
   pub records : (n : ℕ) → record_of new n ≡ record_of old n
-  pub addresses : (n : ℕ) (way : List ℕ) → HasWay way → address (tree_of new n) way ≡ address (tree_of old n) way
+  pub addresses : (n : ℕ) (way : List ℕ) → IsBlockWay way → address (tree_of new n) way ≡ address (tree_of old n) way
   pub cut : IsBlockCut index len (data_block (tree_of old number) index) (data_block (tree_of new number) index)
   pub others : (n m : ℕ) → (n ≢ number) ⊎ (m ≢ index) → data_block (tree_of new n) m ≡ data_block (tree_of old n) m
   pub takes : TakesFrames number (Data index) old new
@@ -202,7 +202,7 @@ pub record CutsLast (number len : ℕ) (old new : Parts) : Type 0 where
   pub staged : IsStaged new 0
   pub log : new.log ≡ old.log
   pub records : (n : ℕ) → record_of new n ≡ record_of old n
-  pub addresses : (n : ℕ) (way : List ℕ) → HasWay way → address (tree_of new n) way ≡ address (tree_of old n) way
+  pub addresses : (n : ℕ) (way : List ℕ) → IsBlockWay way → address (tree_of new n) way ≡ address (tree_of old n) way
   pub cut : (m : ℕ) → m < block_count len → IsBlockCut m len (data_block (tree_of old number) m) (data_block (tree_of new number) m)
   pub others : (n m : ℕ) → (n ≢ number) ⊎ (block_count len ≤ m) → data_block (tree_of new n) m ≡ data_block (tree_of old n) m
   pub takes : TakesOnly number (version_of old number) (length_codes len) old.cache new.cache

@@ -11,7 +11,7 @@ use Rattle.lfs_bmap.specs.declared.blocks.FileBlock.TheVariants.{Data}
 use Rattle.lfs_bmap.specs.Pieces.{IsPut}
 use Rattle.lfs_bmap.specs.Reading.{address, data_block}
 use Rattle.lfs_bmap.specs.Tables.{tables_between}
-use Rattle.lfs_bmap.specs.Ways.{HasWay}
+use Rattle.lfs_bmap.specs.Ways.{IsBlockWay}
 use Rattle.lfs_staging.specs.declared.parts.Parts.{Parts}
 use Rattle.lfs_types.specs.declared.block.TheConstants.{BLOCK_SIZE}
 use Rattle.lfs_types.specs.declared.limits.TheConstants.{FILE_BYTES}
@@ -38,7 +38,7 @@ pub record PutsBlock (v : Inode) (index start : ℕ) (bytes : List ℕ) (old new
   pub put : IsPut index start bytes (data_block (tree_of old v.number) index) (data_block (tree_of new v.number) index)
   pub rest : (m : ℕ) → m ≢ index → data_block (tree_of new v.number) m ≡ data_block (tree_of old v.number) m
   pub others : (n m : ℕ) → n ≢ v.number → data_block (tree_of new n) m ≡ data_block (tree_of old n) m
-  pub addresses : (n : ℕ) (way : List ℕ) → HasWay way → address (tree_of new n) way ≡ address (tree_of old n) way
+  pub addresses : (n : ℕ) (way : List ℕ) → IsBlockWay way → address (tree_of new n) way ≡ address (tree_of old n) way
   pub again : MayStage new v
   pub kept : (spare : ℕ) → IsStaged old spare → IsStaged new spare
   pub takes : TakesFrames v.number (Data index) old new
@@ -55,7 +55,7 @@ pub record PutsBelow (v : Inode) (start : ℕ) (bytes : List ℕ) (before : ℕ)
   pub put : (m : ℕ) → m < before → IsPut m start bytes (data_block (tree_of old v.number) m) (data_block (tree_of new v.number) m)
   pub rest : (m : ℕ) → before ≤ m → data_block (tree_of new v.number) m ≡ data_block (tree_of old v.number) m
   pub others : (n m : ℕ) → n ≢ v.number → data_block (tree_of new n) m ≡ data_block (tree_of old n) m
-  pub addresses : (n : ℕ) (way : List ℕ) → HasWay way → address (tree_of new n) way ≡ address (tree_of old n) way
+  pub addresses : (n : ℕ) (way : List ℕ) → IsBlockWay way → address (tree_of new n) way ≡ address (tree_of old n) way
   pub again : MayStage new v
   pub kept : (spare : ℕ) → IsStaged old spare → IsStaged new spare
 
@@ -65,7 +65,7 @@ pub record PutsBytes (v : Inode) (start : ℕ) (bytes : List ℕ) (old new : Par
   pub records : (n : ℕ) → record_of new n ≡ record_of old n
   pub put : (m : ℕ) → IsPut m start bytes (data_block (tree_of old v.number) m) (data_block (tree_of new v.number) m)
   pub others : (n m : ℕ) → n ≢ v.number → data_block (tree_of new n) m ≡ data_block (tree_of old n) m
-  pub addresses : (n : ℕ) (way : List ℕ) → HasWay way → address (tree_of new n) way ≡ address (tree_of old n) way
+  pub addresses : (n : ℕ) (way : List ℕ) → IsBlockWay way → address (tree_of new n) way ≡ address (tree_of old n) way
   pub again : MayStage new v
   pub kept : (spare : ℕ) → IsStaged old spare → IsStaged new spare
   pub frames : length new.cache.locked ≤ length old.cache.locked + frames_of_put start (length bytes)

@@ -14,7 +14,7 @@ use Rattle.lfs_bmap.specs.declared.blocks.FileBlock.TheVariants.{Data}
 use Rattle.lfs_bmap.specs.Blocks.{IsFileBlock, code_of, table_of, way_to}
 use Rattle.lfs_bmap.specs.Log.{IsLog}
 use Rattle.lfs_bmap.specs.Reading.{SameReadings, Stages, address, data_block}
-use Rattle.lfs_bmap.specs.Ways.{HasWay, codes_on}
+use Rattle.lfs_bmap.specs.Ways.{IsBlockWay, codes_on}
 use Rattle.lfs_staging.specs.declared.records.TheConstants.{WAITING_LIMIT}
 use Rattle.lfs_staging.specs.declared.parts.Parts.{Parts}
 use Rattle.lfs_staging.specs.Clean.{GainsNoClean}
@@ -140,5 +140,5 @@ pub record StagesData (number index : ℕ) (bytes : List ℕ) (old new : Parts) 
   pub records : (n : ℕ) → record_of new n ≡ record_of old n
   pub here : data_block (tree_of new number) index ≡ bytes
   pub others : (n m : ℕ) → (n ≢ number) ⊎ (m ≢ index) → data_block (tree_of new n) m ≡ data_block (tree_of old n) m
-  pub addresses : (n : ℕ) (way : List ℕ) → HasWay way → address (tree_of new n) way ≡ address (tree_of old n) way
+  pub addresses : (n : ℕ) (way : List ℕ) → IsBlockWay way → address (tree_of new n) way ≡ address (tree_of old n) way
   pub takes : TakesFrames number (Data index) old new

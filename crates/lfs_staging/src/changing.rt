@@ -2,7 +2,7 @@
 
 ghost use Rattle.std.specs.Prelude.{◌≡◌, ◌+◌, ◌*◌, ◌-◌, ◌/◌, ◌<◌, ◌≤◌, ℕ, List, max, length, Some};
 ghost use Rattle.lfs_bmap.specs.Reading.{address};
-ghost use Rattle.lfs_bmap.specs.Ways.{HasWay, codes_on, data_way};
+ghost use Rattle.lfs_bmap.specs.Ways.{IsBlockWay, codes_on, data_way};
 ghost use Rattle.lfs_staging.specs.View.{record_of, tree_of};
 ghost use Rattle.lfs_types.specs.declared.limits.TheConstants.{FILE_BLOCKS};
 ghost use Rattle.lfs_cache.specs.declared.cache.TheConstants.{LOCKED_LIMIT};
@@ -29,7 +29,7 @@ impl Parts {
             ≤ LOCKED_LIMIT }
         ensures content { content_of self.new ≡ with_put ino off bytes.now (content_of self.old) }
         ensures log { self.new.log ≡ self.old.log }
-        ensures addresses { (n : ℕ) (way : List ℕ) → HasWay way
+        ensures addresses { (n : ℕ) (way : List ℕ) → IsBlockWay way
             → address (tree_of self.new n) way ≡ address (tree_of self.old n) way }
         ensures frames { length self.new.cache.locked
             ≤ length self.old.cache.locked + frames_of_put off (length bytes.now) }
