@@ -71,7 +71,7 @@ table_of-way (Data index) is i up way = data_table (λ t. way_to t ≡ up) index
     (λ far. same_rest ((index - 140) % 128) i (((index - 140) / 128) ∷ 13 ∷ []) up (sym (data_way-double index far) ∙ way))
 
 -- the record alone has no way
-no_end : (i : ℕ) (up : List ℕ) → i ∷ up ≡ [] → ⊥
+pub no_end : (i : ℕ) (up : List ℕ) → i ∷ up ≡ [] → ⊥
 no_end i up e = cc
 
 pub table_of-none : (block : FileBlock) → IsFileBlock block → way_to block ≡ [] → table_of block ≡ Record
@@ -92,7 +92,7 @@ table_of-under (Child index) = omega arith
 table_of-under (Data index) = data_table (λ t. first_under t ≤ index) index (λ low. omega arith) (λ past low. past) (λ far. omega arith)
 
 -- ---- the codes on a way
-codes_on-none : codes_on [] ≡ []
+pub codes_on-none : codes_on [] ≡ []
 unfolding codes_on
 codes_on-none = refl
 

@@ -8,6 +8,7 @@ use Rattle.lfs_types.specs.Blocks.{zero_block}
 use Rattle.lfs_types.specs.Splicing.{splice, resized}
 use Rattle.lfs_types.specs.Stored.{slice_of}
 use Rattle.lfs_bmap.specs.Pieces.{joined, file_bytes, byte_at, IsPadded, Touches, byte_put, IsPut, IsBlockCut, IsGot}
+use Rattle.lfs_segments.proofs.MemoryLemmas.{length-zero_block}
 
 -- A byte that is put, and one that is not.
 pub byte_put-new : (bytes : List ℕ) (start i old : ℕ) → start ≤ i → i < start + length bytes → byte_put bytes start i old ≡ get_or bytes (i - start) 0
@@ -127,17 +128,12 @@ padded_from blocks size whole last past = record {
   ];
 }
 
--- A block without data has 512 bytes, all zero.
-pub zero_block-length : length zero_block ≡ 512
-unfolding zero_block
-zero_block-length = length-replicate {A = ℕ} 512 0
-
 pub zero_block-at : (k : ℕ) → get_or zero_block k 0 ≡ 0
 unfolding zero_block
 zero_block-at k =
     elim (cases_lt k 512) [
       | inl low ↦ get_or-replicate 512 k 0 0 low
-      | inr past ↦ get_or_past zero_block k 0 (let long = zero_block-length in omega arith)
+      | inr past ↦ get_or_past zero_block k 0 (let long = length-zero_block in omega arith)
     ]
 
 -- a place of the file is a place of its block

@@ -203,7 +203,7 @@ unit_of Clean h = absurd (h refl)
 unit_of Dirty h = refl
 unit_of Active h = refl
 
-no_clean_total : (state : ℕ → SegState) (n : ℕ) → ((s : ℕ) → s < n → state s ≢ Clean) → total (λ s. clean_unit (state s)) n ≡ 0
+pub no_clean_total : (state : ℕ → SegState) (n : ℕ) → ((s : ℕ) → s < n → state s ≢ Clean) → total (λ s. clean_unit (state s)) n ≡ 0
 no_clean_total state n h = total-zero (λ s. clean_unit (state s)) n (λ s low. unit_of (state s) (h s low))
 
 pub none_clean : (l : LogState) → AreSegments l → ((s : ℕ) → s < l.segments → l.state s ≢ Clean) → l.clean ≡ 0

@@ -1,6 +1,5 @@
 -- Lemmas for those who call a cache.
 use Rattle.std.proofs.Common.{◌≡◌, ℕ, zero, suc, ◌<◌, Bool, true, false, cond, List, [], ◌∷◌, length, get_or, Option, Some, None, IsSome, refl, sym, inl, inr, ap, subst, ◌∙◌, arith}
-use Rattle.std.specs.Option.{is_some}
 use Rattle.lfs_cache.specs.declared.key.Key.{Key}
 use Rattle.lfs_cache.specs.Keys.{same_key}
 use Rattle.lfs_cache.proofs.Entries.{same_is, same_self, same_cases}
@@ -15,10 +14,6 @@ pub used_missing : (k : Key) (s : Contents) → block_of k s ≡ None → used k
 used_missing k s h =
     let both = none_both (block_in k s.locked) (block_in k s.lru) h in
     ap (λ o. used_by o (block_in k s.lru) k s) both.0 ∙ ap (λ o. used_by None o k s) both.1
-
-pub none_is : {X : Type 0} (o : Option X) → is_some o ≡ false → o ≡ None
-none_is None h = refl
-none_is (Some x) h = absurd (cc)
 
 -- where there is no block there is none after `get` either
 pub used_gone : (k : Key) (s : Contents) → block_of k s ≡ None → block_of k (used k s) ≡ None

@@ -7,9 +7,7 @@ use Rattle.lfs_cache.specs.declared.key.Key.{Key}
 use Rattle.lfs_cache.specs.Keys.{start_of}
 use Rattle.lfs_cache.specs.Index.{key_at, frame_at, IsFree, IsReached, IsIndex, AreIndexed}
 use Rattle.lfs_cache.proofs.Places.{count_none, entered_new, entered_old, entered_count, entered_bound}
-
-no_key : {X : Type 0} (o : Option X) (k : X) → o ≡ None → o ≡ Some k → ⊥
-no_key o k e h = let bad : None ≡ Some k = sym e ∙ h in absurd (cc)
+use Rattle.lfs_cache.proofs.Cached.{none_not}
 
 pub none_of : {X : Type 0} (o : Option X) → ((x : X) → o ≡ Some x → ⊥) → o ≡ None
 none_of None h = refl
@@ -18,7 +16,7 @@ none_of (Some x) h = absurd (h x refl)
 pub named_first : (keys : List (Option Key)) (ps : List (Option ℕ)) → length ps ≡ 6 * length keys → ((p : ℕ) → frame_at ps p ≡ None) → AreIndexed keys ps 0 0
 named_first keys ps sized none = record {
   sized = sized;
-  inside = λ p f is. absurd (no_key (frame_at ps p) f (none p) is);
+  inside = λ p f is. absurd (none_not (frame_at ps p) f (none p) is);
   found = λ f k low. absurd (omega arith);
   counted = count_none ps none;
   room = omega arith;
@@ -29,7 +27,7 @@ named_none keys ps taken i none h = record {
   sized = h.sized;
   inside = h.inside;
   found = λ f k low is. elim (cases_eq f i) as (λ _. IsReached ps (start_of k (4 * length keys)) f)
-      [ inl same ↦ absurd (no_key (key_at keys i) k none (subst (λ g. key_at keys g ≡ Some k) same is)) | inr other ↦ h.found f k (omega arith) is ];
+      [ inl same ↦ absurd (none_not (key_at keys i) k none (subst (λ g. key_at keys g ≡ Some k) same is)) | inr other ↦ h.found f k (omega arith) is ];
   counted = h.counted;
   room = let r = h.room in omega arith;
 }
@@ -58,7 +56,7 @@ named_all keys ps taken some bounded h = record {
   bounded = bounded;
   sized = h.sized;
   inside = h.inside;
-  found = λ f k is. elim (cases_lt f (length keys)) as (λ _. IsReached ps (start_of k (4 * length keys)) f) [ inl low ↦ h.found f k low is | inr high ↦ absurd (no_key (key_at keys f) k (get_or_past keys f None high) is) ];
+  found = λ f k is. elim (cases_lt f (length keys)) as (λ _. IsReached ps (start_of k (4 * length keys)) f) [ inl low ↦ h.found f k low is | inr high ↦ absurd (none_not (key_at keys f) k (get_or_past keys f None high) is) ];
   counted = h.counted;
   room = let r = h.room in omega arith;
 }
@@ -89,8 +87,8 @@ index_none keys ps some bounded sized none free = record {
   some = some;
   bounded = bounded;
   sized = sized;
-  inside = λ p f is. absurd (no_key (frame_at ps p) f (free p) is);
-  found = λ f k is. absurd (no_key (key_at keys f) k (none f) is);
+  inside = λ p f is. absurd (none_not (frame_at ps p) f (free p) is);
+  found = λ f k is. absurd (none_not (key_at keys f) k (none f) is);
   counted = count_none ps free;
   room = omega arith;
 }

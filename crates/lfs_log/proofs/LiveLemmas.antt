@@ -11,7 +11,8 @@ use Rattle.lfs_bmap.specs.Counting.{place_of, placed, units, weight_of}
 use Rattle.lfs_bmap.proofs.CountingLemmas.{weight-elsewhere, weight-here, weight-none}
 use Rattle.lfs_log.specs.Parts.{IsParts, LogParts, SameButLive, clean_count, live_of, log_state, record_place, state_of}
 use Rattle.lfs_log.specs.Names.{named_at}
-use Rattle.lfs_log.proofs.PartsLemmas.{clean_count-changed, clean_not_active, dirty_not_active, state_of-set, state_of-set_other}
+use Rattle.lfs_log.proofs.PartsLemmas.{clean_count-changed, clean_not_active, state_of-set, state_of-set_other}
+use Rattle.lfs_bmap.proofs.LogLemmas.{dirty_not_active}
 
 -- the segment of an address gains bytes
 pub live-gained : (old new : Tables) (to code bytes : ℕ) → to ≢ 0 → bytes ≡ 128 * units code → live_of new (to / 64) ≡ live_of old (to / 64) + bytes → KeepsButLive (to / 64) old new

@@ -8,8 +8,10 @@ use Rattle.lfs_ifile.specs.Tables.{IsIfile, Tables, fresh_tables, with_state}
 use Rattle.lfs_segments.specs.Memory.{IsLaidOut, fresh, opened}
 use Rattle.lfs_bmap.specs.Counting.{total}
 use Rattle.lfs_bmap.specs.Log.{AreSegments, clean_unit}
-use Rattle.lfs_bmap.proofs.CountingLemmas.{total-changed, total-part, total-zero}
+use Rattle.lfs_bmap.proofs.CountingLemmas.{total-changed, total-part}
 use Rattle.lfs_log.specs.Parts.{IsParts, LogParts, clean_count, fresh_parts, log_state, opened_parts, state_of}
+use Rattle.lfs_bmap.proofs.LogLemmas.{active_not_clean, dirty_not_active}
+use Rattle.lfs_bmap.proofs.SegmentLemmas.{no_clean_total}
 
 -- the states with one changed
 pub state_of-set : (tables : Tables) (segment : ℕ) (state : SegState) → segment < length tables.states → state_of (with_state tables segment state) segment ≡ state
@@ -58,12 +60,7 @@ clean_count-most tables (suc n) =
 -- none is clean
 pub clean_count-none : (tables : Tables) (n : ℕ) → ((s : ℕ) → s < n → state_of tables s ≢ Clean) → clean_count tables n ≡ 0
 unfolding clean_count
-clean_count-none tables n none = total-zero (λ s. clean_unit (state_of tables s)) n (λ s below. unit_of (state_of tables s) (none s below))
-  where
-    unit_of : (state : SegState) → state ≢ Clean → clean_unit state ≡ 0
-    unit_of Clean h = absurd (h refl)
-    unit_of Dirty h = refl
-    unit_of Active h = refl
+clean_count-none tables n none = no_clean_total (state_of tables) n none
 
 -- how the segments stand, for any places of the keys
 pub AreSegments-kept : (p : LogParts) (at : ℕ → ℕ → ℕ) → IsParts p → AreSegments (log_state p at)
@@ -76,12 +73,6 @@ AreSegments-kept p at h = record {
   to = let within = h.laid_out.within in omega arith;
   clean_count = h.counted;
 }
-
-active_not_clean : Active ≡ Clean → ⊥
-active_not_clean e = cc
-
-pub dirty_not_active : Dirty ≡ Active → ⊥
-dirty_not_active e = cc
 
 pub clean_not_active : Clean ≡ Active → ⊥
 clean_not_active e = cc

@@ -20,10 +20,7 @@ use Rattle.lfs_logstore.specs.Cleaning.{HasLive, IsReclaimed}
 use Rattle.lfs_logstore.proofs.AccountLemmas.{has_key, segment_is}
 use Rattle.lfs_types.specs.Cleaned.{with_clean_segment}
 use Rattle.lfs_logstore.specs.States.{state_of}
-
--- the parts with another log
-abbrev pub with_log : Parts → LogParts → Parts
-with_log p l = record p { log = l }
+use Rattle.lfs_segwrite.proofs.RoomLemmas.{with_log}
 
 -- the log with a segment made clean
 abbrev pub cleaned_parts : LogParts → ℕ → LogParts

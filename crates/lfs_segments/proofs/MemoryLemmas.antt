@@ -35,7 +35,7 @@ All-written : (P : List ℕ → Type 0) (blocks : List (List ℕ)) (place : ℕ)
 All-written P blocks place others p q =
     All-append P (take place blocks) _ (All-take P place blocks p) (All-append P others _ q (All-drop P (place + length others) blocks p))
 
-length-zero_block : length zero_block ≡ 512
+pub length-zero_block : length zero_block ≡ 512
 unfolding zero_block
 length-zero_block = refl
 

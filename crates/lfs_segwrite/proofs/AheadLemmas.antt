@@ -1,5 +1,5 @@
 -- Room made, changes staged and all of it written, as one.
-use Rattle.std.proofs.Common.{◌≡◌, ◌≢◌, ◌⊎◌, ℕ, zero, suc, ◌+◌, ◌*◌, ◌/◌, ◌<◌, ◌≤◌, List, [], length, Option, None, Some, IsSome, refl, sym, ap, ◌∙◌, subst, inl, inr, arith}
+use Rattle.std.proofs.Common.{◌≡◌, ◌≢◌, ◌⊎◌, ℕ, zero, suc, ◌+◌, ◌*◌, ◌/◌, ◌<◌, ◌≤◌, List, [], length, IsSome, refl, sym, ap, ◌∙◌, subst, inl, inr, arith}
 use Rattle.std.specs.Prelude.{slice_index_or, if◌then◌else◌, ◌==◌, true}
 use Rattle.std.proofs.lemmas.Bool.{cases_eq, cases_lt, false≢true}
 use Rattle.lfs_types.specs.Changes.{applied}
@@ -8,7 +8,7 @@ use Rattle.lfs_types.specs.declared.limits.TheConstants.{SEGMENT_BLOCKS}
 use Rattle.lfs_ifile.specs.declared.segment.SegState.{SegState}
 use Rattle.lfs_ifile.specs.declared.segment.SegState.TheVariants.{Clean}
 use Rattle.lfs_ifile.specs.declared.inode.InodeRow.{InodeRow}
-use Rattle.lfs_cache.specs.Contents.{IsLocked, block_in}
+use Rattle.lfs_cache.specs.Contents.{IsLocked}
 use Rattle.lfs_segments.specs.Memory.{SegmentMemory, block_at, next_address, room_of}
 use Rattle.lfs_log.specs.Parts.{state_of}
 use Rattle.lfs_bmap.specs.Counting.{seg_of}
@@ -34,22 +34,13 @@ use Rattle.lfs_segwrite.proofs.BoundLemmas.{blocks_more, blocks_sum}
 use Rattle.lfs_segwrite.proofs.ChangedLemmas.{stages_refl}
 use Rattle.lfs_segwrite.proofs.OrderLemmas.{entries_of-same}
 use Rattle.lfs_segwrite.proofs.CollectingLemmas.{entries_of-length}
+use Rattle.lfs_segwrite.proofs.AdvanceLemmas.{cases_Waits}
 
 -- A segment was opened, where it left more than these clean, or nothing was done.
 pub record Opened (reserve : ℕ) (old new : Parts) : Type 0 where
   pub reserved : reserve < old.log.clean
   pub clean : new.log.clean + 1 ≡ old.log.clean
   pub was_clean : state_of old.log.tables new.log.memory.active ≡ Clean
-
--- something is there or it isn't
-some_or : {A : Type 0} (o : Option A) → IsSome o ⊎ (IsSome o → ⊥)
-some_or None = inr (λ e. false≢true e)
-some_or (Some x) = inl refl
-
--- a key waits or it doesn't
-waits_or : (p : Parts) (n c : ℕ) → Waits p n c ⊎ (Waits p n c → ⊥)
-waits_or p n zero = some_or (waiting_in p.waiting n)
-waits_or p n (suc c) = some_or (block_in (key_of n (version_of p n) (suc c)) p.cache.locked)
 
 -- an address outside a segment lies before it or behind it
 apart : (a segment fill : ℕ) → a / 64 ≢ segment → (a < segment * 64 + fill) ⊎ (64 * segment + 64 ≤ a)
@@ -111,7 +102,7 @@ module _ (changes : List Change) (reserve : ℕ) (old a b new : Parts) (kept : K
   flushed : Moves (DirtyIn (log_state old)) (log_state b) (log_state new)
   flushed = record {
     numbers = flushes.numbers;
-    places = λ n c there dirty. elim (waits_or b n c) [
+    places = λ n c there dirty. elim (cases_Waits b n c) [
       | inl waits ↦ absurd (active_other (subst (DirtyIn (log_state old)) (moved_active n c there waits) dirty))
       | inr none ↦ sym (flushes.still n c (subst (λ k. n < k) flushes.numbers there.number_below) there.code_below none)
     ];

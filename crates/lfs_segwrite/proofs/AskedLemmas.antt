@@ -3,8 +3,8 @@ use Rattle.std.proofs.Common.{◌≡◌, ℕ, ◌+◌, ◌<◌, ◌≤◌, max, 
 use Rattle.std.specs.FinMap as map
 use Rattle.std.specs.FinMap.{same_map, nat_cmp-IsAntisymmetric}
 use Rattle.std.specs.Cmp.{nat_cmp_total}
-use Rattle.std.proofs.lemmas.Bool.{cases_Bool, cases_eq, cases_lt, cond-true, cond-false, eq-eqb, ne_eqb, false≢true}
-use Rattle.std.proofs.lemmas.List.{get_or_past, length-append, length-drop, length-replicate, length-take}
+use Rattle.std.proofs.lemmas.Bool.{cases_Bool, cases_eq, cond-true, cond-false, eq-eqb, ne_eqb, false≢true}
+use Rattle.std.proofs.lemmas.List.{length-append, length-drop, length-replicate, length-take}
 use Rattle.lfs_types.specs.Changes.{IsLength, changed_at}
 use Rattle.lfs_types.specs.Splicing.{splice}
 use Rattle.lfs_types.specs.Tree.{Content, File}
@@ -12,8 +12,6 @@ use Rattle.lfs_types.specs.declared.attrs.Kind.{Kind}
 use Rattle.lfs_types.specs.declared.attrs.Kind.TheVariants.{File as Regular, Directory}
 use Rattle.lfs_types.proofs.Maps.{get-insert_other, get-insert_same}
 use Rattle.lfs_types.specs.declared.limits.TheConstants.{FILE_BYTES}
-use Rattle.lfs_ifile.specs.declared.inode.InodeRow.{InodeRow}
-use Rattle.lfs_ifile.specs.Inode.{fresh_row}
 use Rattle.lfs_ifile.specs.Tables.{row_of}
 use Rattle.lfs_inodes.specs.Facts.{IsSizeOf}
 use Rattle.lfs_inodes.specs.Reading.{Fields}
@@ -29,6 +27,7 @@ use Rattle.lfs_staging.specs.View.{record_of, tree_of}
 use Rattle.lfs_staging.specs.Waiting.{without}
 use Rattle.lfs_staging.proofs.FileLemmas.{file_at-some, free_shown, get-content_of, used_shown}
 use Rattle.lfs_staging.proofs.KeyLemmas.{lies_in}
+use Rattle.lfs_staging.proofs.ForgettingLemmas.{used_low}
 
 -- ---- which numbers are in use
 pub some_from : (o : Option File) (P : File → Type 0) → IsSomeAnd o P → IsSome o
@@ -50,13 +49,6 @@ pub none_free : (p : Parts) (n : ℕ) → AreFiles p → map.get (content_of p) 
 none_free p n files none = elim (cases_Bool (row_of p.log.tables n).used) [
   | inl used ↦ absurd (false≢true (sym (ap is_some none) ∙ used_shown p n files used))
   | inr free ↦ free
-]
-
--- a number in use is in the inode map
-pub used_within : (p : Parts) (n : ℕ) → (row_of p.log.tables n).used ≡ true → n < length p.log.tables.rows
-used_within p n used = elim (cases_lt n (length p.log.tables.rows)) [
-  | inl low ↦ low
-  | inr past ↦ absurd (false≢true (sym (ap (λ (r : InodeRow). r.used) (get_or_past p.log.tables.rows n fresh_row past)) ∙ used))
 ]
 
 -- the file of a record
@@ -111,7 +103,7 @@ length-without n (v ∷ vs) = elim (cases_eq v.number n) [
 
 pub may_change : (p : Parts) (n : ℕ) → IsStaged p 0 → (row_of p.log.tables n).used ≡ true → length p.waiting < 64 → MayChange p n
 may_change p n staged used few =
-    let low = used_within p n used in
+    let low = used_low p n used in
     let less = length-without n p.waiting in
     record {
       files = staged.whole;

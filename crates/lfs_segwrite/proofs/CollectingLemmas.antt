@@ -2,13 +2,12 @@
 use Rattle.std.proofs.Common.{◌≡◌, ◌≢◌, ℕ, zero, suc, ◌+◌, ◌<◌, ◌≤◌, List, [], ◌∷◌, ◌++◌, All, Bool, true, false, length, map, replicate, take, drop, get_or, cond, refl, sym, ap, ◌∙◌, subst, inl, inr, arith, length-append}
 use Rattle.std.specs.List.{filter}
 use Rattle.std.proofs.lemmas.Bool.{cases_eq, cases_lt, eq-eqb, false≢true, ne_eqb}
-use Rattle.std.proofs.lemmas.List.{get_or_past, length-map, map-append, length-replicate, take-append-drop}
+use Rattle.std.proofs.lemmas.List.{length-map, map-append, length-replicate, take-append-drop}
 use Rattle.std.proofs.lemmas.List.Elements.{All-append, All-filter, All-map, All-replicate, filter-append}
 use Rattle.std.proofs.lemmas.List.Filters.{length-filter_more}
 use Rattle.lfs_segments.specs.declared.entry.SummaryEntry.{SummaryEntry}
 use Rattle.lfs_cache.specs.declared.key.Key.{Key}
 use Rattle.lfs_segments.specs.Entry.{IsEntry, IsFileNumber}
-use Rattle.lfs_ifile.specs.declared.inode.InodeRow.{InodeRow}
 use Rattle.lfs_ifile.specs.Inode.{fresh_row}
 use Rattle.lfs_ifile.specs.Tables.{row_of}
 use Rattle.lfs_cache.specs.Contents.{IsLocked, keys_of}
@@ -24,13 +23,7 @@ use Rattle.lfs_staging.specs.Store.{AreFiles, IsBlockCode}
 use Rattle.lfs_staging.specs.declared.parts.Parts.{Parts}
 use Rattle.lfs_segwrite.specs.Collecting.{entries_of, entry_of, in_order, in_passes, inode_blocks, is_of}
 use Rattle.lfs_staging.specs.Opening.{inodes_entry}
-
--- a number in use is in the inode map
-in_range : (p : Parts) (n : ℕ) → (row_of p.log.tables n).used ≡ true → n < length p.log.tables.rows
-in_range p n used = elim (cases_lt n (length p.log.tables.rows)) [
-  | inl low ↦ low
-  | inr past ↦ absurd (false≢true (sym (ap (λ (r : InodeRow). r.used) (get_or_past p.log.tables.rows n fresh_row past)) ∙ used))
-]
+use Rattle.lfs_staging.proofs.ForgettingLemmas.{used_low}
 
 -- ---- the order
 pub filter_yes : (p : Key → Bool) (n : Key) (ns : List Key) → p n ≡ true → filter p (n ∷ ns) ≡ n ∷ filter p ns
@@ -170,11 +163,11 @@ number_of p number files used = record {
     | inr high ↦ high
   ];
   not_three = λ e. false≢true (sym (files.reserved number (omega arith) (λ two. omega arith)) ∙ used);
-  below = let most = files.parts.formed.inodes_most in let low = in_range p number used in omega arith;
+  below = let most = files.parts.formed.inodes_most in let low = used_low p number used in omega arith;
 }
 
 version_from : (p : Parts) (number : ℕ) → AreFiles p → (row_of p.log.tables number).used ≡ true → 1 ≤ (row_of p.log.tables number).version
-version_from p number files used = (files.parts.formed.each_row number fresh_row (in_range p number used)).given_out used
+version_from p number files used = (files.parts.formed.each_row number fresh_row (used_low p number used)).given_out used
 
 -- what a summary says of a key that waits names a block that a file can have
 pub coded_entry : (key : Key) → (h : IsBlockCode key.lbn) → block_with key.lbn ≡ h.block

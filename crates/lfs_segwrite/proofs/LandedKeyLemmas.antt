@@ -1,5 +1,5 @@
 -- A block that waits was written: what else waits still does, and its key alone has another place.
-use Rattle.std.proofs.Common.{◌≡◌, ◌≢◌, ℕ, zero, suc, ◌*◌, ◌/◌, ◌<◌, ◌≤◌, ◌⊎◌, List, [], ◌∷◌, length, None, Some, Option, is_some, false, refl, sym, ap, ◌∙◌, subst, inl, inr, arith}
+use Rattle.std.proofs.Common.{◌≡◌, ◌≢◌, ℕ, zero, suc, ◌*◌, ◌/◌, ◌<◌, ◌≤◌, ◌⊎◌, List, [], ◌∷◌, length, Some, is_some, false, refl, sym, ap, ◌∙◌, subst, inl, inr, arith}
 use Rattle.std.proofs.lemmas.Bool.{cases_eq, false≢true}
 use Rattle.std.specs.Prelude.{All}
 use Rattle.std.proofs.lemmas.List.Elements.{All-head, All-tail}
@@ -32,19 +32,11 @@ use Rattle.lfs_segwrite.specs.Recording.{Advances, entry_at_version}
 use Rattle.lfs_staging.specs.Staging.{IsStaged}
 use Rattle.lfs_staging.specs.Store.{AreFiles, HolderWaits, IsPresent, IsWithin}
 use Rattle.lfs_staging.specs.View.{key_of, record_of, version_of, waiting_in}
-use Rattle.lfs_staging.specs.Waiting.{AreOnce}
 use Rattle.lfs_staging.proofs.SettingLemmas.{waiting_record}
 use Rattle.lfs_staging.proofs.WaitingLemmas.{waiting-head, waiting-tail}
 use Rattle.lfs_staging.proofs.CleanLemmas.{coded_below}
-use Rattle.lfs_types.proofs.Somewhere.{not_some}
-
--- the record that waits of a number has it
-pub waiting_number : (vs : List Inode) (n : ℕ) (v : Inode) → waiting_in vs n ≡ Some v → v.number ≡ n
-waiting_number [] n v is = absurd (none-some v is)
-waiting_number (w ∷ vs) n v is = elim (cases_eq w.number n) [
-  | inl here ↦ subst (λ (x : Inode). x.number ≡ n) (same_Some w v (sym (waiting-head w vs n here) ∙ is)) here
-  | inr ne ↦ waiting_number vs n v (sym (waiting-tail w vs n ne) ∙ is)
-]
+use Rattle.lfs_staging.proofs.FrameLemmas.{once_numbers, waiting_number}
+use Rattle.lfs_segwrite.proofs.AgainLemmas.{waits_block}
 
 -- what waits of a number rests on the numbers
 waits_numbers : (vs ws : List Inode) (n : ℕ) → numbers_of ws ≡ numbers_of vs → is_some (waiting_in ws n) ≡ is_some (waiting_in vs n)
@@ -58,21 +50,6 @@ waits_numbers (v ∷ vs) (w ∷ ws) n same =
       | inl here ↦ ap is_some (waiting-head w ws n (first ∙ here)) ∙ sym (ap is_some (waiting-head v vs n here))
       | inr ne ↦ ap is_some (waiting-tail w ws n (λ e. ne (sym first ∙ e))) ∙ waits_numbers vs ws n rest ∙ sym (ap is_some (waiting-tail v vs n ne))
     ]
-
-once_numbers : (vs ws : List Inode) → numbers_of ws ≡ numbers_of vs → AreOnce vs → AreOnce ws
-unfolding AreOnce
-once_numbers [] [] same once = tt
-once_numbers [] (w ∷ ws) same once = absurd (cc)
-once_numbers (v ∷ vs) [] same once = absurd (cc)
-once_numbers (v ∷ vs) (w ∷ ws) same once =
-    let first : w.number ≡ v.number = cc in
-    let rest : numbers_of ws ≡ numbers_of vs = cc in
-    (not_some (waiting_in ws w.number) (waits_numbers vs ws w.number rest ∙ ap (λ n. is_some (waiting_in vs n)) first ∙ ap is_some once.0), once_numbers vs ws rest once.1)
-
--- a key that is locked waits
-waits_code : (p : Parts) (n c : ℕ) → c ≢ 0 → IsLocked (key_of n (version_of p n) c) p.cache → Waits p n c
-waits_code p n zero some locked = absurd (some refl)
-waits_code p n (suc c) some locked = locked
 
 -- the record that waits of a number is the number's
 waiting_each : (P : Inode → Type 0) (vs : List Inode) (n : ℕ) (v : Inode) → All P vs → waiting_in vs n ≡ Some v → P v
@@ -184,7 +161,7 @@ module _ (p q : Parts) (v : Inode) (block : FileBlock) (a : ℕ) (h : LandsKey p
 
   -- the key of the block waited
   here_waits : Waits p v.number (code_of block)
-  here_waits = waits_code p v.number (code_of block) h.other (subst (λ n. IsLocked (key_of v.number n (code_of block)) p.cache) h.is.at_version h.waits)
+  here_waits = waits_block p v.number (code_of block) h.other (subst (λ n. IsLocked (key_of v.number n (code_of block)) p.cache) h.is.at_version h.waits)
 
   waits_before : (n c : ℕ) → Waits q n c → Waits p n c
   waits_before n zero waits = sym (same_waits n) ∙ waits

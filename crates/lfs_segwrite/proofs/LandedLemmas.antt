@@ -11,7 +11,7 @@ use Rattle.lfs_segments.specs.Memory.{SegmentMemory, block_at, next_address}
 use Rattle.lfs_cache.specs.declared.key.Key.{Key}
 use Rattle.lfs_cache.specs.Contents.{Contents, block_in}
 use Rattle.lfs_cache.specs.Keys.{same_key}
-use Rattle.lfs_log.specs.Parts.{LogParts, live_of, record_place}
+use Rattle.lfs_log.specs.Parts.{LogParts, live_of}
 use Rattle.lfs_log.specs.Parts as log
 use Rattle.lfs_log.proofs.NameLemmas.{named_at-block}
 use Rattle.lfs_bmap.specs.declared.blocks.TheConstants.{BLOCK_CODES}

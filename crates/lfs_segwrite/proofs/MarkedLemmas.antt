@@ -1,12 +1,12 @@
 -- Blocks that were staged with what they had were written again.
-use Rattle.std.proofs.Common.{◌≡◌, ◌≢◌, ◌⊎◌, ℕ, zero, suc, ◌+◌, ◌*◌, ◌/◌, ◌<◌, ◌≤◌, List, All, get_or, length, Option, IsSome, is_some, refl, sym, ap, ◌∙◌, subst, inl, inr, arith}
+use Rattle.std.proofs.Common.{◌≡◌, ◌≢◌, ◌⊎◌, ℕ, ◌+◌, ◌*◌, ◌/◌, ◌<◌, ◌≤◌, List, All, get_or, length, refl, sym, ap, ◌∙◌, subst, inl, inr, arith}
 use Rattle.std.specs.Prelude.{if◌then◌else◌, ◌==◌, slice_index_or}
-use Rattle.std.proofs.lemmas.Bool.{cases_Bool, cases_eq, cases_lt, cond-true, cond-false, eq-eqb, ne_eqb, false≢true}
+use Rattle.std.proofs.lemmas.Bool.{cases_eq, cases_lt, cond-true, cond-false, eq-eqb, ne_eqb}
 use Rattle.lfs_types.specs.declared.cleaner.BlockInfo.{BlockInfo}
 use Rattle.lfs_ifile.specs.declared.inode.InodeRow.{InodeRow}
 use Rattle.lfs_ifile.specs.declared.segment.SegState.TheVariants.{Clean, Dirty}
 use Rattle.lfs_ifile.specs.Tables.{row_at}
-use Rattle.lfs_cache.specs.Contents.{Contents, block_in}
+use Rattle.lfs_cache.specs.Contents.{Contents}
 use Rattle.lfs_segments.specs.Memory.{SegmentMemory, block_at, next_address, room_of}
 use Rattle.lfs_log.specs.Parts.{LogParts, state_of}
 use Rattle.lfs_bmap.specs.declared.blocks.TheConstants.{BLOCK_CODES}
@@ -25,20 +25,13 @@ use Rattle.lfs_staging.specs.Keys.{log_state}
 use Rattle.lfs_segwrite.specs.Marking.{AreNamed, HasRoomToMark, IsRewritten, MarksAgain, MarksSettled, SameShown, StagesNamed, blocks_to_mark, code_named}
 use Rattle.lfs_segwrite.specs.Room.{KeepsFiles}
 use Rattle.lfs_staging.specs.Store.{IsSettled, IsStore}
-use Rattle.lfs_staging.specs.View.{key_of, version_of, waiting_in}
+use Rattle.lfs_staging.specs.View.{version_of}
 use Rattle.lfs_segwrite.proofs.CollectingLemmas.{entries_of-length}
 use Rattle.lfs_staging.proofs.KeptLemmas.{keys_kept}
 use Rattle.lfs_segwrite.proofs.PutLemmas.{next_some}
 use Rattle.lfs_segwrite.proofs.NamedLemmas.{named_there}
 use Rattle.lfs_staging.proofs.SameContentLemmas.{content_of-same, file_at-kept}
-
--- a key waits, or doesn't
-tested : (o : Option (List ℕ)) → IsSome o ⊎ (IsSome o → ⊥)
-tested o = elim (cases_Bool (is_some o)) [ inl t ↦ inl t | inr f ↦ inr (λ t. absurd (false≢true (sym f ∙ t))) ]
-
-waits_cases : (p : Parts) (n c : ℕ) → Waits p n c ⊎ (Waits p n c → ⊥)
-waits_cases p n zero = elim (cases_Bool (is_some (waiting_in p.waiting n))) [ inl t ↦ inl t | inr f ↦ inr (λ t. absurd (false≢true (sym f ∙ t))) ]
-waits_cases p n (suc c) = tested (block_in (key_of n (version_of p n) (suc c)) p.cache.locked)
+use Rattle.lfs_segwrite.proofs.AdvanceLemmas.{cases_Waits}
 
 -- what shows the same has the same content
 pub shown_content : (old new : Parts) → SameShown old new → content_of new ≡ content_of old
@@ -149,7 +142,7 @@ module _ (old mid staged new : Parts) (marks named : List BlockInfo) (keeps : Ke
     numbers = flushes.numbers ∙ numbers;
     places = λ n c there within.
         let low : n < length old.log.tables.rows = subst (λ m. n < m) (flushes.numbers ∙ numbers) there.number_below in
-        elim (waits_cases staged n c) [
+        elim (cases_Waits staged n c) [
           | inl waits ↦ absurd (outside n c low there.code_below waits within)
           | inr free ↦ sym (flushes.still n c (subst (λ m. n < m) (sym numbers) low) there.code_below free ∙ place_staged n c low there.code_below)
         ];

@@ -113,10 +113,6 @@ pub codes-none : codes_to_mark BLOCK_CODES ≡ []
 unfolding codes_to_mark
 codes-none = refl
 
-pub codes-record : codes_on [] ≡ []
-unfolding codes_on
-codes-record = refl
-
 pub codes-most : (code : ℕ) → length (codes_to_mark code) ≤ 3
 unfolding codes_to_mark
 codes-most code = elim (cases_lt code BLOCK_CODES) [

@@ -1,6 +1,6 @@
 -- A block that is put at the log's end leaves each file as it was.
-use Rattle.std.proofs.Common.{◌≡◌, ◌≢◌, ℕ, zero, suc, ◌+◌, ◌*◌, ◌/◌, ◌<◌, ◌≤◌, List, [], length, Some, option_and_then, sym, ap, ◌∙◌, subst, inl, inr, arith}
-use Rattle.std.proofs.lemmas.Bool.{cases_Bool, cases_eq, cases_lt, cond-true, cond-false, ne_eqb}
+use Rattle.std.proofs.Common.{◌≡◌, ◌≢◌, ℕ, zero, suc, ◌+◌, ◌*◌, ◌/◌, ◌<◌, ◌≤◌, List, [], length, Some, sym, ap, ◌∙◌, subst, inl, inr, arith}
+use Rattle.std.proofs.lemmas.Bool.{cases_Bool, cases_eq, cases_lt, cond-true}
 use Rattle.lfs_ifile.specs.declared.inode.InodePlace.{InodePlace}
 use Rattle.lfs_ifile.specs.Inode.{fresh_row}
 use Rattle.lfs_ifile.specs.Tables.{Tables, place_of, row_of}
@@ -20,8 +20,8 @@ use Rattle.lfs_staging.specs.declared.parts.Parts.{Parts}
 use Rattle.lfs_staging.specs.Keys.{log_state}
 use Rattle.lfs_staging.specs.View.{fields_at, record_of, tree_of, waiting_in, waiting_or}
 use Rattle.lfs_staging.proofs.FileLemmas.{free_place, record_of-past}
-use Rattle.lfs_staging.proofs.KeyLemmas.{place-block}
-use Rattle.lfs_staging.proofs.ViewLemmas.{record_of-unused}
+use Rattle.lfs_staging.proofs.KeyLemmas.{place-block, placed_at}
+use Rattle.lfs_staging.proofs.ViewLemmas.{record_of-at, record_of-unused}
 
 -- the log never goes on at address 0
 first_some : (active fill : ℕ) → log_start active ≤ fill → 0 < active * 64 + fill
@@ -46,27 +46,18 @@ blocks_put old new before after extends next expects expected b other =
     ]
 
 -- where a record stands, the log was written before
-record_at : (tables : Tables) (number : ℕ) → (row_of tables number).address ≢ 0 → record_place tables number ≡ 4 * (row_of tables number).address + (row_of tables number).slot
-unfolding record_place
-record_at tables number some = cond-false _ _ _ (ne_eqb (row_of tables number).address 0 some)
-
 record_older : (p : Parts) (number spare : ℕ) → IsParts p.log → IsLog (log_state p) spare → number < length p.log.tables.rows → IsOlder p.log.memory (row_of p.log.tables number).address
 record_older p number spare parts log low =
     let row = row_of p.log.tables number in
     elim (cases_eq row.address 0) [
       | inl none ↦ let some = next_some p.log.memory parts.laid_out in inl (omega arith)
       | inr some ↦
-          let at = record_at p.log.tables number some in
+          let at = placed_at p.log.tables number some in
           let slot : row.slot < 4 = (parts.formed.each_row number fresh_row low).slot in
           let key = log.keys number 0 (record { number_below = low; code_below = omega arith; somewhere = λ none. some (omega (arith, at, none)) }) in
           let same : record_place p.log.tables number / 4 ≡ row.address = omega (arith, at, slot) in
           subst (IsOlder p.log.memory) same (written_older p.log.memory (record_place p.log.tables number) parts.laid_out key.written)
     ]
-
-record_of-at : (p : Parts) (number : ℕ) (place : InodePlace) → place_of p.log.tables number ≡ Some place
-    → record_of p number ≡ waiting_or (waiting_in p.waiting number) (fields_at p.log.memory place)
-unfolding record_of
-record_of-at p number place h = ap (option_and_then (λ (place : InodePlace). waiting_or (waiting_in p.waiting number) (fields_at p.log.memory place))) h
 
 -- so each record is as it was
 pub record_put : (p q : Parts) (number spare : ℕ) → IsParts p.log → IsLog (log_state p) spare → Extends p.log.memory q.log.memory → q.log.tables ≡ p.log.tables

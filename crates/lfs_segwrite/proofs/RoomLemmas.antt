@@ -1,14 +1,14 @@
 -- Opening a segment keeps what the files show.
 use Rattle.std.proofs.Common.{◌≡◌, ◌≢◌, ℕ, zero, suc, ◌+◌, ◌-◌, ◌*◌, ◌/◌, ◌<◌, ◌≤◌, List, [], length, None, Some, Option, option_map, is_some, refl, sym, ap, ◌∙◌, subst, inl, inr, arith}
 use Rattle.std.specs.Prelude.{slice_index, true}
-use Rattle.std.proofs.lemmas.Bool.{cases_Bool, cases_eq, cases_lt, cond-true, cond-false, ne_eqb, false≢true}
+use Rattle.std.proofs.lemmas.Bool.{cases_Bool, cases_eq, cases_lt, cond-true, cond-false}
 use Rattle.std.proofs.lemmas.List.{get_or_past}
 use Rattle.lfs_types.specs.Tree.{File, file_of}
 use Rattle.lfs_inodes.specs.Attributes.{stat_of}
 use Rattle.lfs_ifile.specs.declared.inode.InodeRow.{InodeRow}
 use Rattle.lfs_ifile.specs.declared.segment.SegState.TheVariants.{Clean}
 use Rattle.lfs_ifile.specs.Inode.{fresh_row}
-use Rattle.lfs_ifile.specs.Tables.{Tables, row_of}
+use Rattle.lfs_ifile.specs.Tables.{row_of}
 use Rattle.lfs_inodes.specs.declared.inode.Inode.{Inode}
 use Rattle.lfs_inodes.specs.Reading.{Fields, fields_in}
 use Rattle.lfs_inodes.specs.Slots.{slot_of}
@@ -35,10 +35,11 @@ use Rattle.lfs_staging.specs.Store.{AreFiles, IsFile, IsStore}
 use Rattle.lfs_staging.specs.View.{record_of, root_in, tree_of, waiting_in}
 use Rattle.lfs_staging.proofs.CleanLemmas.{mirrors_read}
 use Rattle.lfs_staging.proofs.FileLemmas.{file_at-record, record_of-past}
-use Rattle.lfs_staging.proofs.KeyLemmas.{place-block, place-record, unused_waits}
+use Rattle.lfs_staging.proofs.KeyLemmas.{place-block, place-record, placed_at, unused_waits}
 use Rattle.lfs_staging.proofs.ViewLemmas.{nowhere, record_of-logged, record_of-unused, record_of-waiting}
 use Rattle.lfs_bmap.specs.Blocks.{way_to}
 use Rattle.lfs_staging.proofs.KeptLemmas.{block_known}
+use Rattle.lfs_staging.proofs.ForgettingLemmas.{used_low}
 
 -- ---- parts whose files read the same
 below_same : (old new : ℕ → Option File) → ((n : ℕ) → new n ≡ old n) → (n : ℕ) → content_below new n ≡ content_below old n
@@ -66,23 +67,11 @@ module _ (old new : Parts) (records : (n : ℕ) → record_of new n ≡ record_o
 abbrev pub with_log : Parts → LogParts → Parts
 with_log p l = record p { log = l }
 
--- where a record with an address has its place
-placed_at : (tables : Tables) (number : ℕ) → (row_of tables number).address ≢ 0 → record_place tables number ≡ 4 * (row_of tables number).address + (row_of tables number).slot
-unfolding record_place
-placed_at tables number some = cond-false _ _ _ (ne_eqb (row_of tables number).address 0 some)
-
 -- ---- a clean segment is opened
 module _ (p : Parts) (s : ℕ) (store : IsStore p) (inside : s < p.log.memory.segments) (was_clean : state_of p.log.tables s ≡ Clean) where
   -- the parts with the segment opened
   abbrev q : Parts
   q = with_log p (opened_parts p.log s)
-
-  -- a number in use is in the inode map
-  in_range : (n : ℕ) → (row_of p.log.tables n).used ≡ true → n < length p.log.tables.rows
-  in_range n used = elim (cases_lt n (length p.log.tables.rows)) [
-    | inl low ↦ low
-    | inr past ↦ absurd (false≢true (sym (ap (λ (r : InodeRow). r.used) (get_or_past p.log.tables.rows n fresh_row past)) ∙ used))
-  ]
 
   -- no key lies in the segment
   away : (n c : ℕ) → IsPlaced (log_state p) n c → (a : ℕ) → (log_state p).at n c / 256 ≡ a / 64 → a / 64 ≢ s
@@ -106,7 +95,7 @@ module _ (p : Parts) (s : ℕ) (store : IsStore p) (inside : s < p.log.memory.se
       elim (cases_eq row.address 0) [
         | inl none ↦ ap (block_at (opened p.log.memory s)) none ∙ label_kept ∙ ap (block_at p.log.memory) (sym none)
         | inr some ↦
-            let low = in_range n used in
+            let low = used_low p n used in
             let slot = (store.whole.parts.formed.each_row n fresh_row low).slot in
             let at : (log_state p).at n 0 ≡ 4 * row.address + row.slot = place-record p n ∙ placed_at p.log.tables n some in
             let there : IsPlaced (log_state p) n 0 = record { number_below = low; code_below = omega arith; somewhere = λ e. some (omega arith) } in

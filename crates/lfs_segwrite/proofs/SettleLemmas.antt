@@ -1,7 +1,7 @@
 -- A record that stands in the log waits no more.
 use Rattle.std.proofs.Common.{◌≡◌, ◌≢◌, ℕ, zero, suc, ◌+◌, ◌-◌, ◌*◌, ◌/◌, ◌<◌, ◌≤◌, List, [], ◌∷◌, ◌++◌, length, None, Some, IsSome, is_some, true, length-append, option_and_then, refl, sym, ap, ◌∙◌, subst, inl, inr, arith}
 use Rattle.std.specs.Prelude.{All, if◌then◌else◌, ◌==◌}
-use Rattle.std.proofs.lemmas.Bool.{cases_eq, cond-true, cond-false, ne_eqb, eq-eqb, false≢true}
+use Rattle.std.proofs.lemmas.Bool.{cases_eq, cond-true, cond-false, ne_eqb, false≢true}
 use Rattle.std.proofs.lemmas.Option.{none-some}
 use Rattle.std.proofs.lemmas.List.Elements.{All-pop}
 use Rattle.lfs_ifile.specs.declared.inode.InodePlace.{InodePlace}
@@ -37,6 +37,7 @@ use Rattle.lfs_staging.proofs.SettingLemmas.{waiting_record}
 use Rattle.lfs_staging.proofs.ViewLemmas.{record_of-logged}
 use Rattle.lfs_staging.proofs.RecordsLemmas.{once_front, waiting-front}
 use Rattle.lfs_staging.proofs.WaitingLemmas.{waiting-head, waiting-tail}
+use Rattle.lfs_staging.proofs.KeyLemmas.{row_place}
 
 -- ---- the list of records, and the last of them
 waiting-last : (front : List Inode) (v : Inode) → waiting_in front v.number ≡ None → waiting_in (front ++ v ∷ []) v.number ≡ Some v
@@ -62,16 +63,6 @@ place_row s t n row = ap (λ (r : InodeRow). if r.address == 0 then 0 else 4 * r
 place_some : (t : Tables) (n : ℕ) (r : InodeRow) → row_of t n ≡ r → r.address ≢ 0 → record_place t n ≡ 4 * r.address + r.slot
 unfolding record_place
 place_some t n r row some = ap (λ (r : InodeRow). if r.address == 0 then 0 else 4 * r.address + r.slot) row ∙ cond-false _ _ _ (ne_eqb r.address 0 some)
-
-place_none : (t : Tables) (n : ℕ) → (row_of t n).address ≡ 0 → record_place t n ≡ 0
-unfolding record_place
-place_none t n none = cond-true _ _ _ (eq-eqb (row_of t n).address 0 none)
-
-place_quarter : (t : Tables) (n : ℕ) → (row_of t n).slot < 4 → record_place t n / 4 ≡ (row_of t n).address
-place_quarter t n slot = elim (cases_eq (row_of t n).address 0) [
-  | inl none ↦ let at = place_none t n none in omega (arith, at, none)
-  | inr some ↦ let at = place_some t n (row_of t n) refl some in omega (arith, at, slot)
-]
 
 first_least : (segment address : ℕ) → first_of segment ≤ address → address ≢ 0
 first_least zero address from none = absurd (omega arith)
@@ -103,7 +94,7 @@ module _ (p : Parts) (v : Inode) (front : List Inode) (address slot spare : ℕ)
   last_move =
       let slots = (staged.whole.parts.formed.each_row v.number fresh_row last_low).slot in
       MayMoveLive-taken p.log (log_state p).at (spare + 128) v.number 0 (row_of p.log.tables v.number).address staged.log last_low (omega arith)
-      (place_quarter p.log.tables v.number slots) (4 * address + slot) address last_may (let low = stands.in_block in omega arith)
+      (row_place p.log.tables v.number slots) (4 * address + slot) address last_may (let low = stands.in_block in omega arith)
 
 -- ---- what settling makes
 pub record Settles (p q : Parts) (v : Inode) (front : List Inode) (address slot : ℕ) : Type 0 where

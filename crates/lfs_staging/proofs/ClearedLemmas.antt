@@ -12,7 +12,7 @@ use Rattle.lfs_segments.specs.Memory.{SegmentMemory, block_at}
 use Rattle.lfs_cache.specs.declared.key.Key.{Key}
 use Rattle.lfs_cache.specs.Contents.{block_in}
 use Rattle.lfs_cache.specs.Keys.{same_key}
-use Rattle.lfs_log.specs.Parts.{LogParts, record_place}
+use Rattle.lfs_log.specs.Parts.{LogParts}
 use Rattle.lfs_log.specs.Parts as log
 use Rattle.lfs_bmap.specs.declared.blocks.TheConstants.{BLOCK_CODES}
 use Rattle.lfs_bmap.specs.declared.blocks.FileBlock.{FileBlock}

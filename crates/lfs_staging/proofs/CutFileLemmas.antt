@@ -20,7 +20,7 @@ use Rattle.lfs_bmap.specs.Pieces.{IsBlockCut, IsPadded}
 use Rattle.lfs_bmap.specs.Reading.{data_block}
 use Rattle.lfs_bmap.specs.Ways.{codes_on, data_way}
 use Rattle.lfs_bmap.proofs.HolderLemmas.{codes_on-most, codes_on-record, table_of-code}
-use Rattle.lfs_bmap.proofs.PieceLemmas.{cut_padded, past_cut, zero_block-at, zero_block-length}
+use Rattle.lfs_bmap.proofs.PieceLemmas.{cut_padded, past_cut, zero_block-at}
 use Rattle.lfs_bmap.proofs.PlaceLemmas.{data_block-past, data_block-same}
 use Rattle.lfs_bmap.proofs.TableLemmas.{codes_on-table_few}
 use Rattle.lfs_staging.specs.declared.parts.Parts.{Parts}
@@ -35,6 +35,7 @@ use Rattle.lfs_staging.proofs.KeptLemmas.{parents_own}
 use Rattle.lfs_staging.proofs.StagedLemmas.{may_again, parents_staged, stays-trans, stays_files, stays_same}
 use Rattle.lfs_staging.proofs.StagingLemmas.{version-same}
 use Rattle.lfs_staging.proofs.TakenLemmas.{frames_after, frames_enough, taken_most, takes_both, takes_none, takes_part, takes_version}
+use Rattle.lfs_segments.proofs.MemoryLemmas.{length-zero_block}
 
 -- ---- the record waits
 module _ (a b : Parts) (v : Inode) (may : MayStage a v) (own : StagesOwnRecord v.number a b) where
@@ -120,7 +121,7 @@ module _ (a b c : Parts) (v : Inode) (len left blocks : ℕ) (may : MayStage a v
               (subst (IsBlockCut m len (data_block (tree_of b v.number) m)) (sym (drops.data_same v.number m (inr low))) (last.cut m (omega arith)))
           | inr from ↦
               subst (IsBlockCut m len (data_block (tree_of a v.number) m)) (sym (zeros m from))
-              (past_cut m len (data_block (tree_of a v.number) m) zero_block zero_block-length (λ k low. zero_block-at k) (omega arith))
+              (past_cut m len (data_block (tree_of a v.number) m) zero_block length-zero_block (λ k low. zero_block-at k) (omega arith))
         ]
 
     same_attributes : (f : Fields) → record_of d v.number ≡ Some f → f.attributes ≡ attributes v

@@ -22,13 +22,13 @@ use Rattle.lfs_staging.proofs.CleanLemmas.{logged_kept}
 use Rattle.lfs_staging.proofs.HeldLemmas.{filled_clean, keeps_clean, used_locked}
 use Rattle.lfs_staging.proofs.KeptLemmas.{files_kept, log_kept}
 use Rattle.lfs_staging.proofs.SameContentLemmas.{content_of-same, file_at-kept}
-use Rattle.lfs_staging.proofs.SettingLemmas.{present_kept}
-use Rattle.lfs_staging.proofs.StagingLemmas.{record_of-same, version-same}
+use Rattle.lfs_staging.proofs.SettingLemmas.{present_kept, record_same}
+use Rattle.lfs_staging.proofs.StagingLemmas.{version-same}
 use Rattle.lfs_staging.proofs.HolderLemmas.{holder_kept}
 
 module _ (p q : Parts) (log : q.log ≡ p.log) (waiting : q.waiting ≡ p.waiting) (dirty : q.cache.locked ≡ p.cache.locked) where
   pub filled_record : (n : ℕ) → record_of q n ≡ record_of p n
-  filled_record n = record_of-same p q n log (ap (λ vs. waiting_in vs n) waiting)
+  filled_record n = record_same p q n log (ap (λ vs. waiting_in vs n) waiting)
 
   pub filled_tree : (n : ℕ) → tree_of q n ≡ tree_of p n
   filled_tree n =

@@ -26,7 +26,7 @@ use Rattle.lfs_bmap.specs.Log.{IsLog}
 use Rattle.lfs_bmap.specs.Pieces.{IsPadded}
 use Rattle.lfs_bmap.specs.Reading.{address, data_block}
 use Rattle.lfs_bmap.specs.Ways.{IsBlockWay, code_at, way_of}
-use Rattle.lfs_bmap.proofs.PieceLemmas.{zero_block-at, zero_block-length}
+use Rattle.lfs_bmap.proofs.PieceLemmas.{zero_block-at}
 use Rattle.lfs_bmap.proofs.WayLemmas.{code_at-way_of, known_way_of, up_known, way_of-code_of, way_of-known}
 use Rattle.lfs_staging.specs.declared.records.TheConstants.{WAITING_LIMIT}
 use Rattle.lfs_staging.specs.declared.parts.Parts.{Parts}
@@ -41,6 +41,7 @@ use Rattle.lfs_staging.proofs.ClearedLemmas.{Steps, address_here, address_rest, 
 use Rattle.lfs_staging.proofs.FrameLemmas.{once_numbers}
 use Rattle.lfs_staging.proofs.SettingLemmas.{waiting_record}
 use Rattle.lfs_bmap.proofs.BlockLemmas.{code_of-below, same_block}
+use Rattle.lfs_segments.proofs.MemoryLemmas.{length-zero_block}
 
 -- a block within the size is none past it
 pub within_apart : (block b : FileBlock) (size : ℕ) → IsFileBlock block → IsFileBlock b → IsWithin block size → block_count size ≤ first_under b → code_of b ≢ code_of block
@@ -59,7 +60,7 @@ pub padded_zeroed : (old new : ℕ → List ℕ) (size : ℕ) → ((n : ℕ) →
 padded_zeroed old new size each h = record {
   whole = λ n. elim (each n) [
     | inl same ↦ ap length same ∙ h.whole n
-    | inr none ↦ ap length none ∙ zero_block-length
+    | inr none ↦ ap length none ∙ length-zero_block
   ];
   zeros = λ i past. elim (each (i / 512)) [
     | inl same ↦ ap (λ b. slice_index b (i % 512)) same ∙ h.zeros i past

@@ -34,9 +34,10 @@ use Rattle.lfs_staging.specs.Waiting.{without}
 use Rattle.lfs_staging.proofs.CleanLemmas.{mirrors_log}
 use Rattle.lfs_staging.proofs.HeldLemmas.{GainsNoClean-same}
 use Rattle.lfs_staging.proofs.FileLemmas.{file_at-record, file_at-some, get-content_of}
-use Rattle.lfs_staging.proofs.KeptLemmas.{AllWithin, few_records, log_kept, may_present, present_kept, record_once, record_parents, record_present, record_room, record_trees}
+use Rattle.lfs_staging.proofs.KeptLemmas.{AllWithin, few_records, log_kept, may_present, record_once, record_parents, record_present, record_room, record_trees}
 use Rattle.lfs_staging.proofs.StagingLemmas.{version-same}
 use Rattle.lfs_staging.proofs.WaitingLemmas.{length-rest, length-without}
+use Rattle.lfs_staging.proofs.SettingLemmas.{present_kept}
 
 -- a block that lies within a size lies within a greater one
 pub within_more : (block : FileBlock) (size other : ℕ) → size ≤ other → IsWithin block size → IsWithin block other
@@ -182,7 +183,7 @@ grown_to old new v w size least may h changed roots more is =
 
 -- ---- bytes put into a file
 -- the file with these data blocks and a record
-abbrev file_from : (ℕ → List ℕ) → Fields → File
+abbrev pub file_from : (ℕ → List ℕ) → Fields → File
 file_from blocks f = file_of (stat_of f.attributes) (file_bytes blocks f.attributes.size)
 
 module _ (old between new : Parts) (v w : Inode) (start : ℕ) (bytes : List ℕ) (has : record_of old v.number ≡ Some (fields_of v)) (file : IsFile old v.number (fields_of v))

@@ -36,8 +36,8 @@ use Rattle.lfs_staging.specs.View.{key_of, record_of, root_in, tree_of, version_
 use Rattle.lfs_staging.specs.Waiting.{AreOnce, without}
 use Rattle.lfs_staging.proofs.KeyLemmas.{place-block, place-record}
 use Rattle.lfs_staging.proofs.HolderLemmas.{holder_kept}
-use Rattle.lfs_staging.proofs.SettingLemmas.{holder_waits, some_there}
-use Rattle.lfs_staging.proofs.StagingLemmas.{record_of-same, version-same}
+use Rattle.lfs_staging.proofs.SettingLemmas.{holder_waits, present_kept, record_same, some_there}
+use Rattle.lfs_staging.proofs.StagingLemmas.{version-same}
 use Rattle.lfs_staging.proofs.CleanLemmas.{coded_block, mirrors_log}
 use Rattle.lfs_staging.proofs.HeldLemmas.{GainsNoClean-refl, GainsNoClean-same}
 use Rattle.lfs_staging.proofs.ViewLemmas.{code_at-way_to}
@@ -56,13 +56,6 @@ AllWithin p = (number : ℕ) (block : FileBlock) (f : Fields) → record_of p nu
 -- the way of a block
 pub block_known : (block : FileBlock) → IsFileBlock block → IsBlockWay (way_to block)
 block_known block is = subst IsBlockWay (way_of-code_of block is) (way_of-known (code_of block) (code_of-below block is))
-
--- who is in use at which version, where the log stays
-pub present_kept : (old new : Parts) (n version : ℕ) → new.log ≡ old.log → IsPresent old n version → IsPresent new n version
-present_kept old new n version log h = record {
-  in_use = ap (λ (l : LogParts). (row_of l.tables n).used) log ∙ h.in_use;
-  at_version = h.at_version ∙ sym (version-same old new n log);
-}
 
 -- ---- the log, where it and the addresses stay
 -- each key has the place that it had
@@ -208,8 +201,8 @@ module _ (old new : Parts) (v : Inode) (h : StagesRecord v old new) (has : recor
     | inr other ↦ h.others n other
   ]
 
-  pub record_same : SameFiles old new
-  record_same = record {
+  pub files_same : SameFiles old new
+  files_same = record {
     log = h.log;
     records = records_same;
     readings = λ n. subst (λ t. SameReadings (tree_of old n) t) (sym (record_trees old new v h (λ m. ap root_in (records_same m)) n)) (SameReadings-refl (tree_of old n));
@@ -219,7 +212,7 @@ module _ (old new : Parts) (v : Inode) (h : StagesRecord v old new) (has : recor
   record_files files used =
       let file = files.files v.number (fields_of v) has in
       let present : IsPresent old v.number v.version = record { in_use = used; at_version = file.own_version } in
-      let same = record_same in
+      let same = files_same in
       files_kept old new files h.log records_same (λ n way known. (same.readings n).addresses way known) (same_padded old new same)
       (subst IsContents (sym h.cache) files.cache)
       (mirrors_log old new files.mirrors (GainsNoClean-same old.cache new.cache h.cache) h.log (λ n way known. (same.readings n).addresses way known))
@@ -230,7 +223,7 @@ module _ (old new : Parts) (v : Inode) (h : StagesRecord v old new) (has : recor
 -- ---- a block waits
 module _ (old new : Parts) (number : ℕ) (block : FileBlock) (bytes : List ℕ) (h : StagesBlock number block bytes old new) where
   pub block_records : (n : ℕ) → record_of new n ≡ record_of old n
-  block_records n = record_of-same old new n h.log (ap (λ vs. waiting_in vs n) h.waiting)
+  block_records n = record_same old new n h.log (ap (λ vs. waiting_in vs n) h.waiting)
 
   -- where the files are well formed still, so is the rest
   pub block_files : AreFiles old → IsPresent old number (version_of old number) → IsBlockCode (code_of block)
@@ -363,7 +356,7 @@ may_present p v may = record { in_use = may.in_use; at_version = (may.files.file
 -- the record of a file waits, with what it has
 pub own_staged : (old new : Parts) (v : Inode) → MayStage old v → StagesRecord v old new → StagesOwnRecord v.number old new
 own_staged old new v may h = record {
-  same = record_same old new v h may.here;
+  same = files_same old new v h may.here;
   cache = h.cache;
   files = record_files old new v h may.here may.files may.in_use;
   parents = record_parents old new v h may.parents;

@@ -110,7 +110,13 @@ place_row row place h =
       | inr free ↦ absurd (none-some place (sym (cond-false _ _ _ free) ∙ h))
     ]
 
-row_place : (tables : Tables) (number : ℕ) → (row_of tables number).slot < 4 → record_place tables number / 4 ≡ (row_of tables number).address
+-- the place of a record that has an address
+pub placed_at : (tables : Tables) (number : ℕ) → (row_of tables number).address ≢ 0 → record_place tables number ≡ 4 * (row_of tables number).address + (row_of tables number).slot
+unfolding record_place
+placed_at tables number some = cond-false _ _ _ (ne_eqb (row_of tables number).address 0 some)
+
+-- and where it has one or none, the place is in the block of the address
+pub row_place : (tables : Tables) (number : ℕ) → (row_of tables number).slot < 4 → record_place tables number / 4 ≡ (row_of tables number).address
 unfolding record_place
 row_place tables number low =
     let row = row_of tables number in

@@ -1,5 +1,5 @@
 -- The content with another length of a file.
-use Rattle.std.proofs.Common.{◌≡◌, ◌≢◌, ℕ, ◌≤◌, max, List, Some, option_map, sym, ap, ◌∙◌, subst, inl, inr, arith}
+use Rattle.std.proofs.Common.{◌≡◌, ◌≢◌, ℕ, ◌≤◌, max, Some, option_map, sym, ap, ◌∙◌, subst, inl, inr, arith}
 use Rattle.std.specs.Cmp.{nat_cmp_total}
 use Rattle.std.specs.FinMap as map
 use Rattle.std.specs.FinMap.{same_map, nat_cmp-IsAntisymmetric}
@@ -7,11 +7,11 @@ use Rattle.std.proofs.lemmas.Bool.{cases_eq}
 use Rattle.std.proofs.lemmas.Option.{same_Some}
 use Rattle.lfs_types.specs.Changes.{changed_at}
 use Rattle.lfs_types.specs.Splicing.{resized}
-use Rattle.lfs_types.specs.Tree.{File, file_of}
+use Rattle.lfs_types.specs.Tree.{File}
 use Rattle.lfs_types.proofs.Maps.{get-insert_same, get-insert_other}
 use Rattle.lfs_inodes.specs.declared.inode.Inode.{Inode}
 use Rattle.lfs_inodes.specs.Addresses.{addresses}
-use Rattle.lfs_inodes.specs.Attributes.{attributes, stat_of}
+use Rattle.lfs_inodes.specs.Attributes.{attributes}
 use Rattle.lfs_inodes.specs.Reading.{Fields, fields_of}
 use Rattle.lfs_bmap.specs.Pieces.{IsBlockCut, IsPadded, file_bytes}
 use Rattle.lfs_bmap.specs.Reading.{data_block}
@@ -23,11 +23,7 @@ use Rattle.lfs_staging.specs.Putting.{GrowsTo}
 use Rattle.lfs_staging.specs.Staging.{MayStage, StagesRecord}
 use Rattle.lfs_staging.specs.View.{record_of, tree_of}
 use Rattle.lfs_staging.proofs.FileLemmas.{file_at-record, file_at-some, get-content_of}
-use Rattle.lfs_staging.proofs.GrowthLemmas.{grown_to}
-
--- the file with these data blocks and a record
-abbrev file_from : (ℕ → List ℕ) → Fields → File
-file_from blocks f = file_of (stat_of f.attributes) (file_bytes blocks f.attributes.size)
+use Rattle.lfs_staging.proofs.GrowthLemmas.{file_from, grown_to}
 
 module _ (old new : Parts) (number len : ℕ) (f : Fields) (has : record_of old number ≡ Some f) (padded : IsPadded (data_block (tree_of old number)) f.attributes.size)
     (here : HasAttributes new number (record (f.attributes) { size = len })) (records : (n : ℕ) → n ≢ number → record_of new n ≡ record_of old n)

@@ -55,7 +55,7 @@ log_at p spare was now same h =
     subst (IsLog (log.log_state p now)) none written
 
 -- the place in a row of the inode map
-abbrev place_in_row : InodeRow → ℕ
+abbrev pub place_in_row : InodeRow → ℕ
 place_in_row row = if row.address == 0 then 0 else 4 * row.address + row.slot
 
 -- ---- a number without blocks

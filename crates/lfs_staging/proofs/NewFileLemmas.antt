@@ -29,7 +29,7 @@ use Rattle.lfs_bmap.specs.Pieces.{IsPadded, file_bytes}
 use Rattle.lfs_bmap.specs.Reading.{data_block}
 use Rattle.lfs_bmap.specs.Ways.{data_way}
 use Rattle.lfs_bmap.proofs.LogLemmas.{renewed_log}
-use Rattle.lfs_bmap.proofs.PieceLemmas.{zero_block-length, zero_block-at}
+use Rattle.lfs_bmap.proofs.PieceLemmas.{zero_block-at}
 use Rattle.lfs_bmap.proofs.PlaceLemmas.{data_block-past}
 use Rattle.lfs_staging.specs.declared.parts.Parts.{Parts}
 use Rattle.lfs_staging.specs.declared.records.TheConstants.{WAITING_LIMIT}
@@ -48,6 +48,7 @@ use Rattle.lfs_staging.proofs.ReadLemmas.{data_block-read, no_bytes}
 use Rattle.lfs_staging.proofs.ViewLemmas.{all_zeros}
 use Rattle.lfs_staging.proofs.WaitingLemmas.{all_without, length-without, once_staged, waiting-staged}
 use Rattle.lfs_bmap.specs.Blocks.{way_to}
+use Rattle.lfs_segments.proofs.MemoryLemmas.{length-zero_block}
 
 module _ (number version : ℕ) (attrs : Attrs) (v : Inode) (old new : Parts) (h : GivesOutFile number version attrs v old new)
     (least : FIRST_INODE ≤ number) (low : number < length old.log.tables.rows) (free : (row_of old.log.tables number).used ≡ false) (files : AreFiles old) where
@@ -92,7 +93,7 @@ module _ (number version : ℕ) (attrs : Attrs) (v : Inode) (old new : Parts) (h
 
   padded : (size : ℕ) → IsPadded (data_block (tree_of new number)) size
   padded size = record {
-    whole = λ n. ap length (zeros_at n) ∙ zero_block-length;
+    whole = λ n. ap length (zeros_at n) ∙ length-zero_block;
     zeros = λ i past. ap (λ b. slice_index b (i % 512)) (zeros_at (i / 512)) ∙ zero_block-at (i % 512);
   }
 

@@ -1,6 +1,6 @@
 -- A volume that was just laid out is a store, and has the root directory alone.
 use Rattle.std.proofs.Common.{◌≡◌, ◌≢◌, ℕ, ◌+◌, ◌*◌, ◌/◌, ◌%◌, ◌<◌, ◌≤◌, List, All, length, None, Some, option_map, is_some, refl, sym, ap, ◌∙◌, subst, inl, inr, arith}
-use Rattle.std.specs.Prelude.{replicate, slice_index, slice_index_or, if◌then◌else◌, ◌==◌}
+use Rattle.std.specs.Prelude.{replicate, slice_index, slice_index_or}
 use Rattle.std.specs.Cmp.{nat_cmp_total}
 use Rattle.std.specs.Ordering.{nat_cmp}
 use Rattle.std.specs.FinMap as map
@@ -35,7 +35,7 @@ use Rattle.lfs_bmap.specs.Reading.{address, data_block}
 use Rattle.lfs_bmap.specs.Ways.{code_at, data_way, way_of}
 use Rattle.lfs_bmap.proofs.CountingLemmas.{placed-cases, weight-none, weight-here, weight-elsewhere}
 use Rattle.lfs_bmap.proofs.LogLemmas.{taken_log}
-use Rattle.lfs_bmap.proofs.PieceLemmas.{zero_block-length, zero_block-at}
+use Rattle.lfs_bmap.proofs.PieceLemmas.{zero_block-at}
 use Rattle.lfs_bmap.proofs.PlaceLemmas.{data_block-past}
 use Rattle.lfs_bmap.proofs.SegmentLemmas.{empty_log}
 use Rattle.lfs_staging.specs.declared.parts.Parts.{Parts}
@@ -51,6 +51,8 @@ use Rattle.lfs_staging.proofs.ReadLemmas.{data_block-read, no_bytes}
 use Rattle.lfs_staging.proofs.ViewLemmas.{all_zeros, nowhere, record_of-logged, record_of-unused}
 use Rattle.lfs_staging.proofs.WaitingLemmas.{none_once}
 use Rattle.lfs_bmap.specs.Blocks.{way_to}
+use Rattle.lfs_segments.proofs.MemoryLemmas.{length-zero_block}
+use Rattle.lfs_staging.proofs.MakingLemmas.{place_in_row}
 
 -- one of a list of the same ones, or past it
 all_clean : (n k : ℕ) → slice_index_or (replicate n Clean) k Clean ≡ Clean
@@ -67,10 +69,6 @@ all_fresh n k = elim (cases_lt k n) [
 
 pub fresh_version : (n : ℕ) → raised_version (slice_index_or (replicate n fresh_row) 2 fresh_row).version ≡ 1
 fresh_version n = ap (λ (r : InodeRow). raised_version r.version) (all_fresh n 2)
-
--- the place in a row of the inode map
-abbrev place_in_row : InodeRow → ℕ
-place_in_row row = if row.address == 0 then 0 else 4 * row.address + row.slot
 
 pub record_place-row : (tables : Tables) (number : ℕ) (row : InodeRow) → row_of tables number ≡ row → record_place tables number ≡ place_in_row row
 unfolding record_place
@@ -127,7 +125,7 @@ module _ (segments inodes frames : ℕ) (p : Parts) (h : IsOpening segments inod
 
   all_padded : (number : ℕ) → IsPadded (data_block (tree_of p number)) 0
   all_padded number = record {
-    whole = λ n. ap length (zeros_at number n) ∙ zero_block-length;
+    whole = λ n. ap length (zeros_at number n) ∙ length-zero_block;
     zeros = λ i past. ap (λ b. slice_index b (i % 512)) (zeros_at number (i / 512)) ∙ zero_block-at (i % 512);
   }
 

@@ -1,5 +1,5 @@
 -- Records told apart by number: what each change of them keeps.
-use Rattle.std.proofs.Common.{◌≡◌, ◌≢◌, ℕ, ◌<◌, ◌≤◌, List, [], ◌∷◌, ◌++◌, All, Bool, length, Option, None, Some, IsSome, is_some, true, false, refl, sym, ap, ◌∙◌, subst, inl, inr, arith}
+use Rattle.std.proofs.Common.{◌≡◌, ◌≢◌, ℕ, ◌<◌, ◌≤◌, List, [], ◌∷◌, ◌++◌, All, Bool, length, None, Some, IsSome, is_some, true, false, refl, sym, ap, ◌∙◌, subst, inl, inr, arith}
 use Rattle.std.specs.Prelude.{replicate, slice_index_or, slice_set}
 use Rattle.std.proofs.lemmas.Bool.{cases_eq, cases_lt, cond-false, false≢true, ne_eqb}
 use Rattle.std.proofs.lemmas.List.{get_or-replicate, get_or-set_other, get_or-set_same, length-replicate, length-set}
@@ -11,6 +11,7 @@ use Rattle.lfs_staging.specs.Waiting.{AreOnce, IsNumbered, IsRecords, waiting_in
 use Rattle.lfs_staging.proofs.FrameLemmas.{once_numbers}
 use Rattle.lfs_staging.proofs.ReplacingLemmas.{each_replaced}
 use Rattle.lfs_staging.proofs.WaitingLemmas.{all_without, once_gone, once_staged, once_without, waiting-head, waiting-staged, waiting-tail, waiting-without}
+use Rattle.lfs_types.proofs.Somewhere.{not_some}
 
 -- ---- the last of them
 pub waiting-front : (front : List Inode) (v : Inode) (n : ℕ) → v.number ≢ n → waiting_in (front ++ v ∷ []) n ≡ waiting_in front n
@@ -54,15 +55,11 @@ without-free (v ∷ vs) number none = elim (cases_eq v.number number) [
   | inr ne ↦ cond-false _ _ _ (ne_eqb v.number number ne) ∙ ap (λ ws. v ∷ ws) (without-free vs number (sym (waiting-tail v vs number ne) ∙ none))
 ]
 
-none_is : (o : Option Inode) → is_some o ≡ false → o ≡ None
-none_is None h = refl
-none_is (Some v) h = absurd (cc)
-
 pub without-untold : (vs : List Inode) (number : ℕ) → is_some (waiting_in vs number) ≡ false → without number vs ≡ vs
-without-untold vs number h = without-free vs number (none_is (waiting_in vs number) h)
+without-untold vs number h = without-free vs number (not_some (waiting_in vs number) h)
 
 pub untold_none : (vs : List Inode) (number : ℕ) → is_some (waiting_in vs number) ≡ false → waiting_in vs number ≡ None
-untold_none vs number h = none_is (waiting_in vs number) h
+untold_none vs number h = not_some (waiting_in vs number) h
 
 -- ---- what each change keeps
 pub no_records : (vs : List Inode) (waits : List Bool) (capacity : ℕ) → vs ≡ [] → waits ≡ replicate 4096 false → capacity ≡ 64 → IsRecords vs waits capacity

@@ -25,6 +25,7 @@ use Rattle.lfs_staging.specs.View.{fields_at, key_of, record_of, root_in, tree_o
 use Rattle.lfs_staging.proofs.HeldLemmas.{GainsNoClean-same}
 use Rattle.lfs_staging.proofs.ViewLemmas.{code_at-way_to, record_of-waiting}
 use Rattle.lfs_staging.proofs.ReplacingLemmas.{each_replaced}
+use Rattle.lfs_bmap.proofs.HolderLemmas.{no_end}
 
 -- the record of a number is the same where the log is, and what waits for the number
 pub record_same : (p q : Parts) (number : ℕ) → q.log ≡ p.log → waiting_in q.waiting number ≡ waiting_in p.waiting number
@@ -37,9 +38,6 @@ record_same p q number log waits =
 -- the record that waits is the number's
 pub waiting_record : (p : Parts) (v : Inode) → IsWaiting p v → record_of p v.number ≡ Some (fields_of v)
 waiting_record p v h = record_of-waiting p v.number _ v (cond-true _ _ _ h.in_use) h.waits
-
-pub not_nil : (j : ℕ) (above : List ℕ) → j ∷ above ≡ [] → ⊥
-not_nil j above e = cc
 
 -- what waits for a block that holds addresses
 pub held_waits : (p : Parts) (v : Inode) (t : FileBlock) (o : Option (List ℕ)) → IsWaiting p v → block_in (key_of v.number v.version (code_of t)) p.cache.locked ≡ o
@@ -56,7 +54,7 @@ held_table p v t b some h waits =
 -- what holds an address waits
 pub holder_waits : (c : Contents) (number version : ℕ) (up : List ℕ) → (up ≢ [] → IsLocked (key_of number version (code_at up)) c) → HolderWaits c number version up
 holder_waits c number version [] waits = tt
-holder_waits c number version (i ∷ up) waits = waits (not_nil i up)
+holder_waits c number version (i ∷ up) waits = waits (no_end i up)
 
 pub holder_locked : (c : Contents) (number version : ℕ) (up : List ℕ) → up ≢ [] → HolderWaits c number version up → IsLocked (key_of number version (code_at up)) c
 holder_locked c number version [] some waits = absurd (some refl)

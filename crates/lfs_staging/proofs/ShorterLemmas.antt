@@ -30,11 +30,12 @@ use Rattle.lfs_staging.specs.View.{key_of, record_of, root_in, tree_of, version_
 use Rattle.lfs_staging.specs.Waiting.{without}
 use Rattle.lfs_staging.proofs.CleanLemmas.{mirrors_log}
 use Rattle.lfs_staging.proofs.HeldLemmas.{GainsNoClean-same}
-use Rattle.lfs_staging.proofs.KeptLemmas.{log_kept, present_kept, record_once, record_parents, record_present, record_room, record_trees}
+use Rattle.lfs_staging.proofs.KeptLemmas.{log_kept, record_once, record_parents, record_present, record_room, record_trees}
 use Rattle.lfs_staging.proofs.StagingLemmas.{version-same}
 use Rattle.lfs_staging.proofs.WaitingLemmas.{length-less, waiting-head}
 use Rattle.lfs_staging.proofs.HolderLemmas.{gone_free}
 use Rattle.lfs_bmap.proofs.HolderLemmas.{root_block}
+use Rattle.lfs_staging.proofs.SettingLemmas.{present_kept}
 
 -- the addresses of a record from whose place on there are none stay where they are cut
 root_cell : (p : Parts) (v : Inode) (i : ℕ) → record_of p v.number ≡ Some (fields_of v) → address (tree_of p v.number) (i ∷ []) ≡ slice_index (addresses v) i

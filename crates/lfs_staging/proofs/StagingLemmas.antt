@@ -1,6 +1,5 @@
 -- What staging keeps.
-use Rattle.std.proofs.Common.{◌≡◌, ◌≢◌, ℕ, ◌+◌, ◌≤◌, List, ◌∷◌, length, Some, is_some, option_and_then, true, false, refl, sym, ap, ◌∙◌, subst, inl, inr}
-use Rattle.lfs_ifile.specs.declared.inode.InodePlace.{InodePlace}
+use Rattle.std.proofs.Common.{◌≡◌, ◌≢◌, ℕ, ◌+◌, ◌≤◌, List, ◌∷◌, length, Some, is_some, true, false, refl, sym, ap, ◌∙◌, subst, inl, inr}
 use Rattle.lfs_ifile.specs.Tables.{place_of, row_of}
 use Rattle.lfs_inodes.specs.declared.inode.Inode.{Inode}
 use Rattle.lfs_cache.specs.declared.key.Key.{Key}
@@ -18,21 +17,15 @@ use Rattle.lfs_bmap.proofs.WayLemmas.{known_way_of, way_of-code_of}
 use Rattle.lfs_bmap.specs.Ways.{way_of}
 use Rattle.lfs_staging.specs.declared.parts.Parts.{Parts}
 use Rattle.lfs_staging.specs.Staging.{GrowsBy, StagesBlock, StagesRecord}
-use Rattle.lfs_staging.specs.View.{fields_at, key_of, record_of, root_in, tree_of, version_of, waiting_in, waiting_or}
+use Rattle.lfs_staging.specs.View.{key_of, record_of, root_in, tree_of, version_of, waiting_in}
 use Rattle.std.proofs.lemmas.Bool.{cond-true}
 use Rattle.lfs_staging.specs.Waiting.{without}
 use Rattle.lfs_staging.proofs.HeldLemmas.{gains_none}
 use Rattle.lfs_staging.proofs.WaitingLemmas.{waiting-head, waiting-staged}
 use Rattle.lfs_staging.proofs.ViewLemmas.{code_at-way_to, record_of-waiting}
+use Rattle.lfs_staging.proofs.SettingLemmas.{record_same}
 
 -- ---- records
--- a record is the same where the log and what waits of the number are
-pub record_of-same : (old new : Parts) (n : ℕ) → new.log ≡ old.log → waiting_in new.waiting n ≡ waiting_in old.waiting n → record_of new n ≡ record_of old n
-unfolding record_of
-record_of-same old new n log waits =
-    ap (λ (l : LogParts). option_and_then (λ (place : InodePlace). waiting_or (waiting_in new.waiting n) (fields_at l.memory place)) (place_of l.tables n)) log
-    ∙ ap (λ w. option_and_then (λ (place : InodePlace). waiting_or w (fields_at old.log.memory place)) (place_of old.log.tables n)) waits
-
 pub version-same : (old new : Parts) (n : ℕ) → new.log ≡ old.log → version_of new n ≡ version_of old n
 version-same old new n log = ap (λ (l : LogParts). (row_of l.tables n).version) log
 
@@ -103,7 +96,7 @@ staged_record old new v log cache waiting used = record {
   here =
       let now : (row_of new.log.tables v.number).used ≡ true = ap (λ (l : LogParts). (row_of l.tables v.number).used) log ∙ used in
       record_of-waiting new v.number _ v (used_place new v.number now) (ap (λ vs. waiting_in vs v.number) waiting ∙ waiting-head v (without v.number old.waiting) v.number refl);
-  others = λ n other. record_of-same old new n log (ap (λ vs. waiting_in vs n) waiting ∙ waiting-staged v old.waiting n other);
+  others = λ n other. record_same old new n log (ap (λ vs. waiting_in vs n) waiting ∙ waiting-staged v old.waiting n other);
 }
 
 -- ---- a block
@@ -119,7 +112,7 @@ staged_block old new number version lbn block bytes can at code log waiting here
     = subst (λ k. block_in k new.cache.locked ≡ Some bytes) key here in
     let gained : GainsOnly (key_of number (version_of old number) (code_of block)) old.cache new.cache
     = subst (λ k. GainsOnly k old.cache new.cache) key gains in
-    let records : (n : ℕ) → record_of new n ≡ record_of old n = λ n. record_of-same old new n log (ap (λ vs. waiting_in vs n) waiting) in
+    let records : (n : ℕ) → record_of new n ≡ record_of old n = λ n. record_same old new n log (ap (λ vs. waiting_in vs n) waiting) in
     record {
       log = log;
       waiting = waiting;

@@ -1,5 +1,5 @@
 -- A number that is taken back.
-use Rattle.std.proofs.Common.{◌≡◌, ◌≢◌, ℕ, ◌+◌, ◌*◌, ◌/◌, ◌<◌, ◌≤◌, List, [], ◌∷◌, All, length, Option, None, Some, IsSome, true, refl, sym, ap, ◌∙◌, subst, inl, inr, arith}
+use Rattle.std.proofs.Common.{◌≡◌, ◌≢◌, ℕ, ◌+◌, ◌*◌, ◌/◌, ◌<◌, ◌≤◌, List, [], ◌∷◌, All, length, Option, None, Some, true, refl, sym, ap, ◌∙◌, subst, inl, inr, arith}
 use Rattle.std.specs.Prelude.{slice_index}
 use Rattle.std.specs.Cmp.{nat_cmp_total}
 use Rattle.std.specs.FinMap as map
@@ -38,11 +38,12 @@ use Rattle.lfs_staging.specs.Store.{AreFiles, IsPresent}
 use Rattle.lfs_staging.specs.View.{key_of, record_of, root_in, tree_of, version_of, waiting_in}
 use Rattle.lfs_staging.specs.Waiting.{AreOnce, without}
 use Rattle.lfs_staging.proofs.FileLemmas.{file_at-none, free_place, get-content_of}
-use Rattle.lfs_staging.proofs.KeyLemmas.{place-record}
+use Rattle.lfs_staging.proofs.KeyLemmas.{place-record, placed_at}
 use Rattle.lfs_staging.proofs.MakingLemmas.{all_nowhere, block_nowhere, files_still, log_still, none_addressed, other_file, other_present, staged_still, stays_in_log}
 use Rattle.lfs_staging.proofs.ViewLemmas.{record_of-unused}
 use Rattle.lfs_staging.proofs.WaitingLemmas.{all_without, length-without, once_without, waiting-tail, waiting-head, waiting-without}
 use Rattle.lfs_bmap.specs.Blocks.{code_of}
+use Rattle.lfs_staging.proofs.ClearingLemmas.{some_fields}
 
 -- ---- what waits of the other numbers
 apart_none : (vs : List Inode) (number : ℕ) → waiting_in vs number ≡ None → All (λ (w : Inode). w.number ≢ number) vs
@@ -62,20 +63,11 @@ apart_without (v ∷ vs) number once = elim (cases_eq v.number number) [
       (All-cons (λ (w : Inode). w.number ≢ number) v (without number vs) ne (apart_without vs number once.1))
 ]
 
--- the place of a record that has an address
-placed_at : (t : Tables) (number : ℕ) → (row_of t number).address ≢ 0 → record_place t number ≡ 4 * (row_of t number).address + (row_of t number).slot
-unfolding record_place
-placed_at t number some = cond-false _ _ _ (ne_eqb (row_of t number).address 0 some)
-
-there : (o : Option Fields) → IsSome o → (f : Fields) × (o ≡ Some f)
-there None h = absurd (false≢true h)
-there (Some f) h = (f, refl)
-
 -- ---- an empty file has no block
 module _ (p : Parts) (number : ℕ) (staged : IsStaged p 0) (low : number < length p.log.tables.rows) (used : (row_of p.log.tables number).used ≡ true)
     (empty : (f : Fields) → record_of p number ≡ Some f → f.attributes.size ≡ 0) where
   has_record : (f : Fields) × (record_of p number ≡ Some f)
-  has_record = there (record_of p number) (staged.whole.recorded number used)
+  has_record = some_fields (record_of p number) (staged.whole.recorded number used)
 
   no_frame : (key : Key) → IsLocked key p.cache → key.ino ≢ number
   no_frame key locked is =

@@ -22,6 +22,7 @@ use Rattle.lfs_bmap.specs.declared.blocks.FileBlock.TheVariants.{Record, Single,
 use Rattle.lfs_bmap.proofs.WayLemmas.{code_at-data}
 use Rattle.lfs_staging.specs.declared.parts.Parts.{Parts}
 use Rattle.lfs_staging.specs.View.{record_of, fields_at, waiting_in, waiting_or, key_of, tree_from}
+use Rattle.lfs_cache.proofs.Named.{none_of}
 
 -- the code at the end of a block's way is the block's
 pub code_at-way_to : (block : FileBlock) → code_at (way_to block) ≡ code_of block
@@ -38,21 +39,21 @@ unfolding record_of
 record_of-unused p number h =
     ap (option_and_then (λ (place : InodePlace). waiting_or (waiting_in p.waiting number) (fields_at p.log.memory place))) h
 
--- one in use has the record that waits
+-- one in use has the record that waits, or else the one in the log
+pub record_of-at : (p : Parts) (number : ℕ) (place : InodePlace) → place_of p.log.tables number ≡ Some place
+    → record_of p number ≡ waiting_or (waiting_in p.waiting number) (fields_at p.log.memory place)
+unfolding record_of
+record_of-at p number place used = ap (option_and_then (λ (place : InodePlace). waiting_or (waiting_in p.waiting number) (fields_at p.log.memory place))) used
+
+-- the one that waits, where one does
 pub record_of-waiting : (p : Parts) (number : ℕ) (place : InodePlace) (v : Inode) → place_of p.log.tables number ≡ Some place
     → waiting_in p.waiting number ≡ Some v → record_of p number ≡ Some (fields_of v)
-unfolding record_of
-record_of-waiting p number place v used waits =
-    ap (option_and_then (λ (place : InodePlace). waiting_or (waiting_in p.waiting number) (fields_at p.log.memory place))) used
-    ∙ ap (λ w. waiting_or w (fields_at p.log.memory place)) waits
+record_of-waiting p number place v used waits = record_of-at p number place used ∙ ap (λ w. waiting_or w (fields_at p.log.memory place)) waits
 
 -- or else the one in the log
 pub record_of-logged : (p : Parts) (number : ℕ) (place : InodePlace) → place_of p.log.tables number ≡ Some place
     → waiting_in p.waiting number ≡ None → record_of p number ≡ fields_at p.log.memory place
-unfolding record_of
-record_of-logged p number place used waits =
-    ap (option_and_then (λ (place : InodePlace). waiting_or (waiting_in p.waiting number) (fields_at p.log.memory place))) used
-    ∙ ap (λ w. waiting_or w (fields_at p.log.memory place)) waits
+record_of-logged p number place used waits = record_of-at p number place used ∙ ap (λ w. waiting_or w (fields_at p.log.memory place)) waits
 
 -- what waits for a block of a file
 pub tree_dirty : (p : Parts) (v : Inode) (block : FileBlock) (lbn : ℕ) (o : Option (List ℕ)) → lbn ≡ code_of block
@@ -60,11 +61,6 @@ pub tree_dirty : (p : Parts) (v : Inode) (block : FileBlock) (lbn : ℕ) (o : Op
 tree_dirty p v block lbn o code held =
     let same : code_at (way_to block) ≡ lbn = code_at-way_to block ∙ sym code in
     ap (λ k. block_in (key_of v.number v.version k) p.cache.locked) same ∙ sym held
-
--- what isn't there
-pub no_some : {A : Type 0} (o : Option A) → ((x : A) → o ≡ Some x → ⊥) → o ≡ None
-no_some None h = refl
-no_some (Some x) h = absurd (h x refl)
 
 -- the address of a block stands in the record
 pub root_cell : (p : Parts) (v : Inode) (i : ℕ) → address (tree_from p v) (i ∷ []) ≡ slice_index (addresses v) i
@@ -102,7 +98,7 @@ all_zeros t root waits way =
 
 -- ---- what waits
 pub not_locked : (key : Key) (c : Contents) → (IsLocked key c → ⊥) → block_in key c.locked ≡ None
-not_locked key c free = no_some (block_in key c.locked) (λ b e. free (ap is_some e))
+not_locked key c free = none_of (block_in key c.locked) (λ b e. free (ap is_some e))
 
 -- the record of a number rests on the blocks of the log, on the number's row and on what waits for it
 pub record_like : (p q : Parts) (number : ℕ) → q.log.memory ≡ p.log.memory → q.log.tables.rows ≡ p.log.tables.rows

@@ -3,11 +3,12 @@ use Rattle.lfs_cache.specs.Contents.{Contents}
 use Rattle.lfs_types.specs.declared.store.Change.{Change}
 use Rattle.lfs_bmap.specs.Reading.{address}
 use Rattle.lfs_segwrite.specs.Applying.{StagesChange}
-use Rattle.lfs_segwrite.proofs.AskedLemmas.{kind_same, length_sized, may_change, none_free, shown_used, some_from, used_within}
+use Rattle.lfs_segwrite.proofs.AskedLemmas.{kind_same, length_sized, may_change, none_free, shown_used, some_from}
 use Rattle.lfs_ifile.specs.declared.inode.InodeRow.{InodeRow}
 use Rattle.lfs_ifile.specs.Tables.{row_at}
 use Rattle.lfs_staging.proofs.StagingLemmas.{version-same}
 use Rattle.lfs_staging.proofs.StagedLemmas.{stays_same}
+use Rattle.lfs_staging.proofs.ForgettingLemmas.{used_low}
 use Rattle.lfs_segwrite.proofs.applying.stage_change.Goals as goal
 
 pub make-requires-clause-free : goal.make-requires-clause-free
@@ -18,7 +19,7 @@ pub remove-requires-clause-in_range : goal.remove-requires-clause-in_range
 remove-requires-clause-in_range c =
     let can = rw c.in-Remove.is at c.requires.can in
     let p = c.args.parts.now in
-    used_within p c.in-Remove.ino (shown_used p c.in-Remove.ino can)
+    used_low p c.in-Remove.ino (shown_used p c.in-Remove.ino can)
 
 pub remove-requires-clause-in_use : goal.remove-requires-clause-in_use
 remove-requires-clause-in_use c =
@@ -38,7 +39,7 @@ pub set_length-requires-clause-in_range : goal.set_length-requires-clause-in_ran
 set_length-requires-clause-in_range c =
     let can = rw c.in-SetLength.is at c.requires.can in
     let p = c.args.parts.now in
-    used_within p c.in-SetLength.ino (shown_used p c.in-SetLength.ino (some_from _ _ can))
+    used_low p c.in-SetLength.ino (shown_used p c.in-SetLength.ino (some_from _ _ can))
 
 pub set_length-requires-clause-in_use : goal.set_length-requires-clause-in_use
 set_length-requires-clause-in_use c =

@@ -6,9 +6,10 @@ use Rattle.lfs_bmap.specs.Reading.{address, read}
 use Rattle.lfs_staging.specs.Staging.{StagesBlock}
 use Rattle.lfs_staging.specs.View.{blocks_of, key_of, tree_of}
 use Rattle.lfs_staging.proofs.FileLemmas.{tree_from-of}
-use Rattle.lfs_staging.proofs.KeptLemmas.{block_known, may_present, present_kept, table_again}
+use Rattle.lfs_staging.proofs.KeptLemmas.{block_known, may_present, table_again}
 use Rattle.lfs_staging.proofs.StagingLemmas.{version-same}
 use Rattle.lfs_staging.proofs.TakenLemmas.{block_room, frames_above}
+use Rattle.lfs_staging.proofs.SettingLemmas.{present_kept}
 use Rattle.lfs_segwrite.proofs.marking.stage_moved.Goals as goal
 
 pub bytes_to_move-bytes-requires-clause-inside : goal.bytes_to_move-bytes-requires-clause-inside

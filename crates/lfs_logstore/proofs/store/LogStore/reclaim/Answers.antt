@@ -1,6 +1,7 @@
 use Rattle.std.proofs.Common.{sym, subst}
 use Rattle.lfs_logstore.specs.Cleaning.{HasLive, IsReclaimed}
-use Rattle.lfs_logstore.proofs.ReclaimLemmas.{cleaned, with_log}
+use Rattle.lfs_logstore.proofs.ReclaimLemmas.{cleaned}
+use Rattle.lfs_segwrite.proofs.RoomLemmas.{with_log}
 use Rattle.lfs_logstore.proofs.store.LogStore.reclaim.Goals as goal
 
 pub invariant_of-self : goal.invariant_of-self

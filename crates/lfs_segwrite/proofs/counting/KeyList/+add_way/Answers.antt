@@ -1,11 +1,10 @@
 use Rattle.std.proofs.Common.{◌≡◌, ◌≢◌, [], ◌∷◌, List, ℕ, map, sym, ap, ◌∙◌, subst, arith}
 use Rattle.lfs_bmap.specs.Blocks.{code_of, way_to}
 use Rattle.lfs_bmap.specs.Ways.{codes_on}
-use Rattle.lfs_bmap.proofs.HolderLemmas.{codes_on-block}
+use Rattle.lfs_bmap.proofs.HolderLemmas.{codes_on-block, codes_on-none}
 use Rattle.lfs_staging.specs.View.{key_of}
 use Rattle.lfs_segwrite.specs.Counting.{AddsKeys}
 use Rattle.lfs_segwrite.proofs.CountingLemmas.{adds_both, adds_none}
-use Rattle.lfs_segwrite.proofs.NamedLemmas.{codes-record}
 use Rattle.lfs_segwrite.proofs.counting.KeyList.+add_way.Goals as goal
 
 -- the block's key, and then those of what leads to it
@@ -24,4 +23,4 @@ returns-in-Some t c =
 -- nothing leads to a record
 pub returns-in_default : goal.returns-in_default
 returns-in_default t c =
-    subst (λ (cs : List ℕ). AddsKeys (map (key_of c.args.ino c.args.version) cs) c.args.self.now c.args.self.now) (sym (ap codes_on c.in_default.ensures.way ∙ codes-record)) (adds_none c.args.self.now)
+    subst (λ (cs : List ℕ). AddsKeys (map (key_of c.args.ino c.args.version) cs) c.args.self.now c.args.self.now) (sym (ap codes_on c.in_default.ensures.way ∙ codes_on-none)) (adds_none c.args.self.now)

@@ -11,7 +11,7 @@ use Rattle.lfs_staging.specs.View.{LiesIn, blocks_of, record_of, tree_of}
 use Rattle.lfs_staging.proofs.FileLemmas.{bytes_of-none, bytes_of-record, given_record, record_of-past, record_used}
 use Rattle.lfs_staging.proofs.KeyLemmas.{lies_in}
 use Rattle.lfs_staging.proofs.ReadLemmas.{read_front, read_past}
-use Rattle.lfs_staging.proofs.ViewLemmas.{no_some}
+use Rattle.lfs_cache.proofs.Named.{none_of}
 use Rattle.lfs_staging.proofs.parts.Parts.read.Goals as goal
 
 pub returns-then-ino-inodes-clause-reads : goal.returns-then-ino-inodes-clause-reads
@@ -23,7 +23,7 @@ returns-then-ino-inodes-clause-reads c =
 pub returns-in_default-clause-reads : goal.returns-in_default-clause-reads
 returns-in_default-clause-reads c =
     let p = c.args.self.now in
-    let none = sym c.record.ensures ∙ ap (option_map fields_of) (no_some c.record.result c.in_default.not-Some) in
+    let none = sym c.record.ensures ∙ ap (option_map fields_of) (none_of c.record.result c.in_default.not-Some) in
     let empty = bytes_of-none p c.args.ino none in
     read_past (bytes_of (content_of p) c.args.ino) c.args.off c.args.into.now (omega (arith, ap length empty))
 

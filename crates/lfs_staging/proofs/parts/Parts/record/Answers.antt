@@ -1,7 +1,8 @@
 use Rattle.std.proofs.Common.{option_map, sym, ap, ◌∙◌}
 use Rattle.lfs_inodes.specs.Reading.{fields_of, fields_in}
 use Rattle.lfs_inodes.specs.Slots.{slot_of}
-use Rattle.lfs_staging.proofs.ViewLemmas.{record_of-unused, record_of-waiting, record_of-logged, no_some}
+use Rattle.lfs_staging.proofs.ViewLemmas.{record_of-unused, record_of-waiting, record_of-logged}
+use Rattle.lfs_cache.proofs.Named.{none_of}
 use Rattle.lfs_staging.proofs.parts.Parts.record.Goals as goal
 
 pub returns-in_err-place : goal.returns-in_err-place
@@ -17,6 +18,6 @@ returns-in-Some c =
 pub returns : goal.returns
 returns c =
     let used = sym c.place.ensures.place ∙ c.in_ok-place.was in
-    let none = sym c.waiting.ensures ∙ no_some c.waiting.result c.in_default.not-Some in
+    let none = sym c.waiting.ensures ∙ none_of c.waiting.result c.in_default.not-Some in
     c.inode_in.ensures.reading ∙ ap (λ b. fields_in (slot_of b c.in_ok-place.place.slot)) c.block.ensures.block
     ∙ sym (record_of-logged c.args.self.now c.args.ino c.in_ok-place.place used none)

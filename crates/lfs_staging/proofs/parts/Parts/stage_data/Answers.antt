@@ -4,7 +4,8 @@ use Rattle.lfs_bmap.specs.declared.blocks.FileBlock.TheVariants.{Data}
 use Rattle.lfs_staging.specs.View.{key_of}
 use Rattle.lfs_staging.proofs.StagingLemmas.{version-same}
 use Rattle.lfs_staging.proofs.TakenLemmas.{block_room, frames_above}
-use Rattle.lfs_staging.proofs.KeptLemmas.{data_again, data_kept, may_present, present_kept, staged_data}
+use Rattle.lfs_staging.proofs.KeptLemmas.{data_again, data_kept, may_present, staged_data}
+use Rattle.lfs_staging.proofs.SettingLemmas.{present_kept}
 use Rattle.lfs_staging.proofs.parts.Parts.stage_data.Goals as goal
 
 pub stage_block-requires-clause-version : goal.stage_block-requires-clause-version
