@@ -112,9 +112,7 @@ fn land_waiting(parts: &mut Parts, number: u32, block: FileBlock)
     ensures waiting { length parts.new.waiting ≡ length parts.old.waiting }
     ensures next { next_address parts.new.log.memory ≡ next_address parts.old.log.memory + 1 }
 {
-    let Some(inode) = parts.waiting(number) else {
-        unreachable!()
-    };
+    let inode = parts.record_in_use(number);
     land_block(parts, &inode, block);
 }
 

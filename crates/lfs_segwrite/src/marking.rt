@@ -185,9 +185,7 @@ fn stage_info(parts: &mut Parts, info: &BlockInfo)
     ensures staged { IsStaged parts.new 0 }
     ensures again { StagesAgain info.now.ino (code_named info.now.lbn) parts.old parts.new }
 {
-    let Some(inode) = parts.record(info.ino) else {
-        unreachable!()
-    };
+    let inode = parts.record_in_use(info.ino);
     match FileBlock::from_code(code_named(info.lbn)) {
         Some(block) => stage_again(parts, &inode, block, info.addr),
         None => unreachable!(),

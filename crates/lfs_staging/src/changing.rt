@@ -37,9 +37,7 @@ impl Parts {
         // What holds in the middle of a call is kept.
         ensures kept { (spare : ℕ) → IsStaged self.old spare → IsStaged self.new spare }
     {
-        let Some(inode) = self.record(ino) else {
-            unreachable!()
-        };
+        let inode = self.record_in_use(ino);
         let inode = self.grow(&inode, off + bytes.len() as u64);
         self.put_blocks(&inode, off, bytes);
     }
@@ -57,9 +55,7 @@ impl Parts {
         // What holds in the middle of a call is kept.
         ensures kept { (spare : ℕ) → IsStaged self.old spare → IsStaged self.new spare }
     {
-        let Some(inode) = self.record(ino) else {
-            unreachable!()
-        };
+        let inode = self.record_in_use(ino);
         let changed = inode.with_attrs(attrs);
         self.stage_record(changed);
     }

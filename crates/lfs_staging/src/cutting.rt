@@ -50,9 +50,7 @@ impl Parts {
         // No more records of other numbers wait than records waited.
         ensures others { length (without ino self.new.waiting) ≤ length self.old.waiting }
     {
-        let Some(inode) = self.record(ino) else {
-            unreachable!()
-        };
+        let inode = self.record_in_use(ino);
         if len < inode.size {
             self.cut(&inode, len);
         } else {
@@ -82,9 +80,7 @@ impl Parts {
         requires { MayClear self.old ino block }
         ensures { ClearsBlock ino block self.old self.new }
     {
-        let Some(inode) = self.waiting(ino) else {
-            unreachable!()
-        };
+        let inode = self.record_in_use(ino);
         self.clear(&inode, block);
     }
 
@@ -128,9 +124,7 @@ impl Parts {
         requires ordered { first_under table ≤ end }
         ensures { ClearsTable ino table end self.old self.new }
     {
-        let Some(inode) = self.waiting(ino) else {
-            unreachable!()
-        };
+        let inode = self.record_in_use(ino);
         self.clear_whole(&inode, table, end);
     }
 
@@ -150,9 +144,7 @@ impl Parts {
         requires { MayDrop self.old ino table left blocks }
         ensures { DropsTable ino table left self.old self.new }
     {
-        let Some(inode) = self.waiting(ino) else {
-            unreachable!()
-        };
+        let inode = self.record_in_use(ino);
         let run = table.data_run();
         if run.start < left && run.end <= left {
             return;
@@ -227,9 +219,7 @@ impl Parts {
         requires { MayShorten self.old ino len }
         ensures { Shortens ino len self.old self.new }
     {
-        let Some(inode) = self.waiting(ino) else {
-            unreachable!()
-        };
+        let inode = self.record_in_use(ino);
         self.stage_record(inode.cut(len));
     }
 

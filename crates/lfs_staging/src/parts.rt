@@ -1,8 +1,10 @@
 //! The parts of a log store.
 
-ghost use Rattle.std.specs.Prelude.{◌≡◌, ◌<◌, length, option_map};
+ghost use Rattle.std.specs.Prelude.{◌≡◌, ◌<◌, IsSome, Some, length, option_map, true};
+ghost use Rattle.lfs_ifile.specs.Tables.{row_of};
 ghost use Rattle.lfs_inodes.specs.Reading.{fields_of};
 ghost use Rattle.lfs_bmap.specs.Blocks.{IsFileBlock, code_of};
+ghost use Rattle.lfs_staging.specs.Store.{AreFiles};
 ghost use Rattle.lfs_staging.specs.View.{key_of, record_of, waiting_in};
 
 use crate::records::Records;
@@ -47,12 +49,29 @@ impl Parts {
     /// The record of a number in use: the one that waits to be written, else the one in the log.
     pub fn record(&self, ino: u32) -> Option<Inode>
         requires in_range { ino < length self.now.log.tables.rows }
-        ensures { option_map fields_of result ≡ record_of self.now ino }
+        ensures shown { option_map fields_of result ≡ record_of self.now ino }
+        ensures waits { (row_of self.now.log.tables ino).used ≡ true
+            → IsSome (waiting_in self.now.waiting ino) → result ≡ waiting_in self.now.waiting ino }
     {
         let place = self.log.place(ino)?;
         if let Some(inode) = self.waiting(ino) {
             return Some(inode);
         }
         inode_in(self.log.block(place.addr), place.slot as usize)
+    }
+
+    /// The record of a number, which must be in use: the one that waits to be written, else the one in
+    /// the log.
+    pub fn record_in_use(&self, ino: u32) -> Inode
+        requires files { AreFiles self.now }
+        requires in_use { (row_of self.now.log.tables ino).used ≡ true }
+        ensures here { record_of self.now ino ≡ Some (fields_of result) }
+        ensures waits { IsSome (waiting_in self.now.waiting ino)
+            → waiting_in self.now.waiting ino ≡ Some result }
+    {
+        match self.record(ino) {
+            Some(inode) => inode,
+            None => unreachable!(),
+        }
     }
 }

@@ -11,7 +11,7 @@ pub address_of-requires-clause-inside : goal.address_of-requires-clause-inside
 address_of-requires-clause-inside c =
     let p = c.args.self.now in
     let v = c.in-Some.inode in
-    let has = given_record p c.args.ino c.record.result v c.record.ensures c.in-Some.is in
+    let has = given_record p c.args.ino c.record.result v c.record.ensures.shown c.in-Some.is in
     let same = tree_from-of p c.args.ino v has (c.requires.store.whole.files c.args.ino (fields_of v) has) in
     subst (LiesIn (blocks_of p)) (sym same) (lies_in p c.args.ino 0 c.requires.in_range c.requires.store.whole.parts.laid_out c.requires.store.log)
 
@@ -19,6 +19,6 @@ pub returns-in-Some : goal.returns-in-Some
 returns-in-Some c =
     let p = c.args.self.now in
     let v = c.in-Some.inode in
-    let has = given_record p c.args.ino c.record.result v c.record.ensures c.in-Some.is in
+    let has = given_record p c.args.ino c.record.result v c.record.ensures.shown c.in-Some.is in
     let same = tree_from-of p c.args.ino v has (c.requires.store.whole.files c.args.ino (fields_of v) has) in
     c.address_of.ensures ∙ ap (λ t. address t (way_to c.args.block)) same

@@ -9,14 +9,14 @@ returns-then-ino-inodes c =
 
 pub returns-in_err-record : goal.returns-in_err-record
 returns-in_err-record c =
-    let none = sym c.record.ensures ∙ ap (λ o. option_map fields_of o) c.in_err-record.was in
+    let none = sym c.record.ensures.shown ∙ ap (λ o. option_map fields_of o) c.in_err-record.was in
     c.from_residual.ensures ∙ sym (shown-none c.args.self.now c.args.ino none)
 
 pub returns : goal.returns
 returns c =
     let p = c.args.self.now in
     let v = c.in_ok-record.field-0 in
-    let has = given_record p c.args.ino c.record.result v c.record.ensures c.in_ok-record.was in
+    let has = given_record p c.args.ino c.record.result v c.record.ensures.shown c.in_ok-record.was in
     ap Some c.attrs.ensures ∙ sym (shown-record p c.args.ino (fields_of v) has (c.requires.whole.files c.args.ino (fields_of v) has))
 
 pub record-requires : goal.record-requires

@@ -20,29 +20,29 @@ returns-then-run-left-2 c =
 
 pub is_gone-requires-clause-may : goal.is_gone-requires-clause-may
 is_gone-requires-clause-may c =
-    waiting_may c.args.self.now c.args.ino c.in-Some.inode c.requires.staged c.requires.in_use (sym c.waiting.ensures ∙ c.in-Some.is)
+    waiting_may c.args.self.now c.args.ino c.record_in_use-inode.result c.requires.staged c.requires.in_use (c.record_in_use-inode.ensures.waits c.requires.waits)
 
 pub returns-then-is_gone : goal.returns-then-is_gone
 returns-then-is_gone c =
     let p = c.args.self.now in
-    let same = waiting_number p.waiting c.args.ino c.in-Some.inode (sym c.waiting.ensures ∙ c.in-Some.is) in
+    let same = waiting_number p.waiting c.args.ino c.record_in_use-inode.result (c.record_in_use-inode.ensures.waits c.requires.waits) in
     drop_hole p c.args.ino c.args.left c.args.blocks c.args.table c.requires
     (subst (λ n. IsGone p n (way_to c.args.table)) same (c.is_gone.ensures.0 c.if-is_gone.true))
 
 pub stage_with_parents-requires-clause-may : goal.stage_with_parents-requires-clause-may
 stage_with_parents-requires-clause-may c =
-    waiting_may c.args.self.now c.args.ino c.in-Some.inode c.requires.staged c.requires.in_use (sym c.waiting.ensures ∙ c.in-Some.is)
+    waiting_may c.args.self.now c.args.ino c.record_in_use-inode.result c.requires.staged c.requires.in_use (c.record_in_use-inode.ensures.waits c.requires.waits)
 
 pub stage_with_parents-requires-clause-room : goal.stage_with_parents-requires-clause-room
 stage_with_parents-requires-clause-room c =
     let p = c.args.self.now in
-    let same = waiting_number p.waiting c.args.ino c.in-Some.inode (sym c.waiting.ensures ∙ c.in-Some.is) in
+    let same = waiting_number p.waiting c.args.ino c.record_in_use-inode.result (c.record_in_use-inode.ensures.waits c.requires.waits) in
     subst (λ n. HasFrames p n (codes_on (way_to c.args.table))) (sym same) c.requires.frames
 
 pub clear_table-requires-clause-may : goal.clear_table-requires-clause-may
 clear_table-requires-clause-may c =
-    let p = c.args.self.now in let b = c.stage_with_parents.new.self in let v = c.in-Some.inode in let t = c.args.table in
-    let waits = sym c.waiting.ensures ∙ c.in-Some.is in
+    let p = c.args.self.now in let b = c.stage_with_parents.new.self in let v = c.record_in_use-inode.result in let t = c.args.table in
+    let waits = c.record_in_use-inode.ensures.waits c.requires.waits in
     let same = waiting_number p.waiting c.args.ino v waits in
     let may = subst (λ n. MayDrop p n t c.args.left c.args.blocks) (sym same) c.requires in
     let stage = waiting_may p c.args.ino v c.requires.staged c.requires.in_use waits in
@@ -58,8 +58,8 @@ clear_table-requires-clause-may c =
 
 pub clear_table-requires-clause-ordered : goal.clear_table-requires-clause-ordered
 clear_table-requires-clause-ordered c =
-    let p = c.args.self.now in let b = c.stage_with_parents.new.self in let v = c.in-Some.inode in let t = c.args.table in
-    let waits = sym c.waiting.ensures ∙ c.in-Some.is in
+    let p = c.args.self.now in let b = c.stage_with_parents.new.self in let v = c.record_in_use-inode.result in let t = c.args.table in
+    let waits = c.record_in_use-inode.ensures.waits c.requires.waits in
     let same = waiting_number p.waiting c.args.ino v waits in
     let may = subst (λ n. MayDrop p n t c.args.left c.args.blocks) (sym same) c.requires in
     let stage = waiting_may p c.args.ino v c.requires.staged c.requires.in_use waits in
@@ -73,8 +73,8 @@ clear_table-requires-clause-ordered c =
 
 pub returns-then-left-run : goal.returns-then-left-run
 returns-then-left-run c =
-    let p = c.args.self.now in let b = c.stage_with_parents.new.self in let v = c.in-Some.inode in let t = c.args.table in
-    let waits = sym c.waiting.ensures ∙ c.in-Some.is in
+    let p = c.args.self.now in let b = c.stage_with_parents.new.self in let v = c.record_in_use-inode.result in let t = c.args.table in
+    let waits = c.record_in_use-inode.ensures.waits c.requires.waits in
     let same = waiting_number p.waiting c.args.ino v waits in
     let may = subst (λ n. MayDrop p n t c.args.left c.args.blocks) (sym same) c.requires in
     let stage = waiting_may p c.args.ino v c.requires.staged c.requires.in_use waits in
@@ -91,8 +91,8 @@ returns-then-left-run c =
 
 pub clear_blocks-requires-clause-may : goal.clear_blocks-requires-clause-may
 clear_blocks-requires-clause-may c =
-    let p = c.args.self.now in let b = c.stage_with_parents.new.self in let v = c.in-Some.inode in let t = c.args.table in
-    let waits = sym c.waiting.ensures ∙ c.in-Some.is in
+    let p = c.args.self.now in let b = c.stage_with_parents.new.self in let v = c.record_in_use-inode.result in let t = c.args.table in
+    let waits = c.record_in_use-inode.ensures.waits c.requires.waits in
     let same = waiting_number p.waiting c.args.ino v waits in
     let may = subst (λ n. MayDrop p n t c.args.left c.args.blocks) (sym same) c.requires in
     let stage = waiting_may p c.args.ino v c.requires.staged c.requires.in_use waits in
@@ -107,8 +107,8 @@ clear_blocks-requires-clause-may c =
 
 pub clear_blocks-requires-clause-ordered : goal.clear_blocks-requires-clause-ordered
 clear_blocks-requires-clause-ordered c =
-    let p = c.args.self.now in let b = c.stage_with_parents.new.self in let v = c.in-Some.inode in let t = c.args.table in
-    let waits = sym c.waiting.ensures ∙ c.in-Some.is in
+    let p = c.args.self.now in let b = c.stage_with_parents.new.self in let v = c.record_in_use-inode.result in let t = c.args.table in
+    let waits = c.record_in_use-inode.ensures.waits c.requires.waits in
     let same = waiting_number p.waiting c.args.ino v waits in
     let may = subst (λ n. MayDrop p n t c.args.left c.args.blocks) (sym same) c.requires in
     let stage = waiting_may p c.args.ino v c.requires.staged c.requires.in_use waits in
@@ -123,8 +123,8 @@ clear_blocks-requires-clause-ordered c =
 
 pub returns-else-left-run : goal.returns-else-left-run
 returns-else-left-run c =
-    let p = c.args.self.now in let b = c.stage_with_parents.new.self in let v = c.in-Some.inode in let t = c.args.table in
-    let waits = sym c.waiting.ensures ∙ c.in-Some.is in
+    let p = c.args.self.now in let b = c.stage_with_parents.new.self in let v = c.record_in_use-inode.result in let t = c.args.table in
+    let waits = c.record_in_use-inode.ensures.waits c.requires.waits in
     let same = waiting_number p.waiting c.args.ino v waits in
     let may = subst (λ n. MayDrop p n t c.args.left c.args.blocks) (sym same) c.requires in
     let stage = waiting_may p c.args.ino v c.requires.staged c.requires.in_use waits in

@@ -2,27 +2,23 @@ use Rattle.std.proofs.Common.{◌≡◌, length, ap, ◌∙◌, subst, arith}
 use Rattle.lfs_cache.specs.Contents.{Contents}
 use Rattle.lfs_bmap.specs.Reading.{address}
 use Rattle.lfs_inodes.specs.Reading.{fields_of}
-use Rattle.lfs_staging.proofs.FileLemmas.{given_record}
 use Rattle.lfs_staging.specs.Waiting.{without}
 use Rattle.lfs_staging.proofs.GrowthLemmas.{may_from, one_record, put_shown}
 use Rattle.lfs_staging.proofs.parts.Parts.put.Goals as goal
 
 pub grow-inode-requires-clause-may : goal.grow-inode-requires-clause-may
 grow-inode-requires-clause-may c =
-    let p = c.args.self.now in
-    may_from p c.in-Some.inode c.args.ino c.requires.may
-    (given_record p c.args.ino c.record.result c.in-Some.inode c.record.ensures c.in-Some.is)
+    may_from c.args.self.now c.record_in_use-inode.result c.args.ino c.requires.may c.record_in_use-inode.ensures.here
 
 pub grow-inode-requires-clause-sized : goal.grow-inode-requires-clause-sized
 grow-inode-requires-clause-sized c =
-    c.requires.fits.sized (fields_of c.in-Some.inode)
-    (given_record c.args.self.now c.args.ino c.record.result c.in-Some.inode c.record.ensures c.in-Some.is)
+    c.requires.fits.sized (fields_of c.record_in_use-inode.result) c.record_in_use-inode.ensures.here
 
 pub returns-clause-content : goal.returns-clause-content
 returns-clause-content c =
     let p = c.args.self.now in
-    put_shown p c.grow-inode.new.self c.put_blocks.new.self c.in-Some.inode c.grow-inode.result c.args.ino c.args.off c.args.bytes.now c.requires.may c.requires.fits.some
-    (given_record p c.args.ino c.record.result c.in-Some.inode c.record.ensures c.in-Some.is) c.grow-inode.ensures c.put_blocks.ensures
+    put_shown p c.grow-inode.new.self c.put_blocks.new.self c.record_in_use-inode.result c.grow-inode.result c.args.ino c.args.off c.args.bytes.now c.requires.may c.requires.fits.some
+    c.record_in_use-inode.ensures.here c.grow-inode.ensures c.put_blocks.ensures
 
 pub returns-clause-kept : goal.returns-clause-kept
 returns-clause-kept c = λ spare staged. c.put_blocks.ensures.kept spare (c.grow-inode.ensures.kept spare staged)
@@ -37,7 +33,7 @@ returns-clause-frames c =
 
 pub returns-clause-waiting : goal.returns-clause-waiting
 returns-clause-waiting c =
-    let v = c.in-Some.inode in
+    let v = c.record_in_use-inode.result in
     one_record c.args.self.now c.put_blocks.new.self v.number
     (subst (λ n. without n c.put_blocks.new.self.waiting ≡ without n c.grow-inode.new.self.waiting) c.grow-inode.ensures.number c.put_blocks.ensures.waiting
     ∙ c.grow-inode.ensures.room)

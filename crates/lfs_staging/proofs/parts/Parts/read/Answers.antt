@@ -23,7 +23,7 @@ returns-then-ino-inodes-clause-reads c =
 pub returns-in_default-clause-reads : goal.returns-in_default-clause-reads
 returns-in_default-clause-reads c =
     let p = c.args.self.now in
-    let none = sym c.record.ensures ∙ ap (option_map fields_of) (none_of c.record.result c.in_default.not-Some) in
+    let none = sym c.record.ensures.shown ∙ ap (option_map fields_of) (none_of c.record.result c.in_default.not-Some) in
     let empty = bytes_of-none p c.args.ino none in
     read_past (bytes_of (content_of p) c.args.ino) c.args.off c.args.into.now (omega (arith, ap length empty))
 
@@ -31,7 +31,7 @@ pub returns-then-off-inode-clause-reads : goal.returns-then-off-inode-clause-rea
 returns-then-off-inode-clause-reads c =
     let p = c.args.self.now in
     let v = c.in-Some.inode in
-    let has = given_record p c.args.ino c.record.result v c.record.ensures c.in-Some.is in
+    let has = given_record p c.args.ino c.record.result v c.record.ensures.shown c.in-Some.is in
     let file = c.requires.whole.files c.args.ino (fields_of v) has in
     let long = file_bytes-length (data_block (tree_of p c.args.ino)) file.padded.whole v.size in
     let all = ap length (bytes_of-record p c.args.ino (fields_of v) has) in
@@ -41,7 +41,7 @@ pub read_blocks-requires-clause-present : goal.read_blocks-requires-clause-prese
 read_blocks-requires-clause-present c =
     let p = c.args.self.now in
     let v = c.in-Some.inode in
-    let has = given_record p c.args.ino c.record.result v c.record.ensures c.in-Some.is in
+    let has = given_record p c.args.ino c.record.result v c.record.ensures.shown c.in-Some.is in
     let file = c.requires.whole.files c.args.ino (fields_of v) has in
     subst (λ n. IsPresent p n v.version) (sym file.own_number) (record { in_use = record_used p c.args.ino (fields_of v) has; at_version = file.own_version })
 
@@ -49,14 +49,14 @@ pub read_blocks-requires-clause-here : goal.read_blocks-requires-clause-here
 read_blocks-requires-clause-here c =
     let p = c.args.self.now in
     let v = c.in-Some.inode in
-    let has = given_record p c.args.ino c.record.result v c.record.ensures c.in-Some.is in
+    let has = given_record p c.args.ino c.record.result v c.record.ensures.shown c.in-Some.is in
     ap (record_of p) (c.requires.whole.files c.args.ino (fields_of v) has).own_number ∙ has
 
 pub read_blocks-requires-clause-inside : goal.read_blocks-requires-clause-inside
 read_blocks-requires-clause-inside c =
     let p = c.args.self.now in
     let v = c.in-Some.inode in
-    let has = given_record p c.args.ino c.record.result v c.record.ensures c.in-Some.is in
+    let has = given_record p c.args.ino c.record.result v c.record.ensures.shown c.in-Some.is in
     let own = (c.requires.whole.files c.args.ino (fields_of v) has).own_number in
     subst (λ n. LiesIn (blocks_of p) (tree_of p n)) (sym own) (lies_in p c.args.ino 0 (omega arith) c.requires.whole.parts.laid_out c.requires.log)
 
@@ -67,7 +67,7 @@ pub returns-clause-reads : goal.returns-clause-reads
 returns-clause-reads c =
     let p = c.args.self.now in
     let v = c.in-Some.inode in
-    let has = given_record p c.args.ino c.record.result v c.record.ensures c.in-Some.is in
+    let has = given_record p c.args.ino c.record.result v c.record.ensures.shown c.in-Some.is in
     let file = c.requires.whole.files c.args.ino (fields_of v) has in
     let bytes = file_bytes (data_block (tree_of p c.args.ino)) v.size in
     let long : length bytes ≡ v.size = file_bytes-length (data_block (tree_of p c.args.ino)) file.padded.whole v.size in

@@ -7,7 +7,6 @@ use Rattle.lfs_staging.specs.Cutting.{with_length}
 use Rattle.lfs_staging.specs.Files.{content_of}
 use Rattle.lfs_staging.specs.View.{record_of, waiting_in}
 use Rattle.lfs_staging.specs.Waiting.{without}
-use Rattle.lfs_staging.proofs.FileLemmas.{given_record}
 use Rattle.lfs_staging.proofs.GrowthLemmas.{may_from, one_record}
 use Rattle.lfs_staging.proofs.LengthLemmas.{cut_content, grown_attributes, grown_content, grown_length, length_size}
 use Rattle.lfs_staging.proofs.WaitingLemmas.{length-less, length-without}
@@ -17,49 +16,49 @@ use Rattle.lfs_staging.proofs.parts.Parts.set_length.Goals as goal
 pub cut-requires-clause-may : goal.cut-requires-clause-may
 cut-requires-clause-may c =
     let p = c.args.self.now in
-    may_from p c.in-Some.inode c.args.ino (staged_change p c.args.ino 0 c.requires.staged c.requires.in_range c.requires.in_use c.requires.records)
-    (given_record p c.args.ino c.record.result c.in-Some.inode c.record.ensures c.in-Some.is)
+    may_from p c.record_in_use-inode.result c.args.ino (staged_change p c.args.ino 0 c.requires.staged c.requires.in_range c.requires.in_use c.requires.records)
+    c.record_in_use-inode.ensures.here
 
 pub stage_record-requires-clause-in_use : goal.stage_record-requires-clause-in_use
 stage_record-requires-clause-in_use c =
-    let p = c.args.self.now in let v = c.in-Some.inode in
+    let p = c.args.self.now in let v = c.record_in_use-inode.result in
     let may = may_from p v c.args.ino (staged_change p c.args.ino 0 c.requires.staged c.requires.in_range c.requires.in_use c.requires.records)
-    (given_record p c.args.ino c.record.result v c.record.ensures c.in-Some.is) in
+    c.record_in_use-inode.ensures.here in
     ap (λ (a : Attributes). (row_of p.log.tables a.number).used) c.grown.ensures.attributes ∙ may.in_use
 
 pub stage_record-requires-clause-room : goal.stage_record-requires-clause-room
 stage_record-requires-clause-room c =
-    let p = c.args.self.now in let v = c.in-Some.inode in
+    let p = c.args.self.now in let v = c.record_in_use-inode.result in
     let may = may_from p v c.args.ino (staged_change p c.args.ino 0 c.requires.staged c.requires.in_range c.requires.in_use c.requires.records)
-    (given_record p c.args.ino c.record.result v c.record.ensures c.in-Some.is) in
+    c.record_in_use-inode.ensures.here in
     subst (λ (a : Attributes). length (without a.number p.waiting) < 64) (sym c.grown.ensures.attributes) may.records
 
 pub returns-then-len-inode-clause-content : goal.returns-then-len-inode-clause-content
 returns-then-len-inode-clause-content c =
-    let p = c.args.self.now in let v = c.in-Some.inode in
-    let has = given_record p c.args.ino c.record.result v c.record.ensures c.in-Some.is in
+    let p = c.args.self.now in let v = c.record_in_use-inode.result in
+    let has = c.record_in_use-inode.ensures.here in
     let own = (c.requires.staged.whole.files c.args.ino (fields_of v) has).own_number in
     let may = may_from p v c.args.ino (staged_change p c.args.ino 0 c.requires.staged c.requires.in_range c.requires.in_use c.requires.records) has in
     cut_content p c.cut.new.self v c.args.len may c.cut.ensures ∙ ap (λ n. with_length n c.args.len (content_of p)) own
 
 pub returns-then-len-inode-clause-size : goal.returns-then-len-inode-clause-size
 returns-then-len-inode-clause-size c = λ g is.
-    let p = c.args.self.now in let v = c.in-Some.inode in
-    let has = given_record p c.args.ino c.record.result v c.record.ensures c.in-Some.is in
+    let p = c.args.self.now in let v = c.record_in_use-inode.result in
+    let has = c.record_in_use-inode.ensures.here in
     let own = (c.requires.staged.whole.files c.args.ino (fields_of v) has).own_number in
     length_size c.cut.new.self v.number c.args.len (fields_of v) g (c.cut.ensures.here (fields_of v) (ap (record_of p) own ∙ has)) (ap (record_of c.cut.new.self) own ∙ is)
 
 pub returns-else-len-inode-clause-staged : goal.returns-else-len-inode-clause-staged
 returns-else-len-inode-clause-staged c =
-    let p = c.args.self.now in let v = c.in-Some.inode in
-    let has = given_record p c.args.ino c.record.result v c.record.ensures c.in-Some.is in
+    let p = c.args.self.now in let v = c.record_in_use-inode.result in
+    let has = c.record_in_use-inode.ensures.here in
     let may = may_from p v c.args.ino (staged_change p c.args.ino 0 c.requires.staged c.requires.in_range c.requires.in_use c.requires.records) has in
     (grown_length p c.stage_record.new.self v c.grown.result c.args.len may c.stage_record.ensures c.grown.ensures.attributes c.grown.ensures.addresses (omega arith)).kept 0 c.requires.staged
 
 pub returns-else-len-inode-clause-content : goal.returns-else-len-inode-clause-content
 returns-else-len-inode-clause-content c =
-    let p = c.args.self.now in let v = c.in-Some.inode in
-    let has = given_record p c.args.ino c.record.result v c.record.ensures c.in-Some.is in
+    let p = c.args.self.now in let v = c.record_in_use-inode.result in
+    let has = c.record_in_use-inode.ensures.here in
     let own = (c.requires.staged.whole.files c.args.ino (fields_of v) has).own_number in
     let may = may_from p v c.args.ino (staged_change p c.args.ino 0 c.requires.staged c.requires.in_range c.requires.in_use c.requires.records) has in
     let h = grown_length p c.stage_record.new.self v c.grown.result c.args.len may c.stage_record.ensures c.grown.ensures.attributes c.grown.ensures.addresses (omega arith) in
@@ -67,8 +66,8 @@ returns-else-len-inode-clause-content c =
 
 pub returns-else-len-inode-clause-size : goal.returns-else-len-inode-clause-size
 returns-else-len-inode-clause-size c = λ g is.
-    let p = c.args.self.now in let v = c.in-Some.inode in
-    let has = given_record p c.args.ino c.record.result v c.record.ensures c.in-Some.is in
+    let p = c.args.self.now in let v = c.record_in_use-inode.result in
+    let has = c.record_in_use-inode.ensures.here in
     let own = (c.requires.staged.whole.files c.args.ino (fields_of v) has).own_number in
     let may = may_from p v c.args.ino (staged_change p c.args.ino 0 c.requires.staged c.requires.in_range c.requires.in_use c.requires.records) has in
     let h = grown_length p c.stage_record.new.self v c.grown.result c.args.len may c.stage_record.ensures c.grown.ensures.attributes c.grown.ensures.addresses (omega arith) in
@@ -77,24 +76,24 @@ returns-else-len-inode-clause-size c = λ g is.
 
 pub returns-else-len-inode-clause-log : goal.returns-else-len-inode-clause-log
 returns-else-len-inode-clause-log c =
-    let p = c.args.self.now in let v = c.in-Some.inode in
-    let has = given_record p c.args.ino c.record.result v c.record.ensures c.in-Some.is in
+    let p = c.args.self.now in let v = c.record_in_use-inode.result in
+    let has = c.record_in_use-inode.ensures.here in
     let may = may_from p v c.args.ino (staged_change p c.args.ino 0 c.requires.staged c.requires.in_range c.requires.in_use c.requires.records) has in
     let h = grown_length p c.stage_record.new.self v c.grown.result c.args.len may c.stage_record.ensures c.grown.ensures.attributes c.grown.ensures.addresses (omega arith) in
     stays_files p c.stage_record.new.self h.log h.blocks
 
 pub returns-else-len-inode-clause-waiting : goal.returns-else-len-inode-clause-waiting
 returns-else-len-inode-clause-waiting c =
-    let p = c.args.self.now in let v = c.in-Some.inode in
-    let has = given_record p c.args.ino c.record.result v c.record.ensures c.in-Some.is in
+    let p = c.args.self.now in let v = c.record_in_use-inode.result in
+    let has = c.record_in_use-inode.ensures.here in
     let may = may_from p v c.args.ino (staged_change p c.args.ino 0 c.requires.staged c.requires.in_range c.requires.in_use c.requires.records) has in
     let h = grown_length p c.stage_record.new.self v c.grown.result c.args.len may c.stage_record.ensures c.grown.ensures.attributes c.grown.ensures.addresses (omega arith) in
     one_record p c.stage_record.new.self v.number h.room
 
 pub returns-then-len-inode-clause-others : goal.returns-then-len-inode-clause-others
 returns-then-len-inode-clause-others c =
-    let p = c.args.self.now in let v = c.in-Some.inode in
-    let has = given_record p c.args.ino c.record.result v c.record.ensures c.in-Some.is in
+    let p = c.args.self.now in let v = c.record_in_use-inode.result in
+    let has = c.record_in_use-inode.ensures.here in
     let own = (c.requires.staged.whole.files c.args.ino (fields_of v) has).own_number in
     let less = length-less c.cut.new.self.waiting c.args.ino (subst (λ n. IsSome (waiting_in c.cut.new.self.waiting n)) own c.cut.ensures.waits) in
     let more = c.cut.ensures.waiting in
@@ -102,8 +101,8 @@ returns-then-len-inode-clause-others c =
 
 pub returns-else-len-inode-clause-others : goal.returns-else-len-inode-clause-others
 returns-else-len-inode-clause-others c =
-    let p = c.args.self.now in let v = c.in-Some.inode in
-    let has = given_record p c.args.ino c.record.result v c.record.ensures c.in-Some.is in
+    let p = c.args.self.now in let v = c.record_in_use-inode.result in
+    let has = c.record_in_use-inode.ensures.here in
     let own = (c.requires.staged.whole.files c.args.ino (fields_of v) has).own_number in
     let may = may_from p v c.args.ino (staged_change p c.args.ino 0 c.requires.staged c.requires.in_range c.requires.in_use c.requires.records) has in
     let h = grown_length p c.stage_record.new.self v c.grown.result c.args.len may c.stage_record.ensures c.grown.ensures.attributes c.grown.ensures.addresses (omega arith) in

@@ -1,5 +1,4 @@
 use Rattle.std.proofs.Common.{◌≡◌, ◌<◌, length, Some, sym, ap, ◌∙◌, subst, arith}
-use Rattle.std.proofs.lemmas.Bool.{cond-true}
 use Rattle.lfs_ifile.specs.Tables.{row_of}
 use Rattle.lfs_inodes.specs.Addresses.{addresses}
 use Rattle.lfs_inodes.specs.Attributes.{Attributes}
@@ -10,30 +9,25 @@ use Rattle.lfs_staging.specs.View.{record_of}
 use Rattle.lfs_staging.specs.Waiting.{without}
 use Rattle.lfs_staging.proofs.FrameLemmas.{waiting_number}
 use Rattle.lfs_staging.proofs.ShorterLemmas.{cut_addresses, shortened}
-use Rattle.lfs_staging.proofs.ViewLemmas.{record_of-waiting}
 use Rattle.lfs_staging.proofs.WaitingLemmas.{length-less}
 use Rattle.lfs_staging.proofs.parts.Parts.shorten.Goals as goal
 
 pub cut-requires-clause-less : goal.cut-requires-clause-less
-cut-requires-clause-less c =
-    let p = c.args.self.now in
-    c.requires.less (fields_of c.in-Some.inode) (record_of-waiting p c.args.ino _ c.in-Some.inode (cond-true _ _ _ c.requires.in_use) (sym c.waiting.ensures ∙ c.in-Some.is))
+cut-requires-clause-less c = c.requires.less (fields_of c.record_in_use-inode.result) c.record_in_use-inode.ensures.here
 
 pub cut-requires-clause-sized : goal.cut-requires-clause-sized
-cut-requires-clause-sized c =
-    let p = c.args.self.now in
-    c.requires.sized (fields_of c.in-Some.inode) (record_of-waiting p c.args.ino _ c.in-Some.inode (cond-true _ _ _ c.requires.in_use) (sym c.waiting.ensures ∙ c.in-Some.is))
+cut-requires-clause-sized c = c.requires.sized (fields_of c.record_in_use-inode.result) c.record_in_use-inode.ensures.here
 
 pub stage_record-requires-clause-in_use : goal.stage_record-requires-clause-in_use
 stage_record-requires-clause-in_use c =
     let p = c.args.self.now in
-    let same = waiting_number p.waiting c.args.ino c.in-Some.inode (sym c.waiting.ensures ∙ c.in-Some.is) in
+    let same = waiting_number p.waiting c.args.ino c.record_in_use-inode.result (c.record_in_use-inode.ensures.waits c.requires.waits) in
     ap (λ n. (row_of p.log.tables n).used) (ap (λ (a : Attributes). a.number) c.cut.ensures.attributes ∙ same) ∙ c.requires.in_use
 
 pub stage_record-requires-clause-room : goal.stage_record-requires-clause-room
 stage_record-requires-clause-room c =
     let p = c.args.self.now in
-    let same = waiting_number p.waiting c.args.ino c.in-Some.inode (sym c.waiting.ensures ∙ c.in-Some.is) in
+    let same = waiting_number p.waiting c.args.ino c.record_in_use-inode.result (c.record_in_use-inode.ensures.waits c.requires.waits) in
     let less = length-less p.waiting c.args.ino c.requires.waits in
     let few = c.requires.staged.few in
     let own : c.cut.result.number ≡ c.args.ino = ap (λ (a : Attributes). a.number) c.cut.ensures.attributes ∙ same in
@@ -42,11 +36,11 @@ stage_record-requires-clause-room c =
 pub returns : goal.returns
 returns c =
     let p = c.args.self.now in
-    let v = c.in-Some.inode in
-    let waits = sym c.waiting.ensures ∙ c.in-Some.is in
+    let v = c.record_in_use-inode.result in
+    let waits = c.record_in_use-inode.ensures.waits c.requires.waits in
     let same = waiting_number p.waiting c.args.ino v waits in
     let may = subst (λ n. MayShorten p n c.args.len) (sym same) c.requires in
-    let has : record_of p v.number ≡ Some (fields_of v) = ap (record_of p) same ∙ record_of-waiting p c.args.ino _ v (cond-true _ _ _ c.requires.in_use) waits in
+    let has : record_of p v.number ≡ Some (fields_of v) = ap (record_of p) same ∙ c.record_in_use-inode.ensures.here in
     let roots : addresses c.cut.result ≡ addresses v = c.cut.ensures.addresses ∙ cut_addresses p v (block_count c.args.len) has may.gone in
     subst (λ n. Shortens n c.args.len p c.stage_record.new.self) same
     (shortened p c.stage_record.new.self v c.cut.result c.args.len may has c.stage_record.ensures c.cut.ensures.attributes roots)
