@@ -133,3 +133,9 @@ impl SummaryEntry {
         put_word(bytes, place + 8, self.block.number());
     }
 }
+
+impl Default for SummaryEntry {
+    fn default() -> SummaryEntry {
+        SummaryEntry::UNUSED
+    }
+}

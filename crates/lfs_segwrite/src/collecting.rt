@@ -1,6 +1,6 @@
 //! What waits to be written, in the order in which it is written.
 
-ghost use Rattle.std.specs.Prelude.{◌≡◌, ◌<◌, ◌≤◌, ◌+◌, ◌++◌, ◌∷◌, ◌↔◌, [], All, length, map, replicate};
+ghost use Rattle.std.specs.Prelude.{◌≡◌, ◌≤◌, ◌+◌, ◌++◌, ◌↔◌, All, length, map, replicate};
 ghost use Rattle.std.specs.List.{filter};
 ghost use Rattle.lfs_cache.specs.Contents.{keys_of};
 ghost use Rattle.lfs_segments.specs.Entry.{IsEntry};
@@ -11,6 +11,7 @@ ghost use Rattle.lfs_staging.specs.Store.{AreFiles, IsBlockCode, IsSettled};
 ghost use Rattle.lfs_cache.specs.declared.key.Key.{Key};
 ghost use Rattle.lfs_staging.specs.declared.records.TheConstants.{WAITING_LIMIT};
 
+use arrayvec::ArrayVec;
 use lfs_bmap::blocks::FileBlock;
 use lfs_bmap::tables::{RANKS, rank};
 use lfs_cache::Key;
@@ -18,79 +19,34 @@ use lfs_log::packing::SLOT_COUNT;
 use lfs_segments::entry::{LogicalBlock, SummaryEntry};
 use lfs_segments::summary::ENTRY_LIMIT;
 use lfs_staging::parts::Parts;
-use std::marker::Model;
 
 /// At most 40 entries, which lie in the value itself.
-#[derive(Drop)]
-pub struct EntryList {
-    entries: [SummaryEntry; ENTRY_LIMIT],
-    count: usize,
+pub type EntryList = ArrayVec<SummaryEntry, ENTRY_LIMIT>;
+
+/// Adds the entries of the blocks among some keys that are written in a pass.
+fn push_keys(list: &mut EntryList, keys: &[Key], pass: u32)
+    requires coded { All (λ (key : Key). IsBlockCode key.lbn) keys.now }
+    requires room { length list.old.items + length (filter (is_of pass) keys.now) ≤ ENTRY_LIMIT }
+    ensures { list.new.items ≡ list.old.items ++ map entry_of (filter (is_of pass) keys.now) }
+{
+    for key in keys {
+        if rank(key.lbn) == pass {
+            list.push(entry_of(key));
+        }
+    }
 }
 
-impl Model for EntryList {
-    ghost use Rattle.std.specs.Prelude.{List, ◌≡◌, ◌≤◌, length, take};
-    ghost use Rattle.lfs_segments.specs.declared.entry.SummaryEntry.{SummaryEntry};
-
-    ghost Value = { List SummaryEntry };
-
-    ghost view = { λ l. take l.count l.entries };
-
-    ghost invariant = { λ l. (length l.entries ≡ 40) × (l.count ≤ 40) };
-}
-
-impl EntryList {
-    /// A list of no entries.
-    fn empty() -> EntryList
-        ensures { result ≡ [] }
-    {
-        EntryList {
-            entries: [SummaryEntry::UNUSED; ENTRY_LIMIT],
-            count: 0,
-        }
-    }
-
-    /// The entries, in order.
-    pub fn entries(&self) -> &[SummaryEntry]
-        ensures entries { result.now ≡ self.now }
-        ensures fits { length self.now ≤ ENTRY_LIMIT }
-    {
-        &self.entries[..self.count]
-    }
-
-    /// Adds an entry behind the others. There must be room.
-    fn push(&mut self, entry: SummaryEntry)
-        requires { length self.old < ENTRY_LIMIT }
-        ensures { self.new ≡ self.old ++ entry ∷ [] }
-    {
-        self.entries[self.count] = entry;
-        self.count += 1;
-    }
-
-    /// Adds the entries of the blocks among some keys that are written in a pass.
-    fn push_keys(&mut self, keys: &[Key], pass: u32)
-        requires coded { All (λ (key : Key). IsBlockCode key.lbn) keys.now }
-        requires room { length self.old + length (filter (is_of pass) keys.now) ≤ ENTRY_LIMIT }
-        ensures { self.new ≡ self.old ++ map entry_of (filter (is_of pass) keys.now) }
-    {
-        for key in keys {
-            if rank(key.lbn) == pass {
-                self.push(entry_of(key));
-            }
-        }
-    }
-
-    /// Adds so many entries of inode blocks.
-    fn push_inodes(&mut self, blocks: usize)
-        requires { length self.old + blocks ≤ ENTRY_LIMIT }
-        ensures { self.new ≡ self.old ++ replicate blocks inodes_entry }
-    {
-        for _ in 0..blocks {
-            self.push(SummaryEntry {
-                number: 0,
-                version: 0,
-                block: LogicalBlock::Inodes,
-            });
-        }
+/// Adds so many entries of inode blocks.
+fn push_inodes(list: &mut EntryList, blocks: usize)
+    requires { length list.old.items + blocks ≤ ENTRY_LIMIT }
+    ensures { list.new.items ≡ list.old.items ++ replicate blocks inodes_entry }
+{
+    for _ in 0..blocks {
+        list.push(SummaryEntry {
+            number: 0,
+            version: 0,
+            block: LogicalBlock::Inodes,
+        });
     }
 }
 
@@ -123,18 +79,18 @@ fn entry_of(key: &Key) -> SummaryEntry
 pub fn to_land(parts: &Parts) -> EntryList
     requires files { AreFiles parts.now }
     requires few { length parts.now.waiting ≤ WAITING_LIMIT }
-    ensures entries { result ≡ entries_of parts.now }
-    ensures valid { All IsEntry result }
-    ensures fits { length result ≤ ENTRY_LIMIT }
+    ensures entries { result.items ≡ entries_of parts.now }
+    ensures valid { All IsEntry result.items }
+    ensures fits { length result.items ≤ ENTRY_LIMIT }
     // The blocks are those that wait, each once.
     ensures blocks { AreLocked (in_order (keys_of parts.now.cache.locked)) parts.now.cache }
 {
     let keys = parts.cache.locked();
-    let mut list = EntryList::empty();
+    let mut list = EntryList::new();
     for pass in 0..RANKS {
-        list.push_keys(keys, pass);
+        push_keys(&mut list, keys, pass);
     }
-    list.push_inodes(inode_blocks(parts.waiting.len()));
+    push_inodes(&mut list, inode_blocks(parts.waiting.len()));
     list
 }
 

@@ -40,8 +40,8 @@ pub fn flush(parts: &mut Parts)
         return;
     }
     let list = to_land(parts);
-    begin_partial(parts, list.entries());
-    land_blocks(parts, list.entries());
+    begin_partial(parts, list.as_slice());
+    land_blocks(parts, list.as_slice());
     land_all_records(parts);
 }
 

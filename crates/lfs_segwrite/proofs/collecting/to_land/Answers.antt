@@ -10,7 +10,7 @@ use Rattle.lfs_segwrite.proofs.OrderLemmas.{in_order-locked, listed_waits}
 use Rattle.lfs_segwrite.proofs.collecting.to_land.Goals as goal
 
 pub loop-pass-init : goal.loop-pass-init
-loop-pass-init c = c.empty-list.ensures ∙ sym (collected_none c.locked-keys.result.now)
+loop-pass-init c = c.new-list.ensures ∙ sym (collected_none c.locked-keys.result.now)
 
 pub push_keys-requires-clause-coded : goal.push_keys-requires-clause-coded
 push_keys-requires-clause-coded c =
@@ -22,21 +22,21 @@ push_keys-requires-clause-room c =
     let keys = ap length c.locked-keys.ensures.keys in
     let locked = length-map c.args.parts.now.cache.locked (λ e. e.0) in
     let limit = c.requires.files.cache.limit in
-    collected_room c.loop-pass.list c.loop-pass.pass c.locked-keys.result.now c.loop-pass.invariant c.loop-pass-test.true (omega arith)
+    collected_room c.loop-pass.list.items c.loop-pass.pass c.locked-keys.result.now c.loop-pass.invariant c.loop-pass-test.true (omega arith)
 
 pub loop-pass-preserved : goal.loop-pass-preserved
-loop-pass-preserved c = collected_more c.loop-pass.list c.push_keys.new.self c.loop-pass.pass c.locked-keys.result.now c.loop-pass.invariant c.push_keys.ensures
+loop-pass-preserved c = collected_more c.loop-pass.list.items c.push_keys.new.list.items c.loop-pass.pass c.locked-keys.result.now c.loop-pass.invariant c.push_keys.ensures
 
 -- all passes are done
-whole : (c : goal.After-push_inodes) → c.loop-pass.list ≡ map entry_of (in_passes 3 c.locked-keys.result.now)
+whole : (c : goal.After-push_inodes) → c.loop-pass.list.items ≡ map entry_of (in_passes 3 c.locked-keys.result.now)
 whole c =
     let end : c.loop-pass.pass ≡ 3 = omega (arith, c.loop-pass-test.false, c.loop-pass.auto.pass-end) in
-    subst (λ n. c.loop-pass.list ≡ map entry_of (in_passes n c.locked-keys.result.now)) end c.loop-pass.invariant
+    subst (λ n. c.loop-pass.list.items ≡ map entry_of (in_passes n c.locked-keys.result.now)) end c.loop-pass.invariant
 
 pub push_inodes-requires : goal.push_inodes-requires
 push_inodes-requires c =
     let end : c.loop-pass.pass ≡ 3 = omega (arith, c.loop-pass-test.false, c.loop-pass.auto.pass-end) in
-    let all = subst (λ n. c.loop-pass.list ≡ map entry_of (in_passes n c.locked-keys.result.now)) end c.loop-pass.invariant in
+    let all = subst (λ n. c.loop-pass.list.items ≡ map entry_of (in_passes n c.locked-keys.result.now)) end c.loop-pass.invariant in
     let many = ap length all in
     let mapped = length-map (in_passes 3 c.locked-keys.result.now) entry_of in
     let whole = in_order-length c.locked-keys.result.now in
@@ -48,7 +48,7 @@ push_inodes-requires c =
 
 pub returns-clause-entries : goal.returns-clause-entries
 returns-clause-entries c =
-    collected c.args.parts.now c.loop-pass.list c.push_inodes.new.self c.locked-keys.result.now c.inode_blocks.result (whole c) c.push_inodes.ensures
+    collected c.args.parts.now c.loop-pass.list.items c.push_inodes.new.list.items c.locked-keys.result.now c.inode_blocks.result (whole c) c.push_inodes.ensures
     c.locked-keys.ensures.keys (omega (arith, c.inode_blocks.ensures, c.len.ensures))
 
 pub returns-clause-valid : goal.returns-clause-valid

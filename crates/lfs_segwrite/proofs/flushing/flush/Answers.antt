@@ -12,13 +12,13 @@ use Rattle.lfs_segwrite.proofs.flushing.flush.Goals as goal
 
 pub land_blocks-requires-clause-all : goal.land_blocks-requires-clause-all
 land_blocks-requires-clause-all c =
-    c.entries-2.ensures.entries ∙ c.to_land-list.ensures.entries
+    c.as_slice-2.ensures.value ∙ c.to_land-list.ensures.entries
     ∙ sym (entries_of-same c.args.parts.now c.begin_partial.new.parts c.begin_partial.ensures.cache c.begin_partial.ensures.waiting)
 
 pub land_blocks-requires-clause-expected : goal.land_blocks-requires-clause-expected
 land_blocks-requires-clause-expected c =
     subst (Expects c.begin_partial.new.parts.log.memory)
-    (c.entries.ensures.entries ∙ c.to_land-list.ensures.entries
+    (c.as_slice.ensures.value ∙ c.to_land-list.ensures.entries
     ∙ sym (entries_of-same c.args.parts.now c.begin_partial.new.parts c.begin_partial.ensures.cache c.begin_partial.ensures.waiting)) c.begin_partial.ensures.expects
 
 pub returns : goal.returns

@@ -1,7 +1,7 @@
 use Rattle.std.proofs.Common.{◌≡◌, ◌++◌, replicate}
 use Rattle.lfs_staging.specs.Opening.{inodes_entry}
-use Rattle.lfs_segwrite.proofs.collecting.EntryList.push_inodes.Given as goal
+use Rattle.lfs_segwrite.proofs.collecting.push_inodes.Given as goal
 
 -- so many entries so far
 abbrev pub invariant-loop : goal.invariant-loop
-invariant-loop l = l.self ≡ l.initial.self ++ replicate l.counter inodes_entry
+invariant-loop l = l.list.items ≡ l.initial.list.items ++ replicate l.counter inodes_entry
