@@ -3,7 +3,7 @@ use Rattle.std.specs.Prelude.{ℕ, ◌+◌, ◌*◌, List, Result}
 use Rattle.lfs_types.specs.StoreStates.{Shape, StoreState}
 use Rattle.lfs_types.specs.declared.cleaner.BlockInfo.{BlockInfo}
 use Rattle.lfs_types.specs.declared.cleaner.CleanFault.{CleanFault}
-use Rattle.lfs_types.specs.declared.cleaner.CleanFault.TheVariants.{NoSuchSegment, Active, NotDirty, Live, NoSpace}
+use Rattle.lfs_types.specs.declared.cleaner.CleanFault.TheVariants.{NoSuchSegment, Active, NotDirty, NoSpace}
 
 -- What the calls of a store's cleaner may answer: whether bytes are those of the ifile; whether a call for the infos of a
 -- segment may have this result, and leave this list; whether infos become these, each with its present address; whether

@@ -28,7 +28,7 @@ pub enum BadCred {
 #[derive(Clone, Copy, PartialEq, Eq, Debug)]
 pub struct Cred {
     uid: u32,
-    count: usize,
+    count: u8,
     groups: [u32; NGROUPS_MAX],
     init: bool,
 }
@@ -83,7 +83,7 @@ impl Cred {
         padded[..groups.len()].copy_from_slice(groups);
         Ok(Cred {
             uid,
-            count: groups.len(),
+            count: groups.len() as u8,
             groups: padded,
             init,
         })
@@ -104,10 +104,11 @@ impl Cred {
     }
 
     /// Whether this group is one of its groups.
+    #[inline(always)]
     pub fn is_member(&self, gid: u32) -> bool
         ensures { result ≡ list_any (λ g. g == gid) self.now.groups }
     {
-        self.groups[..self.count].contains(&gid)
+        self.groups[..usize::from(self.count)].contains(&gid)
     }
 
     /// The groups, 1 to 16.
@@ -117,7 +118,7 @@ impl Cred {
         ensures few { length result.now ≤ 16 }
         ensures init { self.now.init ≡ true → self.now.uid ≡ 0 }
     {
-        &self.groups[..self.count]
+        &self.groups[..usize::from(self.count)]
     }
 
     /// Whether it is init.

@@ -12,7 +12,7 @@ use thiserror::Error;
 pub const NAME_MAX: usize = 255;
 
 /// A name of at most so many bytes lies in the value itself and takes no memory.
-const INLINE_BYTES: usize = 24;
+const INLINE_BYTES: usize = 16;
 
 /// Why bytes are no name: the first of these that holds (this project's profile).
 #[derive(Clone, Copy, PartialEq, Eq, Debug, Error)]
@@ -56,6 +56,7 @@ impl Model for Name {
 
 impl Name {
     /// The name that these bytes are, or the first fault in the order of `BadName`.
+    #[inline(always)]
     pub fn parse(alloc: Global, bytes: &[u8]) -> Result<Name, BadName>
         ensures { ParsesName bytes.now result }
     {
@@ -99,6 +100,7 @@ pub fn clone_names(alloc: Global, names: &[Name]) -> Result<Vec<Name>, AllocErro
 }
 
 /// The first fault of bytes that are to be a name.
+#[inline(always)]
 fn fault_of(bytes: &[u8]) -> Option<BadName>
     ensures { result ≡ name_fault bytes.now }
 {

@@ -11,8 +11,8 @@ use thiserror::Error;
 /// The most bytes that a path may have (4.4BSD's `PATH_MAX`).
 pub const PATH_MAX: usize = 1024;
 
-/// Most paths have at most so many names.
-const USUAL_NAMES: usize = 8;
+/// A path takes room for a name in each so many bytes of its text at once. Where its names are shorter, it grows.
+const USUAL_BYTES: usize = 5;
 
 /// Why a text is no path: the first of these that holds (this project's profile).
 #[derive(Clone, Copy, PartialEq, Eq, Debug, Error)]
@@ -136,12 +136,11 @@ fn cut_at_slash(text: &[u8]) -> (&[u8], Option<&[u8]>)
     }
 }
 
-/// Adds a name behind others. The first takes room for all that most paths have, or for itself where it is the last.
-fn keep(names: &mut Vec<Name>, name: Name, is_last: bool) -> Result<(), BadPath>
+/// Adds a name behind others. The first takes room for itself and those to come.
+fn keep(names: &mut Vec<Name>, name: Name, room: usize) -> Result<(), BadPath>
     ensures kept { OnOk result (names.new.items ≡ names.old.items ++ name ∷ []) }
     ensures memory { IfErr result (λ fault. fault ≡ BadPath.Memory) }
 {
-    let room = if is_last { 1 } else { USUAL_NAMES };
     if names.is_empty() && names.reserve(room).is_err() {
         return Err(BadPath::Memory);
     }
@@ -157,6 +156,7 @@ fn names_of(alloc: Global, text: &[u8]) -> Result<Vec<Name>, BadPath>
     requires { length text.now ≤ 1024 }
     ensures { ParsesNames 1 (parts text.now) (items_of result) }
 {
+    let room = text.len() / USUAL_BYTES + 1;
     let mut names = Vec::new(alloc);
     let mut rest = text;
     let mut component = 1u32;
@@ -167,7 +167,7 @@ fn names_of(alloc: Global, text: &[u8]) -> Result<Vec<Name>, BadPath>
             Err(BadName::Memory) => return Err(BadPath::Memory),
             Err(fault) => return Err(BadPath::Name(component, fault)),
         };
-        keep(&mut names, name, behind.is_none())?;
+        keep(&mut names, name, room)?;
         match behind {
             None => return Ok(names),
             Some(behind) => rest = behind,
