@@ -14,3 +14,7 @@ first_place a text None nowhere =
 first_place a text (Some k) found =
     let at = position_or_len_is (λ b. b == a) text k 0 (let high = found.0.high in omega arith) (λ i low. false_from_ne_true _ (found.0.before i (omega arith) low)) (λ within. found.1) in
     sym (cond-true _ _ _ (ap (λ n. nat_lt n (length text)) at ∙ lt-ltb k (length text) found.0.high) ∙ ap Some at)
+
+-- so it is of a text whose bytes were searched
+pub first_place_of : (a : ℕ) (text bytes : List ℕ) (r : Option ℕ) → bytes ≡ text → IsFirstByte (is_byte a) bytes r → r ≡ position (λ b. b == a) text
+first_place_of a text bytes r same found = first_place a bytes r found ∙ ap (position (λ b. b == a)) same

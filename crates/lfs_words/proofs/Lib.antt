@@ -11,6 +11,7 @@ pub mod LineCuts
 pub mod Numerals
 pub mod Parts
 pub mod PathBack
+pub mod PieceCuts
 pub mod ReadBack
 pub mod WordBytes
 pub mod WordLists

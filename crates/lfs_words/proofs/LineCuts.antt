@@ -15,7 +15,8 @@ use Rattle.lfs_words.specs.Lines.{HasNoLineFeed, IsFirstLine, is_printable, is_s
 abbrev feed : ℕ → Bool
 feed b = b == 10
 
-cut_at : (text : List ℕ) (at b : ℕ) → at < length text → get_or text at 0 ≡ b → text ≡ take at text ++ b ∷ drop (at + 1) text
+-- a text is cut around the byte at an index
+pub cut_at : (text : List ℕ) (at b : ℕ) → at < length text → get_or text at 0 ≡ b → text ≡ take at text ++ b ∷ drop (at + 1) text
 cut_at text at b lt e = grind (arith, common_steps)
 
 before : (text : List ℕ) (at : ℕ) → ((k : ℕ) → k < at → feed (get_or text k 0) ≡ false) → HasNoLineFeed (take at text)

@@ -26,6 +26,7 @@ fn digit(value: u8) -> u8
 }
 
 /// Appends a number in decimal, without a space.
+#[inline(always)]
 pub fn push_decimal(out: &mut Vec<u8>, number: u64) -> Result<(), AllocError>
     ensures { OnOk result (out.new.items ≡ out.old.items ++ decimal number) }
 {

@@ -3,7 +3,7 @@ use Rattle.lfs_words.specs.Lines.{is_printable}
 use Rattle.lfs_words.proofs.LineCuts.{printable_utf8}
 use Rattle.lfs_words.proofs.line.text_of.Goals as goal
 
-pub unreachable-requires : goal.unreachable-requires
-unreachable-requires c =
+pub from_utf8_unchecked-requires : goal.from_utf8_unchecked-requires
+from_utf8_unchecked-requires c =
     let printable : is_printable c.args.line.now ≡ true = cc in
-    c.in-Err.ensures.cases.0 (printable_utf8 c.args.line.now printable)
+    printable_utf8 c.args.line.now printable
