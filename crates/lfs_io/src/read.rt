@@ -24,6 +24,9 @@ pub enum ReadFault {
 /// The most bytes of a script.
 pub const SCRIPT_MAX: usize = 1_048_576;
 
+/// A reader is asked for so many bytes at once.
+const READ_BYTES: usize = 32_768;
+
 /// The bytes that a reader has left. Every error of the reader ends it, and a reader that never ends is given up after at most 1,048,577 reads.
 pub fn read_script<R: Read>(alloc: Global, reader: &mut R) -> Result<Vec<u8>, ReadFault>
     ensures bounded { IfOk result (λ script. vec_len script ≤ 1048576) }
@@ -33,7 +36,7 @@ pub fn read_script<R: Read>(alloc: Global, reader: &mut R) -> Result<Vec<u8>, Re
         → IfSome (R.remaining reader.old) (λ bytes. 1048576 < length bytes)) }
 {
     let mut script = Vec::new(alloc);
-    let mut buffer = [0; 4096];
+    let mut buffer = [0; READ_BYTES];
     loop {
         let Ok(count) = reader.read(&mut buffer) else {
             return Err(ReadFault::Read);
