@@ -25,6 +25,7 @@ pub(crate) fn read_block<F: FileStore>(store: &mut Tree<F>, ino: u32, off: u64) 
 }
 
 /// The number that a directory of this size lists under a name: what is known of it, else what its blocks have.
+#[inline(always)]
 pub fn look_up<F: FileStore>(store: &mut Tree<F>, dir: u32, size: u64, name: &Name) -> Option<u32>
     requires stored { HasBlocks (F.state store.old).content dir size }
     requires directory { IsDirectoryAt (F.state store.old).content dir }

@@ -74,6 +74,7 @@ impl<F: FileStore> Tree<F> {
     }
 
     /// The attributes of a number, if it is in use, which are known from now on.
+    #[inline(always)]
     pub(crate) fn learn_attrs(&mut self, ino: u32) -> Option<Attrs>
         ensures attrs { result ≡ shown_attrs (F.state self.old).content ino }
         ensures same { self.new ≡ self.old }
@@ -137,6 +138,7 @@ impl<F: FileStore> Tree<F> {
     }
 
     /// What a directory lists under a name, if it is known.
+    #[inline(always)]
     pub(crate) fn known(&self, dir: u32, name: &Name) -> Option<Option<u32>>
         requires { IsDirectoryAt (F.state self.now).content dir }
         ensures found { IfSome result (λ found. found

@@ -22,6 +22,7 @@ use lfs_types::rule::{Denial, Rule};
 use lfs_types::store::FileStore;
 
 /// One step of a walk: from the row at a component to a name, or the first rule that fails.
+#[inline(always)]
 pub(crate) fn step<F: FileStore>(
     store: &mut Tree<F>,
     cred: &Cred,

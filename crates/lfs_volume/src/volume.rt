@@ -339,6 +339,7 @@ impl<F: CleanedStore + Drop> Volume<F> {
 pub struct RunMemory;
 
 /// Enters an event of a session into a journal that has room for it, and counts it.
+#[inline(always)]
 fn enter(journal: &mut Vec<Entry>, counts: &mut Counts, session: u8, cred: &Cred, event: Event)
     requires room { vec_len journal.old < vec_capacity journal.old }
     requires few { length journal.old.items < 2 ^ 32 - 1 }
