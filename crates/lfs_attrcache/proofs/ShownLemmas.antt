@@ -1,44 +1,27 @@
 -- What a cache of attributes says after a change of a content.
-use Rattle.std.proofs.Common.{◌≡◌, ◌≢◌, ℕ, ◌+◌, ◌≤◌, Bool, true, false, cond, List, [], ◌∷◌, ◌++◌, length, Option, None, Some, refl, sym, ap, subst, ◌∙◌, ⊎_elim, arith}
-use Rattle.std.specs.Prelude.{IfSome, nat_lt, option_map}
+use Rattle.std.proofs.Common.{◌≡◌, ◌≢◌, ℕ, ◌+◌, ◌≤◌, List, [], ◌∷◌, length, Option, None, Some, refl, sym, ap, subst, ◌∙◌, arith}
+use Rattle.std.specs.Prelude.{IfSome, option_map}
 use Rattle.std.specs.FinMap as map
-use Rattle.std.proofs.lemmas.Bool.{cases_eq}
-use Rattle.lfs_types.specs.Changes.{applied, changed, changed_at}
+use Rattle.lfs_types.specs.Changes.{changed_at}
 use Rattle.lfs_types.specs.Splicing.{splice}
 use Rattle.lfs_types.specs.Stored.{shown_attrs}
 use Rattle.lfs_types.specs.Tree.{Content, File, attrs_of, file_of}
 use Rattle.lfs_types.specs.declared.attrs.Attrs.{Attrs}
-use Rattle.lfs_types.specs.declared.store.Change.{Change}
 use Rattle.lfs_types.proofs.Maps.{get-insert_other, get-insert_same, get-remove_other}
 use Rattle.lfs_types.proofs.Pieces.{length-put_over, splice-put_over}
-use Rattle.lfs_attrcache.specs.Says.{AreShown, SaysTheSame, kept_of, says}
-use Rattle.lfs_attrcache.specs.declared.cache.AttrCache.{AttrCache}
-
--- changes and further ones are made one after the other
-pub applied-append : (before after : List Change) (c : Content) → applied (before ++ after) c ≡ applied after (applied before c)
-applied-append [] after c = refl
-applied-append (change ∷ before) after c = applied-append before after (changed change c)
-
-kept_only : (b : Bool) (known : Option Attrs) (a : Attrs) → cond b known None ≡ Some a → known ≡ Some a
-kept_only true known a h = h
-kept_only false known a h = absurd (cc)
+use Rattle.lfs_slots.specs.Says.{SaysTheSame, kept_of, says}
+use Rattle.lfs_slots.specs.declared.slots.Slots.{Slots}
+use Rattle.lfs_slots.proofs.FollowLemmas.{changed-others, kept_only, true_put}
+use Rattle.lfs_attrcache.specs.Shown.{AreShown}
 
 -- what is said after the slot of a number was put is shown, where a change touches that number alone and shows there what is said of it
-pub shown_put : (old new : AttrCache) (ino : ℕ) (c after : Content) → SaysTheSame old new ino
+pub shown_put : (old new : Slots Attrs) (ino : ℕ) (c after : Content) → SaysTheSame old new ino
     → ((q : ℕ) → q ≢ ino → map.get after q ≡ map.get c q) → ((a : Attrs) → says new ino ≡ Some a → shown_attrs after ino ≡ Some a)
     → AreShown old c → AreShown new after
-shown_put old new ino c after others kept shown was q a h = ⊎_elim
-    (λ same. subst (λ n. shown_attrs after n ≡ Some a) (sym same) (shown a (sym (ap (says new) same) ∙ h)))
-    (λ apart. ap (option_map attrs_of) (kept q apart) ∙ was q a (sym (others q apart) ∙ h))
-    (cases_eq q ino)
+shown_put = true_put (λ o a. option_map attrs_of o ≡ Some a)
 
 module _ (c : Content) (ino : ℕ) where
-  -- a change at a number leaves the others
-  pub changed-others : (o : Option File) (change : File → File) (q : ℕ) → q ≢ ino → map.get (changed_at o ino change c) q ≡ map.get c q
-  changed-others None change q apart = refl
-  changed-others (Some f) change q apart = get-insert_other c ino (change f) q apart
-
-  -- and shows there what the changed file shows
+  -- a change at a number shows there what the changed file shows
   pub changed-shown : (change : File → File) (a b : Attrs) → ((f : File) → attrs_of f ≡ a → attrs_of (change f) ≡ b)
       → shown_attrs c ino ≡ Some a → shown_attrs (changed_at (map.get c ino) ino change c) ino ≡ Some b
   changed-shown change a b by = at (map.get c ino) where
@@ -56,11 +39,11 @@ mapped : (g : Attrs → Attrs) (b : Attrs) (o : Option Attrs) → option_map g o
 mapped g b None h = absurd (cc)
 mapped g b (Some a) h = (a, refl, cc)
 
-module _ (old new : AttrCache) (ino : ℕ) (c : Content) (others : SaysTheSame old new ino) where
+module _ (old new : Slots Attrs) (ino : ℕ) (c : Content) (others : SaysTheSame old new ino) where
   -- a number got an empty file
   pub shown_made : (attrs : Attrs) → says new ino ≡ kept_of ino (Some (record attrs { size = 0 })) → AreShown old c → AreShown new (map.insert c ino (file_of attrs []))
   shown_made attrs put = shown_put old new ino c _ others (get-insert_other c ino (file_of attrs []))
-      (λ a h. ap (option_map attrs_of) (get-insert_same c ino (file_of attrs [])) ∙ kept_only (nat_lt ino 4096) (Some (record attrs { size = 0 })) a (sym put ∙ h))
+      (λ a h. ap (option_map attrs_of) (get-insert_same c ino (file_of attrs [])) ∙ kept_only ino (Some (record attrs { size = 0 })) a (sym put ∙ h))
 
   -- a number became free
   pub shown_removed : says new ino ≡ None → AreShown old c → AreShown new (map.remove c ino)
@@ -78,7 +61,7 @@ module _ (old new : AttrCache) (ino : ℕ) (c : Content) (others : SaysTheSame o
       → says new ino ≡ kept_of ino (option_map g (says old ino))
       → AreShown old c → AreShown new (changed_at (map.get c ino) ino change c)
   shown_mapped change g by put = shown_changed change
-      (λ b h. let was = mapped g b (says old ino) (kept_only (nat_lt ino 4096) _ b (sym put ∙ h)) in (was.0, was.1, λ f e. by f ∙ ap g e ∙ was.2))
+      (λ b h. let was = mapped g b (says old ino) (kept_only ino _ b (sym put ∙ h)) in (was.0, was.1, λ f e. by f ∙ ap g e ∙ was.2))
 
   -- and where bytes were put within it
   pub shown_within : (off : ℕ) (bytes : List ℕ) → IfSome (says new ino) (λ a. (says old ino ≡ Some a) × (off + length bytes ≤ a.size))

@@ -2,10 +2,11 @@
 use Rattle.std.specs.Prelude.{◌≡◌, ℕ, List, Option, None, Some}
 use Rattle.lfs_types.specs.Stored.{bytes_of}
 use Rattle.lfs_types.specs.Tree.{Content}
-use Rattle.lfs_attrcache.specs.Says.{AreShown}
-use Rattle.lfs_attrcache.specs.declared.cache.AttrCache.{AttrCache}
-use Rattle.lfs_dirhints.specs.Says.{AreFull}
-use Rattle.lfs_dirhints.specs.declared.hints.DirHints.{DirHints}
+use Rattle.lfs_types.specs.declared.attrs.Attrs.{Attrs}
+use Rattle.lfs_slots.specs.declared.slots.Slots.{Slots}
+use Rattle.lfs_attrcache.specs.Shown.{AreShown}
+use Rattle.lfs_dirhints.specs.Full.{AreFull}
+use Rattle.lfs_dirhints.specs.declared.hints.Hint.{Hint}
 use Rattle.lfs_dirs.specs.Directory.{number_in}
 use Rattle.lfs_namecache.specs.Says.{says}
 use Rattle.lfs_namecache.specs.declared.cache.NameCache.{NameCache}
@@ -26,7 +27,7 @@ abbrev pub AreTrue : NameCache → Content → Type 0
 AreTrue names c = (dir : ℕ) (name : List ℕ) (found : Option ℕ) → says names dir name ≡ Some found → IsFound c dir name found
 
 -- what is known: what caches say of names and of attributes is what a content has, and what hints say of room is so
-pub record IsTrueOf (names : NameCache) (attributes : AttrCache) (hints : DirHints) (c : Content) : Type 0 where
+pub record IsTrueOf (names : NameCache) (attributes : Slots Attrs) (hints : Slots Hint) (c : Content) : Type 0 where
   pub listed : AreTrue names c
   pub shown : AreShown attributes c
   pub full : AreFull hints c

@@ -8,7 +8,7 @@ ghost use Rattle.lfs_types.specs.Stored.{bytes_of, shown_attrs};
 ghost use Rattle.lfs_types.specs.Tree.{Content, file_of};
 ghost use Rattle.lfs_dirs.specs.Directory.{IsDirectoryBlock};
 ghost use Rattle.lfs_dirs.specs.Reading.{entries_of};
-ghost use Rattle.lfs_dirhints.specs.Says.{IsFullBefore};
+ghost use Rattle.lfs_dirhints.specs.Full.{IsFullBefore};
 ghost use Rattle.lfs_model.specs.World.{child};
 ghost use Rattle.lfs_model.specs.Rules.{Judges, judged, making, making_tests};
 ghost use Rattle.lfs_calls.specs.Calls.{ChangesTo, IsCall};

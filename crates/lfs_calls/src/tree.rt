@@ -6,8 +6,8 @@ ghost use Rattle.std.specs.FinMap.{get};
 ghost use Rattle.lfs_types.specs.Changes.{CanApply, applied};
 ghost use Rattle.lfs_types.specs.StoreStates.{Applies};
 ghost use Rattle.lfs_types.specs.Stored.{shown_attrs, bytes_of, slice_of, Reads, IsLeastFree};
-ghost use Rattle.lfs_attrcache.specs.Says.{AreShown};
-ghost use Rattle.lfs_dirhints.specs.Says.{AreFull, IsFullBefore};
+ghost use Rattle.lfs_attrcache.specs.Shown.{AreShown};
+ghost use Rattle.lfs_dirhints.specs.Full.{AreFull, IsFullBefore};
 ghost use Rattle.lfs_model.specs.World.{child};
 ghost use Rattle.lfs_dirs.specs.Directory.{number_in};
 ghost use Rattle.lfs_calls.specs.Content.{IsDirectoryAt, all_entries};
@@ -92,9 +92,9 @@ impl<F: FileStore> Tree<F> {
         ensures attrs { result ≡ shown_attrs (F.state self.old).content ino }
         ensures same { self.new ≡ self.old }
     {
-        let attrs = self.store.attrs(ino)?;
-        self.attributes.enter(ino, &attrs);
-        Some(attrs)
+        let attrs = &self.store.attrs(ino)?;
+        self.attributes.enter(ino, *attrs);
+        Some(*attrs)
     }
 
     /// Reads a file's bytes from `off` on, as many as there are and the buffer takes, and says how many.
@@ -257,7 +257,7 @@ fn apply_followed<F: FileStore>(
         → AreFull hints.new (F.state store.new).content }
 {
     store.apply(changes)?;
-    attributes.follow(changes);
-    hints.follow(changes);
+    lfs_attrcache::follow(attributes, changes);
+    lfs_dirhints::follow(hints, changes);
     Ok(())
 }

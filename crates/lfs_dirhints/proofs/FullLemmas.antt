@@ -1,32 +1,23 @@
 -- What hints say after a change of a content, and after one was entered.
-use Rattle.std.proofs.Common.{min, ◌≡◌, ◌≢◌, ℕ, ◌+◌, ◌*◌, ◌-◌, ◌<◌, ◌≤◌, Bool, true, false, cond, List, [], ◌∷◌, ◌++◌, length, take, drop, Option, None, Some, refl, sym, ap, subst, ◌∙◌, ⊎_elim, arith, append_assoc, length-append, length-take, length-drop}
+use Rattle.std.proofs.Common.{min, ◌≡◌, ◌≢◌, ℕ, ◌+◌, ◌*◌, ◌-◌, ◌<◌, ◌≤◌, List, [], ◌∷◌, ◌++◌, length, take, drop, Option, None, Some, refl, sym, ap, subst, ◌∙◌, arith, append_assoc, length-append, length-take, length-drop}
 use Rattle.std.proofs.Math.ListN.{length-replicate}
 use Rattle.std.proofs.lemmas.List.{take-append-drop}
-use Rattle.std.specs.Prelude.{IfSome, nat_lt, replicate}
+use Rattle.std.specs.Prelude.{IfSome, replicate}
 use Rattle.std.specs.FinMap as map
-use Rattle.std.proofs.lemmas.Bool.{cases_eq}
-use Rattle.lfs_types.specs.Changes.{applied, changed, changed_at}
+use Rattle.lfs_types.specs.Changes.{changed_at}
 use Rattle.lfs_types.specs.Splicing.{splice}
 use Rattle.lfs_types.specs.Stored.{bytes_of, bytes_of_file}
 use Rattle.lfs_types.specs.Tree.{Content, File, file_of}
 use Rattle.lfs_types.specs.declared.attrs.Attrs.{Attrs}
-use Rattle.lfs_types.specs.declared.store.Change.{Change}
 use Rattle.lfs_types.proofs.Maps.{get-insert_other, get-insert_same, get-remove_other}
 use Rattle.lfs_types.proofs.Pieces.{piece-front}
 use Rattle.lfs_dirs.specs.Directory.{used_of}
 use Rattle.lfs_dirs.specs.Reading.{entries_of}
-use Rattle.lfs_dirhints.specs.Says.{AreFull, IsFullBefore, IsLowered, SaysTheSame, kept_of, says}
-use Rattle.lfs_dirhints.specs.declared.hints.DirHints.{DirHints}
+use Rattle.lfs_slots.specs.Says.{SaysTheSame, kept_of, says}
+use Rattle.lfs_slots.specs.declared.slots.Slots.{Slots}
+use Rattle.lfs_slots.proofs.FollowLemmas.{changed-others, kept_only, true_put}
+use Rattle.lfs_dirhints.specs.Full.{AreFull, IsFullBefore, IsLowered}
 use Rattle.lfs_dirhints.specs.declared.hints.Hint.{Hint}
-
--- changes and further ones are made one after the other
-pub applied-append : (before after : List Change) (c : Content) → applied (before ++ after) c ≡ applied after (applied before c)
-applied-append [] after c = refl
-applied-append (change ∷ before) after c = applied-append before after (changed change c)
-
-kept_only : (b : Bool) (hint : Option Hint) (h : Hint) → cond b hint None ≡ Some h → hint ≡ Some h
-kept_only true hint h e = e
-kept_only false hint h e = absurd (cc)
 
 -- ---- bytes put into others
 
@@ -72,30 +63,22 @@ full_spliced bytes hint off new behind was = record {
 -- ---- hints
 
 -- what is said after the slot of a number was put is true, where a change touches that number alone and it is true there
-pub full_put : (old new : DirHints) (dir : ℕ) (c after : Content) → SaysTheSame old new dir
+pub full_put : (old new : Slots Hint) (dir : ℕ) (c after : Content) → SaysTheSame old new dir
     → ((q : ℕ) → q ≢ dir → map.get after q ≡ map.get c q) → ((h : Hint) → says new dir ≡ Some h → IsFullBefore (bytes_of after dir) h)
     → AreFull old c → AreFull new after
-full_put old new dir c after others kept full was q h said = ⊎_elim
-    (λ same. subst (λ n. IsFullBefore (bytes_of after n) h) (sym same) (full h (sym (ap (says new) same) ∙ said)))
-    (λ apart. subst (λ o. IsFullBefore (bytes_of_file o) h) (sym (kept q apart)) (was q h (sym (others q apart) ∙ said)))
-    (cases_eq q dir)
+full_put = true_put (λ o h. IsFullBefore (bytes_of_file o) h)
 
 -- a hint that is true was entered
-pub full_entered : (old new : DirHints) (c : Content) (dir : ℕ) (hint : Hint) → says new dir ≡ kept_of dir (Some hint) → SaysTheSame old new dir
+pub full_entered : (old new : Slots Hint) (c : Content) (dir : ℕ) (hint : Hint) → says new dir ≡ kept_of dir (Some hint) → SaysTheSame old new dir
     → IsFullBefore (bytes_of c dir) hint → AreFull old c → AreFull new c
 full_entered old new c dir hint entered others is = full_put old new dir c c others (λ q apart. refl)
     (λ h said.
-    let same : Some hint ≡ Some h = kept_only (nat_lt dir 4096) (Some hint) h (sym entered ∙ said) in
+    let same : Some hint ≡ Some h = kept_only dir (Some hint) h (sym entered ∙ said) in
     let one : hint ≡ h = cc in
     subst (IsFullBefore (bytes_of c dir)) one is)
 
 module _ (c : Content) (ino : ℕ) where
-  -- a change at a number leaves the others
-  pub changed-others : (o : Option File) (change : File → File) (q : ℕ) → q ≢ ino → map.get (changed_at o ino change c) q ≡ map.get c q
-  changed-others None change q apart = refl
-  changed-others (Some f) change q apart = get-insert_other c ino (change f) q apart
-
-  -- and its bytes are those of the changed file, or none
+  -- after a change at a number its bytes are those of the changed file, or none
   pub changed-bytes : (change : File → File) (P : List ℕ → Type 0) → ((f : File) → map.get c ino ≡ Some f → P (change f).bytes) → (map.get c ino ≡ None → P [])
       → P (bytes_of (changed_at (map.get c ino) ino change c) ino)
   changed-bytes change P some none = at (map.get c ino) refl where
@@ -104,14 +87,14 @@ module _ (c : Content) (ino : ℕ) where
     at (Some f) e = subst P (sym (ap bytes_of_file (get-insert_same c ino (change f)))) (some f e)
 
 -- attributes leave bytes
-pub full_attrs : (hints : DirHints) (ino : ℕ) (attrs : Attrs) (c : Content) → AreFull hints c → AreFull hints (changed_at (map.get c ino) ino (λ f. file_of attrs f.bytes) c)
+pub full_attrs : (hints : Slots Hint) (ino : ℕ) (attrs : Attrs) (c : Content) → AreFull hints c → AreFull hints (changed_at (map.get c ino) ino (λ f. file_of attrs f.bytes) c)
 full_attrs hints ino attrs c was = full_put hints hints ino c _ (λ n apart. refl) (changed-others c ino (map.get c ino) (λ f. file_of attrs f.bytes))
     (λ h said. changed-bytes c ino (λ f. file_of attrs f.bytes) (λ bytes. IsFullBefore bytes h)
     (λ f e. subst (λ o. IsFullBefore (bytes_of_file o) h) e (was ino h said))
     (λ e. subst (λ o. IsFullBefore (bytes_of_file o) h) e (was ino h said)))
     was
 
-module _ (old new : DirHints) (ino : ℕ) (c : Content) (others : SaysTheSame old new ino) where
+module _ (old new : Slots Hint) (ino : ℕ) (c : Content) (others : SaysTheSame old new ino) where
   -- a number was forgotten, and nothing else was changed than its file
   pub full_forgotten : says new ino ≡ None → (after : Content) → ((q : ℕ) → q ≢ ino → map.get after q ≡ map.get c q) → AreFull old c → AreFull new after
   full_forgotten forgotten after kept = full_put old new ino c after others kept (λ h said. absurd (cc))

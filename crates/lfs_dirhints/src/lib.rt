@@ -4,4 +4,5 @@
 mod following;
 mod hints;
 
+pub use following::follow;
 pub use hints::{DirHints, Hint};

@@ -1,10 +1,10 @@
 use Rattle.std.proofs.Common.{sym, subst}
-use Rattle.lfs_attrcache.specs.Says.{AreShown}
-use Rattle.lfs_dirhints.specs.Says.{AreFull}
+use Rattle.lfs_attrcache.specs.Shown.{AreShown}
+use Rattle.lfs_dirhints.specs.Full.{AreFull}
 use Rattle.lfs_calls.proofs.tree.apply_followed.Goals as goal
 
 pub returns-clause-shown : goal.returns-clause-shown
-returns-clause-shown g c shown = subst (AreShown c.follow.new.self) (sym c.in_ok-apply.ensures.ok) (c.follow.ensures _ shown)
+returns-clause-shown g c shown = subst (AreShown c.follow.new.cache) (sym c.in_ok-apply.ensures.ok) (c.follow.ensures _ shown)
 
 pub returns-clause-full : goal.returns-clause-full
-returns-clause-full g c full = subst (AreFull c.follow-2.new.self) (sym c.in_ok-apply.ensures.ok) (c.follow-2.ensures _ full)
+returns-clause-full g c full = subst (AreFull c.follow-2.new.hints) (sym c.in_ok-apply.ensures.ok) (c.follow-2.ensures _ full)

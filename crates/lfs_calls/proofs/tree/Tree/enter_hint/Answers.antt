@@ -1,6 +1,6 @@
 use Rattle.std.proofs.Common.{sym, subst}
 use Rattle.lfs_types.specs.Stored.{bytes_of}
-use Rattle.lfs_dirhints.specs.Says.{IsFullBefore}
+use Rattle.lfs_dirhints.specs.Full.{IsFullBefore}
 use Rattle.lfs_dirhints.proofs.FullLemmas.{full_entered}
 use Rattle.lfs_calls.proofs.tree.Tree.enter_hint.Goals as goal
 
