@@ -13,7 +13,7 @@ const SHORT: [u8; 25] = [b'n'; 25];
 /// A name of 255 bytes.
 const LONG: [u8; 255] = [b'n'; 255];
 
-/// A path of forty names of 25 bytes, as 26 bytes each.
+/// A path of twelve names of 25 bytes, as 26 bytes each.
 const PATH: &str = concat!(
     "/aaaaaaaaaaaaaaaaaaaaaaaaa/aaaaaaaaaaaaaaaaaaaaaaaaa/aaaaaaaaaaaaaaaaaaaaaaaaa",
     "/aaaaaaaaaaaaaaaaaaaaaaaaa/aaaaaaaaaaaaaaaaaaaaaaaaa/aaaaaaaaaaaaaaaaaaaaaaaaa",
@@ -35,7 +35,7 @@ pub fn names<W: Write>(alloc: Global, writer: &mut W) {
 
 /// Paths are parsed.
 pub fn paths<W: Write>(alloc: Global, writer: &mut W) {
-    for text in ["/", "/a/b", PATH] {
+    for text in ["/", "/a/b", "/a/b/c/d/e/f/g/h", PATH] {
         if told(writer, "path", Path::parse(alloc, text)) {
             told(writer, "path", Path::parse(alloc, text));
         }
