@@ -24,9 +24,7 @@ pub fn refuse<W: Write, D: Write>(
 {
     match error.kind() {
         ErrorKind::OutOfMemory => end(stderr, program, Err(RunFault::Memory)),
-        ErrorKind::DisplayHelp | ErrorKind::DisplayVersion => {
-            end(stderr, program, help(stdout, error))
-        }
+        ErrorKind::DisplayHelp => end(stderr, program, help(stdout, error)),
         _ => {
             let _ = write!(stderr, "{error}");
             2
