@@ -4,8 +4,18 @@ use Rattle.std.proofs.lemmas.Option.{same_Some}
 use Rattle.lfs_ifile.specs.declared.segment.SegState.TheVariants.{Clean, Dirty, Active}
 use Rattle.lfs_bmap.specs.declared.blocks.TheConstants.{BLOCK_CODES}
 use Rattle.lfs_bmap.specs.Counting.{seg_of, units, total, weight_of, live_bytes, placed}
-use Rattle.lfs_bmap.specs.Log.{Owner, LogState, owner_of, IsPlaced, IsPlace, clean_unit, AreSegments, IsLog, SameKeys, SameUse, Writes, Assigns, MayTake, Renews}
+use Rattle.lfs_bmap.specs.Log.{Owner, LogState, owner_of, IsPlaced, IsPlace, clean_unit, AreSegments, IsLog, SameKeys, SameUse, Writes, Assigns, Renews}
 use Rattle.lfs_bmap.proofs.CountingLemmas.{total-same, weight-none, weight-here, placed-cases, live-same, live-placed}
+
+-- a key may take a place: the log names it there, in the active segment before its end, and bytes are spare
+pub record MayTake (l : LogState) (spare number code place : ℕ) : Type 0 where
+  pub number_below : number < l.numbers
+  pub code_below : code < BLOCK_CODES
+  pub somewhere : place ≢ 0
+  pub here : seg_of place ≡ l.active
+  pub written : place < 4 * l.next
+  pub owned : l.owner place ≡ Some (owner_of l number code)
+  pub enough : 128 * units code ≤ spare
 
 -- one owner a place
 pub one_owner : (l : LogState) (spare n c m d : ℕ) → IsLog l spare → IsPlaced l n c → IsPlaced l m d → l.at n c ≡ l.at m d → (n ≡ m) × (c ≡ d)

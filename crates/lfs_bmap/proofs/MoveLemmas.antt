@@ -3,10 +3,10 @@ use Rattle.std.proofs.Common.{◌≡◌, ◌≢◌, ℕ, ◌/◌, ◌<◌, ◌�
 use Rattle.std.proofs.lemmas.Bool.{cases_eq, cases_lt, cond-true, cond-false, eq-eqb, ne_eqb, lt-ltb, le-ltb, and_from, and_left, and_right}
 use Rattle.lfs_bmap.specs.declared.blocks.TheConstants.{BLOCK_CODES}
 use Rattle.lfs_bmap.specs.Counting.{seg_of}
-use Rattle.lfs_bmap.specs.Log.{LogState, IsPlaced, IsLog, SameKeys, SameUse, MayTake, Assigns, Opens, Renews}
+use Rattle.lfs_bmap.specs.Log.{LogState, IsPlaced, IsLog, SameKeys, SameUse, Assigns, Opens, Renews}
 use Rattle.lfs_bmap.specs.Moves.{present_address, DirtyIn, Moves, StaysDirty}
 use Rattle.lfs_bmap.proofs.CountingLemmas.{placed-cases}
-use Rattle.lfs_bmap.proofs.LogLemmas.{dirty_not_active}
+use Rattle.lfs_bmap.proofs.LogLemmas.{dirty_not_active, MayTake}
 use Rattle.lfs_bmap.proofs.SegmentLemmas.{opened_dirty}
 
 module _ (Within : ℕ → Type 0) where

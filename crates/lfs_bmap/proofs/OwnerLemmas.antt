@@ -6,11 +6,24 @@ use Rattle.std.proofs.lemmas.Option.{none-some, same_Some}
 use Rattle.lfs_segments.specs.declared.entry.LogicalBlock.{LogicalBlock}
 use Rattle.lfs_segments.specs.declared.entry.LogicalBlock.TheVariants as logical
 use Rattle.lfs_segments.specs.declared.entry.SummaryEntry.{SummaryEntry}
-use Rattle.lfs_bmap.specs.Blocks.{code_of, logical_of}
+use Rattle.lfs_bmap.specs.Blocks.{code_of, logical_of, file_block_of}
 use Rattle.lfs_bmap.specs.Log.{Owner}
-use Rattle.lfs_bmap.specs.Owners.{owner_in, owner_at, NamesBlock, NamesRecord}
+use Rattle.lfs_bmap.specs.Owners.{owner_in, owner_at}
 use Rattle.lfs_bmap.specs.declared.blocks.FileBlock.{FileBlock}
 use Rattle.lfs_bmap.specs.declared.blocks.FileBlock.TheVariants.{Record, Single, Double, Child, Data}
+
+-- What an entry says of the owner of a unit of its block: it names the block itself, or it is an inode block, which has
+-- the record there.
+pub record NamesBlock (e : SummaryEntry) (slot : ℕ) (o : Owner) : Type 0 where
+  pub number : e.number ≡ o.number
+  pub version : e.version ≡ o.version
+  pub code : code_of (file_block_of e.block) ≡ o.code
+  pub first : slot ≡ 0
+
+pub record NamesRecord (e : SummaryEntry) (found : Option (ℕ × ℕ)) (o : Owner) : Type 0 where
+  pub inodes : e.block ≡ logical.Inodes
+  pub found_there : found ≡ Some (o.number, o.version)
+  pub code : o.code ≡ 0
 
 owner_in-block : (block : FileBlock) (number version : ℕ) (found : Option (ℕ × ℕ)) → code_of block ≢ 0
     → owner_in (logical_of block) number version 0 found ≡ Some (record { number = number; version = version; code = code_of block })

@@ -10,9 +10,9 @@ use Rattle.lfs_bmap.specs.declared.blocks.TheConstants.{BLOCK_CODES}
 use Rattle.lfs_bmap.specs.Counting.{seg_of, placed}
 use Rattle.lfs_bmap.specs.Log.{LogState, IsPlaced, IsLog}
 use Rattle.lfs_bmap.specs.Ways.{way_of, code_at, IsBlockWay}
-use Rattle.lfs_bmap.specs.Reading.{Tree, address, read, data_block, IsUnread, SameReadings, Stages, Lands, Clears, places}
+use Rattle.lfs_bmap.specs.Reading.{Tree, address, read, data_block, IsUnread, SameReadings, Stages, Lands, places}
 use Rattle.lfs_bmap.proofs.CountingLemmas.{placed-cases, placed-here, placed-code, placed-number}
-use Rattle.lfs_bmap.proofs.ReadingLemmas.{address-root, data_leaf, staged_others, staged_bytes, landed_address, landed_addresses, landed_data, cleared_address, cleared_addresses}
+use Rattle.lfs_bmap.proofs.ReadingLemmas.{address-root, data_leaf, staged_others, staged_bytes, landed_address, landed_addresses, landed_data, cleared_address, cleared_addresses, Clears}
 use Rattle.lfs_bmap.proofs.SegmentLemmas.{not_in_clean}
 use Rattle.lfs_bmap.proofs.WayLemmas.{way_of-data, way_of-known, way_of-some, way_of-zero, known_way_of, same_code}
 

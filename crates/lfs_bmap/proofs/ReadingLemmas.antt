@@ -1,14 +1,30 @@
 -- What keeps the addresses and the bytes of a file's blocks.
 use Rattle.std.proofs.Common.{◌≡◌, ◌≢◌, ℕ, ◌<◌, ◌≤◌, inl, inr, List, [], ◌∷◌, Some, None, refl, sym, ap, ◌∙◌, subst}
-use Rattle.std.specs.Prelude.{unwrap_or, if◌then◌else◌, ◌==◌, slice_index}
+use Rattle.std.specs.Prelude.{unwrap_or, if◌then◌else◌, ◌==◌, slice_index, length, slice_set}
 use Rattle.std.proofs.lemmas.Bool.{cases_eq, cond-true, cond-false, eq-eqb, ne_eqb}
 use Rattle.std.proofs.lemmas.List.{get_or-set_same, get_or-set_other}
 use Rattle.lfs_types.specs.Blocks.{zero_block}
 use Rattle.lfs_inodes.specs.Addresses.{cells}
 use Rattle.lfs_bmap.specs.declared.blocks.TheConstants.{BLOCK_CODES}
 use Rattle.lfs_bmap.specs.Ways.{way_of, IsWay, IsBlockWay}
-use Rattle.lfs_bmap.specs.Reading.{Tree, bytes_via, table, address, read, IsUnread, SameReadings, StoresBlock, Stages, Lands, Clears}
+use Rattle.lfs_bmap.specs.Reading.{Tree, bytes_via, table, address, read, IsUnread, SameReadings, Stages, Lands}
 use Rattle.lfs_bmap.proofs.WayLemmas.{up_known, cases_way, way_of-known, no_way_through}
+
+-- The block at the way i ∷ up was given back: it has no address and waits no more. No block had its address in it.
+pub record Clears (old new : Tree) (i : ℕ) (up : List ℕ) : Type 0 where
+  pub room : i < length (table old up)
+  pub parent : table new up ≡ slice_set (table old up) i 0
+  pub root : up ≢ [] → new.root ≡ old.root
+  pub settled : new.waits (i ∷ up) ≡ None
+  pub waits : (other : List ℕ) → IsBlockWay other → other ≢ i ∷ up → other ≢ up → new.waits other ≡ old.waits other
+  pub blocks : (b : ℕ) → new.block b ≡ old.block b
+  pub beneath : (j : ℕ) → IsBlockWay (j ∷ i ∷ up) → address old (j ∷ i ∷ up) ≡ 0
+
+-- A block was written at an address of the log, and nothing else changed.
+pub record StoresBlock (old new : Tree) (a : ℕ) : Type 0 where
+  pub root : new.root ≡ old.root
+  pub waits : (way : List ℕ) → IsBlockWay way → new.waits way ≡ old.waits way
+  pub blocks : (b : ℕ) → b ≢ a → new.block b ≡ old.block b
 
 -- The definitions, by equations.
 pub table-root : (t : Tree) → table t [] ≡ t.root

@@ -5,9 +5,9 @@ use Rattle.lfs_ifile.specs.declared.segment.SegState.{SegState}
 use Rattle.lfs_ifile.specs.declared.segment.SegState.TheVariants.{Clean, Dirty, Active}
 use Rattle.lfs_bmap.specs.declared.blocks.TheConstants.{BLOCK_CODES}
 use Rattle.lfs_bmap.specs.Counting.{seg_of, units, total, weight_of}
-use Rattle.lfs_bmap.specs.Log.{LogState, IsPlaced, IsPlace, clean_unit, AreSegments, IsLog, MayTake, Opens, Cleans, IsEmptyLog}
+use Rattle.lfs_bmap.specs.Log.{LogState, IsPlaced, IsPlace, clean_unit, AreSegments, IsLog, Opens, Cleans, IsEmptyLog}
 use Rattle.lfs_bmap.proofs.CountingLemmas.{total-changed, total-part, total-zero, weight-none, weight-here, weight-elsewhere, live-none, live-part, live-empty}
-use Rattle.lfs_bmap.proofs.LogLemmas.{had_place, place_kept, owner_kept, counted_kept, active_not_clean, dirty_not_clean, dirty_not_active, seg_below}
+use Rattle.lfs_bmap.proofs.LogLemmas.{had_place, place_kept, owner_kept, counted_kept, active_not_clean, dirty_not_clean, dirty_not_active, seg_below, MayTake}
 
 -- a place in a segment that is not clean is not in the one that is
 pub not_in_clean : (l : LogState) (spare segment : ℕ) → IsLog l spare → l.state segment ≡ Clean → (n c : ℕ) → IsPlaced l n c → seg_of (l.at n c) ≢ segment

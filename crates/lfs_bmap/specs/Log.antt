@@ -5,7 +5,7 @@ use Rattle.lfs_types.specs.declared.limits.TheConstants.{SEGMENT_BLOCKS}
 use Rattle.lfs_ifile.specs.declared.segment.SegState.{SegState}
 use Rattle.lfs_ifile.specs.declared.segment.SegState.TheVariants.{Clean, Dirty, Active}
 use Rattle.lfs_bmap.specs.declared.blocks.TheConstants.{BLOCK_CODES}
-use Rattle.lfs_bmap.specs.Counting.{seg_of, units, total, weight_of, live_bytes, placed}
+use Rattle.lfs_bmap.specs.Counting.{seg_of, total, weight_of, live_bytes, placed}
 
 -- Whose block or record stands at a place.
 pub record Owner : Type 0 where
@@ -112,16 +112,6 @@ pub record Assigns (old new : LogState) (number code place : ℕ) : Type 0 where
   pub live : (s : ℕ) → s < old.segments
       → new.live s + weight_of (old.at number code) s code ≡ old.live s + weight_of place s code
   pub owners : (p : ℕ) → new.owner p ≡ old.owner p
-
--- a key may take a place: the log names it there, in the active segment before its end, and bytes are spare
-pub record MayTake (l : LogState) (spare number code place : ℕ) : Type 0 where
-  pub number_below : number < l.numbers
-  pub code_below : code < BLOCK_CODES
-  pub somewhere : place ≢ 0
-  pub here : seg_of place ≡ l.active
-  pub written : place < 4 * l.next
-  pub owned : l.owner place ≡ Some (owner_of l number code)
-  pub enough : 128 * units code ≤ spare
 
 -- A clean segment was made the active one, and the active one dirty.
 pub record Opens (old new : LogState) (segment : ℕ) : Type 0 where

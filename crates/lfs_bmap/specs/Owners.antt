@@ -1,9 +1,8 @@
 -- Whose blocks and records the log names.
-use Rattle.std.specs.Prelude.{◌≡◌, ℕ, ◌+◌, ◌/◌, ◌%◌, if◌then◌else◌, ◌==◌, Option, Some, None, option_map, option_and_then}
+use Rattle.std.specs.Prelude.{ℕ, ◌+◌, ◌/◌, ◌%◌, if◌then◌else◌, ◌==◌, Option, Some, None, option_map, option_and_then}
 use Rattle.lfs_segments.specs.declared.entry.LogicalBlock.{LogicalBlock}
 use Rattle.lfs_segments.specs.declared.entry.LogicalBlock.TheVariants as logical
 use Rattle.lfs_segments.specs.declared.entry.SummaryEntry.{SummaryEntry}
-use Rattle.lfs_bmap.specs.Blocks.{code_of, file_block_of}
 use Rattle.lfs_bmap.specs.Log.{Owner}
 
 -- the owner of one of four units of a block that an entry names: in an inode block the record that stands there, known
@@ -24,16 +23,3 @@ owner_in (logical.Data index) number version slot found =
 unfoldable pub owner_at : (ℕ → Option SummaryEntry) → (ℕ → ℕ → Option (ℕ × ℕ)) → ℕ → Option Owner
 owner_at entries records place =
     option_and_then (λ (e : SummaryEntry). owner_in e.block e.number e.version (place % 4) (records (place / 4) (place % 4))) (entries (place / 4))
-
--- What an entry says of the owner of a unit of its block: it names the block itself, or it is an inode block, which has
--- the record there.
-pub record NamesBlock (e : SummaryEntry) (slot : ℕ) (o : Owner) : Type 0 where
-  pub number : e.number ≡ o.number
-  pub version : e.version ≡ o.version
-  pub code : code_of (file_block_of e.block) ≡ o.code
-  pub first : slot ≡ 0
-
-pub record NamesRecord (e : SummaryEntry) (found : Option (ℕ × ℕ)) (o : Owner) : Type 0 where
-  pub inodes : e.block ≡ logical.Inodes
-  pub found_there : found ≡ Some (o.number, o.version)
-  pub code : o.code ≡ 0

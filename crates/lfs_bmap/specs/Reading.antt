@@ -44,12 +44,6 @@ pub record SameReadings (old new : Tree) : Type 0 where
   pub addresses : (way : List ℕ) → IsBlockWay way → address new way ≡ address old way
   pub bytes : (way : List ℕ) → IsBlockWay way → read new way ≡ read old way
 
--- A block was written at an address of the log, and nothing else changed.
-pub record StoresBlock (old new : Tree) (a : ℕ) : Type 0 where
-  pub root : new.root ≡ old.root
-  pub waits : (way : List ℕ) → IsBlockWay way → new.waits way ≡ old.waits way
-  pub blocks : (b : ℕ) → b ≢ a → new.block b ≡ old.block b
-
 -- Bytes wait for a block, and nothing else changed.
 pub record Stages (old new : Tree) (way bytes : List ℕ) : Type 0 where
   pub root : new.root ≡ old.root
@@ -68,16 +62,6 @@ pub record Lands (old new : Tree) (i : ℕ) (up : List ℕ) (a : ℕ) : Type 0 w
   pub waits : (other : List ℕ) → IsBlockWay other → other ≢ i ∷ up → other ≢ up → new.waits other ≡ old.waits other
   pub written : new.block a ≡ read old (i ∷ up)
   pub blocks : (b : ℕ) → b ≢ a → new.block b ≡ old.block b
-
--- The block at the way i ∷ up was given back: it has no address and waits no more. No block had its address in it.
-pub record Clears (old new : Tree) (i : ℕ) (up : List ℕ) : Type 0 where
-  pub room : i < length (table old up)
-  pub parent : table new up ≡ slice_set (table old up) i 0
-  pub root : up ≢ [] → new.root ≡ old.root
-  pub settled : new.waits (i ∷ up) ≡ None
-  pub waits : (other : List ℕ) → IsBlockWay other → other ≢ i ∷ up → other ≢ up → new.waits other ≡ old.waits other
-  pub blocks : (b : ℕ) → new.block b ≡ old.block b
-  pub beneath : (j : ℕ) → IsBlockWay (j ∷ i ∷ up) → address old (j ∷ i ∷ up) ≡ 0
 
 -- The place of each key, a number and a code: a record's stands in the inode map, another block's is four times its
 -- address.

@@ -2,9 +2,14 @@
 use Rattle.std.proofs.Common.{◌≡◌, ℕ, zero, suc, ◌<◌, true, false, cond, List, [], ◌∷◌, length, get_or, refl, sym, ap, ◌∙◌, arith}
 use Rattle.std.specs.List.{remove}
 use Rattle.std.proofs.slice.Lists.{any-default}
+use Rattle.std.specs.Prelude.{None, slice_index_or}
 use Rattle.lfs_cache.specs.declared.key.Key.{Key}
 use Rattle.lfs_cache.specs.Keys.{same_key}
-use Rattle.lfs_cache.specs.Frames.{names_without, key_in}
+use Rattle.lfs_cache.specs.Frames.{names_without, name_or}
+
+-- the key at a place of a list
+abbrev pub key_in : List Key → ℕ → Key
+key_in ns p = slice_index_or ns p (name_or None)
 
 pub names_dropped : (ns : List Key) (i : ℕ) (k : Key) → i < length ns → ((p : ℕ) → p < i → same_key (key_in ns p) k ≡ false) → same_key (key_in ns i) k ≡ true → remove ns i ≡ names_without k ns
 names_dropped [] i k inside others here = absurd (omega arith)

@@ -5,9 +5,17 @@ use Rattle.std.proofs.lemmas.List.{get_or-set_same, get_or-set_other, get_or_pas
 use Rattle.std.proofs.lemmas.Bool.{cases_lt, cases_eq}
 use Rattle.lfs_cache.specs.declared.key.Key.{Key}
 use Rattle.lfs_cache.specs.Keys.{start_of}
-use Rattle.lfs_cache.specs.Index.{key_at, frame_at, IsFree, IsReached, IsIndex, AreIndexed}
+use Rattle.lfs_cache.specs.Index.{key_at, frame_at, IsFree, IsReached, IsIndex, count_taken}
 use Rattle.lfs_cache.proofs.Places.{count_none, entered_new, entered_old, entered_count, entered_bound}
 use Rattle.lfs_cache.proofs.Cached.{none_not}
+
+-- the places lead to the frames of the keys below `upto`, and so many are taken
+pub record AreIndexed (keys : List (Option Key)) (places : List (Option ℕ)) (taken upto : ℕ) : Type 0 where
+  pub sized : length places ≡ 6 * length keys
+  pub inside : (p f : ℕ) → frame_at places p ≡ Some f → f < length keys
+  pub found : (f : ℕ) (k : Key) → f < upto → key_at keys f ≡ Some k → IsReached places (start_of k (4 * length keys)) f
+  pub counted : count_taken places ≡ taken
+  pub room : taken ≤ upto
 
 pub none_of : {X : Type 0} (o : Option X) → ((x : X) → o ≡ Some x → ⊥) → o ≡ None
 none_of None h = refl

@@ -1,5 +1,5 @@
 -- The frame that is taken next, and the list of LOCKED keys.
-use Rattle.std.specs.Prelude.{◌≡◌, ◌≢◌, ℕ, ◌<◌, cond, List, [], ◌∷◌, Option, Some, None, slice_index_or}
+use Rattle.std.specs.Prelude.{◌≡◌, ◌≢◌, ℕ, ◌<◌, cond, List, [], ◌∷◌, Option, Some, None}
 use Rattle.lfs_recency.specs.declared.queue.Queue.{Queue}
 use Rattle.lfs_recency.specs.declared.queue.Queue.TheVariants.{Locked, Lru, Age, Empty}
 use Rattle.lfs_recency.specs.FrameLists.{FrameLists, listed, oldest_of, times}
@@ -18,10 +18,6 @@ next_of l = first_of (oldest_of l.empty) (first_of (oldest_of l.age) (oldest_of 
 abbrev pub name_or : Option Key → Key
 name_or None = record { ino = 0; version = 0; lbn = 0 }
 name_or (Some k) = k
-
--- the key at a place of a list
-abbrev pub key_in : List Key → ℕ → Key
-key_in ns p = slice_index_or ns p (name_or None)
 
 -- keys without the first that is the same
 abbrev pub names_without : Key → List Key → List Key

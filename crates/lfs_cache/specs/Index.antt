@@ -35,11 +35,3 @@ pub record IsIndex (keys : List (Option Key)) (places : List (Option ℕ)) (take
   pub found : (f : ℕ) (k : Key) → key_at keys f ≡ Some k → IsReached places (start_of k (4 * length keys)) f
   pub counted : count_taken places ≡ taken
   pub room : taken ≤ 2 * length keys
-
--- the places lead to the frames of the keys below `upto`, and so many are taken
-pub record AreIndexed (keys : List (Option Key)) (places : List (Option ℕ)) (taken upto : ℕ) : Type 0 where
-  pub sized : length places ≡ 6 * length keys
-  pub inside : (p f : ℕ) → frame_at places p ≡ Some f → f < length keys
-  pub found : (f : ℕ) (k : Key) → f < upto → key_at keys f ≡ Some k → IsReached places (start_of k (4 * length keys)) f
-  pub counted : count_taken places ≡ taken
-  pub room : taken ≤ upto

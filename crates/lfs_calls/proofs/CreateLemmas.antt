@@ -11,11 +11,11 @@ use Rattle.lfs_types.specs.Tree.{File, Row, World, Content, root}
 use Rattle.lfs_types.specs.declared.attrs.Attrs.{Attrs}
 use Rattle.lfs_types.specs.declared.attrs.Kind.{Kind}
 use Rattle.lfs_types.specs.declared.attrs.Kind.TheVariants.{Directory}
-use Rattle.lfs_dirs.specs.Changes.{AreEntries-middle}
+use Rattle.lfs_dirs.proofs.Changes.{AreEntries-middle}
 use Rattle.lfs_dirs.specs.Directory.{AreEntries, IsEntry, number_in, used_of}
-use Rattle.lfs_dirs.specs.Laws.{used_of-block, used_of-append}
+use Rattle.lfs_dirs.proofs.Laws.{used_of-block, used_of-append}
 use Rattle.lfs_dirs.specs.Reading.{entries_of}
-use Rattle.lfs_calls.specs.declared.making.Room.{Room}
+use Rattle.lfs_calls.specs.declared.directory.Room.{Room}
 use Rattle.lfs_calls.specs.declared.walking.Reached.{Reached}
 use Rattle.lfs_model.specs.World.{children, IsTree, file_at}
 use Rattle.lfs_model.specs.Rules.{front, last, reached}

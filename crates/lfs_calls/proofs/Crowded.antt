@@ -9,7 +9,7 @@ use Rattle.std.proofs.lemmas.List.Elements.{All-contains, All-map, Contains-get_
 use Rattle.std.proofs.lemmas.Map.Entries.{length-keys_of}
 use Rattle.std.proofs.lemmas.Map.Made.{is_member-Decides, IsDistinct-from_AllPairs, length-le_from_is_member}
 use Rattle.lfs_types.specs.Tree.{Row}
-use Rattle.lfs_dirs.specs.Changes.{AreEntries-distinct, number_in-Contains, used_of-without_le, entries-where_full}
+use Rattle.lfs_dirs.proofs.Changes.{AreEntries-distinct, number_in-Contains, used_of-without_le, entries-where_full}
 use Rattle.lfs_dirs.specs.Directory.{Entry, used_of}
 use Rattle.lfs_dirs.specs.Reading.{entries_of}
 use Rattle.lfs_model.specs.World.{Rows, child, children, IsChild}

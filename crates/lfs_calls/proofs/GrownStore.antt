@@ -7,7 +7,7 @@ use Rattle.lfs_types.specs.Changes.{IsLength}
 use Rattle.lfs_types.specs.Tree.{File, Row, World, Content, root}
 use Rattle.lfs_types.specs.declared.attrs.Kind.{Kind}
 use Rattle.lfs_types.specs.declared.attrs.Kind.TheVariants.{File as Regular, Directory}
-use Rattle.lfs_dirs.specs.Changes.{number_in-nil}
+use Rattle.lfs_dirs.proofs.Changes.{number_in-nil}
 use Rattle.lfs_model.specs.World.{Rows, child, IsTree}
 use Rattle.lfs_calls.specs.Content.{visible, Shows, ListsRows, entries_below}
 use Rattle.lfs_model.proofs.Children.{child-answer, child-new_other}

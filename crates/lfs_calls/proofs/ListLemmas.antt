@@ -14,7 +14,7 @@ use Rattle.lfs_types.specs.Stored.{shown_attrs, bytes_of}
 use Rattle.lfs_types.specs.Tree.{World, Content, root}
 use Rattle.lfs_types.specs.declared.answer.Served.TheVariants as served
 use Rattle.lfs_types.specs.declared.request.Request.TheVariants.{List as Names}
-use Rattle.lfs_dirs.specs.Changes.{AreEntries-distinct, Contains-number_in, number_in-Contains}
+use Rattle.lfs_dirs.proofs.Changes.{AreEntries-distinct, Contains-number_in, number_in-Contains}
 use Rattle.lfs_dirs.specs.Directory.{Entry}
 use Rattle.lfs_dirs.specs.Reading.{entries_of}
 use Rattle.lfs_calls.specs.declared.walking.Reached.{Reached}

@@ -4,9 +4,9 @@ use Rattle.std.proofs.lemmas.Bool.{cases_Bool, ltb-true, ltb-false, both_ways, c
 use Rattle.std.specs.Prelude.{bytes_eq}
 use Rattle.std.proofs.lemmas.Option.{none-some}
 use Rattle.std.proofs.lemmas.Slice.Eq.{bytes_eq-Decides}
-use Rattle.lfs_dirs.specs.Changes.{number_in-append, number_in-here, number_in-later, number_in-nil, number_in-none, number_in-both, has_name-same, has_name-other, has_name-false}
+use Rattle.lfs_dirs.proofs.Changes.{number_in-append, number_in-here, number_in-later, number_in-nil, number_in-none, number_in-both, has_name-same, has_name-other, has_name-false, number_in-after}
 use Rattle.lfs_dirs.specs.Directory.{Entry, AreEntries, IsEntry, IsDirectoryBlock, has_name, number_in}
-use Rattle.lfs_dirs.specs.Laws.{entries_of-short}
+use Rattle.lfs_dirs.proofs.Laws.{entries_of-short}
 use Rattle.lfs_dirs.specs.Reading.{entries_of}
 use Rattle.lfs_model.specs.World.{Rows, child}
 use Rattle.lfs_calls.specs.Content.{block_at, entries_below, all_entries, AreBlocks, ListsRows}
@@ -14,17 +14,10 @@ use Rattle.lfs_types.proofs.Pieces.{put_over, piece-before, piece-here, piece-be
 
 -- ---- an entry put between others
 
--- where an entry stays at the front, what is found behind it is what counts
-after_front : (name : List ℕ) (e : Entry) (xs ys : List Entry) → number_in name xs ≡ number_in name ys → number_in name (e ∷ xs) ≡ number_in name (e ∷ ys)
-after_front name e xs ys same = ⊎_elim
-    (λ t. number_in-here name e xs t ∙ sym (number_in-here name e ys t))
-    (λ t. number_in-later name e xs t ∙ same ∙ sym (number_in-later name e ys t))
-    (cases_Bool (has_name name e))
-
 -- another name has the number that it had
 pub inserted_other : (name : List ℕ) (e : Entry) (xs ys : List Entry) → e.1 ≢ name → number_in name (xs ++ e ∷ ys) ≡ number_in name (xs ++ ys)
 inserted_other name e [] ys h = number_in-later name e ys (has_name-other name e h)
-inserted_other name e (x ∷ xs) ys h = after_front name x (xs ++ e ∷ ys) (xs ++ ys) (inserted_other name e xs ys h)
+inserted_other name e (x ∷ xs) ys h = number_in-after name x (xs ++ e ∷ ys) (xs ++ ys) (inserted_other name e xs ys h)
 
 -- an entry's name has its number
 pub inserted_here : (e : Entry) (xs ys : List Entry) → number_in e.1 (xs ++ ys) ≡ None → number_in e.1 (xs ++ e ∷ ys) ≡ Some e.0

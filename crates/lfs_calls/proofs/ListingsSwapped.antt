@@ -4,10 +4,10 @@ use Rattle.std.specs.Prelude.{IsSome, bytes_eq}
 use Rattle.std.proofs.lemmas.Bool.{cases_Bool, both_ways}
 use Rattle.std.proofs.lemmas.Slice.Eq.{bytes_eq-Decides}
 use Rattle.lfs_types.specs.Splicing.{splice}
-use Rattle.lfs_dirs.specs.Changes.{number_in-append, number_in-renumbered, number_in-renumbered_other, renumbered-append, renumbered-absent, AreEntries-renumbered}
+use Rattle.lfs_dirs.proofs.Changes.{number_in-append, number_in-renumbered, number_in-renumbered_other, renumbered-append, renumbered-absent, AreEntries-renumbered}
 use Rattle.lfs_dirs.specs.Directory.{Entry, AreEntries, number_in, renumbered}
 use Rattle.lfs_dirs.specs.Reading.{entries_of}
-use Rattle.lfs_calls.specs.declared.making.Room.{Room}
+use Rattle.lfs_calls.specs.declared.directory.Room.{Room}
 use Rattle.lfs_model.specs.World.{Rows, child}
 use Rattle.lfs_calls.specs.Content.{block_at, entries_below, all_entries, AreBlocks, ListsRows}
 use Rattle.lfs_calls.specs.Renames.{IsSwap}

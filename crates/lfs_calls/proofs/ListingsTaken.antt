@@ -5,10 +5,10 @@ use Rattle.std.specs.FinMap as map
 use Rattle.std.proofs.lemmas.Bool.{cases_Bool, both_ways}
 use Rattle.std.proofs.lemmas.Slice.Eq.{bytes_eq-Decides}
 use Rattle.lfs_types.specs.Splicing.{splice}
-use Rattle.lfs_dirs.specs.Changes.{number_in-nil, number_in-later, number_in-append, number_in-both, number_in-without, number_in-without_other, has_name-true, without-nil, without-here, without-later, without-absent, AreEntries-without}
+use Rattle.lfs_dirs.proofs.Changes.{number_in-nil, number_in-later, number_in-append, number_in-both, number_in-without, number_in-without_other, has_name-true, without-nil, without-here, without-later, without-absent, AreEntries-without}
 use Rattle.lfs_dirs.specs.Directory.{Entry, AreEntries, has_name, number_in, without}
 use Rattle.lfs_dirs.specs.Reading.{entries_of}
-use Rattle.lfs_calls.specs.declared.making.Room.{Room}
+use Rattle.lfs_calls.specs.declared.directory.Room.{Room}
 use Rattle.lfs_model.specs.World.{Rows, child, IsChild}
 use Rattle.lfs_calls.specs.Content.{block_at, entries_below, all_entries, AreBlocks, ListsRows}
 use Rattle.lfs_calls.specs.Removes.{IsTaking}

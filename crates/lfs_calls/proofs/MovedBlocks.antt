@@ -11,7 +11,7 @@ use Rattle.lfs_types.specs.Stored.{bytes_of, bytes_of_file}
 use Rattle.lfs_types.specs.Tree.{File, Content}
 use Rattle.lfs_types.specs.declared.attrs.Kind.TheVariants.{Directory}
 use Rattle.lfs_types.specs.declared.store.Change.TheVariants.{Put, Remove}
-use Rattle.lfs_calls.specs.declared.making.Room.{Room}
+use Rattle.lfs_calls.specs.declared.directory.Room.{Room}
 use Rattle.lfs_calls.specs.Makes.{IsBlockOf}
 use Rattle.lfs_calls.specs.Renames.{block_put, SwapsBlocks, WritesBlocks}
 use Rattle.lfs_calls.proofs.MakeLemmas.{grown_length}

@@ -10,11 +10,11 @@ use Rattle.lfs_types.specs.Stored.{bytes_of, bytes_of_file}
 use Rattle.lfs_types.specs.Splicing.{splice}
 use Rattle.lfs_types.specs.Tree.{File, World, Content}
 use Rattle.lfs_types.specs.declared.attrs.Kind.TheVariants.{Directory}
-use Rattle.lfs_dirs.specs.Changes.{without-absent, Contains-number_in, AreEntries-each}
+use Rattle.lfs_dirs.proofs.Changes.{without-absent, Contains-number_in, AreEntries-each}
 use Rattle.lfs_dirs.specs.Directory.{IsEntry, number_in, used_of}
-use Rattle.lfs_dirs.specs.Laws.{used_of-block, used_of-append}
+use Rattle.lfs_dirs.proofs.Laws.{used_of-block, used_of-append}
 use Rattle.lfs_dirs.specs.Reading.{entries_of}
-use Rattle.lfs_calls.specs.declared.making.Room.{Room}
+use Rattle.lfs_calls.specs.declared.directory.Room.{Room}
 use Rattle.lfs_calls.specs.declared.renaming.Move.{Move}
 use Rattle.lfs_model.specs.World.{child, IsChild, IsTree}
 use Rattle.lfs_calls.specs.Content.{Shows, ListsRows, FitsNowhere, block_at, left_of, all_entries}

@@ -7,10 +7,10 @@ use Rattle.lfs_types.specs.Changes.{IsLength, changed_at}
 use Rattle.lfs_types.specs.Splicing.{splice}
 use Rattle.lfs_types.specs.Tree.{File, Row, World, Content}
 use Rattle.lfs_types.specs.declared.attrs.Kind.TheVariants.{Directory}
-use Rattle.lfs_dirs.specs.Changes.{AreEntries-middle}
+use Rattle.lfs_dirs.proofs.Changes.{AreEntries-middle}
 use Rattle.lfs_dirs.specs.Directory.{AreEntries, IsEntry}
 use Rattle.lfs_dirs.specs.Reading.{entries_of}
-use Rattle.lfs_calls.specs.declared.making.Room.{Room}
+use Rattle.lfs_calls.specs.declared.directory.Room.{Room}
 use Rattle.lfs_model.specs.World.{Rows, child, IsChild, IsTree}
 use Rattle.lfs_calls.specs.Content.{visible, Shows, ListsRows}
 use Rattle.lfs_calls.specs.Makes.{IsRoom}

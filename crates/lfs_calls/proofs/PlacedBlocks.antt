@@ -3,7 +3,7 @@ use Rattle.std.proofs.Common.{◌≡◌, ◌+◌, ◌%◌, ◌≤◌, List, ℕ,
 use Rattle.lfs_types.specs.Stored.{bytes_of}
 use Rattle.lfs_types.specs.Tree.{File, World, Content}
 use Rattle.lfs_types.specs.declared.attrs.Kind.TheVariants.{Directory}
-use Rattle.lfs_calls.specs.declared.making.Room.{Room}
+use Rattle.lfs_calls.specs.declared.directory.Room.{Room}
 use Rattle.lfs_calls.specs.declared.renaming.Move.{Move}
 use Rattle.lfs_model.specs.World.{IsTree}
 use Rattle.lfs_calls.specs.Content.{Shows}

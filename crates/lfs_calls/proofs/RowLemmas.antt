@@ -11,9 +11,9 @@ use Rattle.lfs_types.specs.declared.attrs.Attrs.{Attrs}
 use Rattle.lfs_types.specs.declared.attrs.Kind.{Kind}
 use Rattle.lfs_types.specs.declared.attrs.Kind.TheVariants.{File as Regular, Directory}
 use Rattle.lfs_types.specs.declared.rule.Denial.{Denial}
-use Rattle.lfs_dirs.specs.Changes.{number_in-nil}
+use Rattle.lfs_dirs.proofs.Changes.{number_in-nil}
 use Rattle.lfs_dirs.specs.Directory.{Entry, number_in}
-use Rattle.lfs_calls.specs.declared.making.Room.{Room}
+use Rattle.lfs_calls.specs.declared.directory.Room.{Room}
 use Rattle.lfs_calls.specs.declared.removing.Removal.{Removal}
 use Rattle.lfs_calls.specs.declared.walking.Reached.{Reached}
 use Rattle.lfs_model.specs.World.{Rows, child, children, IsTree}

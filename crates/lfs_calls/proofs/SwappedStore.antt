@@ -8,7 +8,7 @@ use Rattle.lfs_types.specs.Changes.{IsLength}
 use Rattle.lfs_types.specs.Splicing.{splice}
 use Rattle.lfs_types.specs.Tree.{File, Row, World, Content}
 use Rattle.lfs_types.specs.declared.attrs.Kind.TheVariants.{Directory}
-use Rattle.lfs_calls.specs.declared.making.Room.{Room}
+use Rattle.lfs_calls.specs.declared.directory.Room.{Room}
 use Rattle.lfs_model.specs.World.{Rows, IsChild, IsTree}
 use Rattle.lfs_calls.specs.Content.{visible, Shows, ListsRows}
 use Rattle.lfs_calls.specs.Removes.{IsTaking}

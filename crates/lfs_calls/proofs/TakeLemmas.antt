@@ -11,7 +11,7 @@ use Rattle.lfs_types.specs.Tree.{File, Row, World, Content}
 use Rattle.lfs_types.specs.declared.attrs.Kind.TheVariants.{Directory}
 use Rattle.lfs_types.specs.declared.store.Change.TheVariants.{Put, Remove}
 use Rattle.lfs_dirs.specs.Directory.{number_in}
-use Rattle.lfs_calls.specs.declared.making.Room.{Room}
+use Rattle.lfs_calls.specs.declared.directory.Room.{Room}
 use Rattle.lfs_calls.specs.declared.removing.Removal.{Removal}
 use Rattle.lfs_model.specs.World.{IsChild, IsTree, child}
 use Rattle.lfs_model.specs.Effects.{without_row}

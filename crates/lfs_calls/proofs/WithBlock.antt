@@ -4,7 +4,7 @@ use Rattle.std.specs.Prelude.{IfSome}
 use Rattle.std.specs.Borrow.{Bor}
 use Rattle.std.proofs.lemmas.Bool.{cases_Bool, ltb-true, ltb-false}
 use Rattle.lfs_types.specs.Splicing.{splice}
-use Rattle.lfs_calls.specs.declared.making.Room.{Room}
+use Rattle.lfs_calls.specs.declared.directory.Room.{Room}
 use Rattle.lfs_calls.specs.Makes.{StandsIn, with_block}
 use Rattle.lfs_types.proofs.Pieces.{put_over, splice-put_over, piece-before, piece-here, piece-behind, length-put_over}
 

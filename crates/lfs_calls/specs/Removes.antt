@@ -14,7 +14,7 @@ use Rattle.lfs_types.specs.declared.request.Request.{Request}
 use Rattle.lfs_types.specs.declared.request.Request.TheVariants.{Unlink, Rmdir}
 use Rattle.lfs_dirs.specs.Directory.{IsDirectoryBlock, number_in, without}
 use Rattle.lfs_dirs.specs.Reading.{entries_of}
-use Rattle.lfs_calls.specs.declared.making.Room.{Room}
+use Rattle.lfs_calls.specs.declared.directory.Room.{Room}
 use Rattle.lfs_calls.specs.declared.removing.Removal.{Removal}
 use Rattle.lfs_model.specs.World.{Rows, child}
 use Rattle.lfs_model.specs.Rules.{Check, front, last, reached, rmdir_tests, unlink_tests}

@@ -11,7 +11,7 @@ use Rattle.lfs_types.specs.Tree.{World, Content, root}
 use Rattle.lfs_dirs.specs.Directory.{IsDirectoryBlock, number_in, renumbered}
 use Rattle.lfs_dirs.specs.Reading.{entries_of}
 use Rattle.lfs_calls.specs.Content.{AreBlocks, FitsNowhere, HasBlocks, all_entries, block_at}
-use Rattle.lfs_calls.specs.declared.making.Room.{Room}
+use Rattle.lfs_calls.specs.declared.directory.Room.{Room}
 use Rattle.lfs_calls.specs.declared.renaming.Move.{Move}
 use Rattle.lfs_calls.specs.declared.renaming.Places.{Places}
 use Rattle.lfs_calls.specs.declared.renaming.Target.{Target}

@@ -8,8 +8,7 @@ ghost use Rattle.lfs_model.specs.World.{IsChild};
 ghost use Rattle.lfs_calls.specs.Arrivals.{IsArrival, IsThere};
 ghost use Rattle.lfs_calls.specs.Volumes.{HasWorld, InWorld};
 
-use crate::directory::look_up;
-use crate::removing::is_empty_directory;
+use crate::directory::{is_empty_directory, look_up};
 use crate::tree::Tree;
 use crate::walking::{Reached, component, reach};
 use lfs_checks::asking::ask;

@@ -1,16 +1,35 @@
-//! Directories in a store, read block by block.
+//! Directories in a store, block by block: a name is looked up, names are listed, room is found, a name is taken out.
 
-ghost use Rattle.std.specs.Prelude.{◌≡◌, ◌+◌, ◌≤◌, IsSome, length, take, drop};
+ghost use Rattle.std.specs.Prelude.{◌≡◌, ◌+◌, ◌≤◌, IsSome, length, take, drop, ℕ, [], ◌∷◌, ◌%◌, ◌<◌, IfSome, Some, None, is_none, MatchOption, ◌↔◌, ◌/◌, IsTrue, ◌++◌, IfOk, map};
 ghost use Rattle.std.specs.FinMap.{get};
 ghost use Rattle.lfs_types.specs.declared.block.TheConstants.{BLOCK_SIZE};
 ghost use Rattle.lfs_types.specs.Stored.{bytes_of};
-ghost use Rattle.lfs_dirs.specs.Directory.{number_in};
-ghost use Rattle.lfs_calls.specs.Content.{HasBlocks, IsDirectoryAt, all_entries};
+ghost use Rattle.lfs_types.specs.declared.limits.TheConstants.{FILE_BYTES};
+ghost use Rattle.lfs_types.specs.Naming.{name_fault};
+ghost use Rattle.lfs_dirs.specs.Directory.{number_in, IsDirectoryBlock};
+ghost use Rattle.lfs_dirs.specs.Reading.{entries_of};
+ghost use Rattle.lfs_dirhints.specs.Full.{IsFullBefore};
+ghost use Rattle.lfs_calls.specs.Content.{HasBlocks, IsDirectoryAt, all_entries, FitsNowhere, AreBlocks, block_at};
+ghost use Rattle.lfs_calls.specs.Makes.{CanEnter, IsRoom, StandsIn, with_block};
+ghost use Rattle.lfs_calls.specs.Removes.{IsTaking, ListsName};
 
 use crate::tree::Tree;
+use lfs_dirhints::Hint;
+use lfs_dirs::{added, entries, find, removed};
 use lfs_types::block::{BLOCK_SIZE, Block};
-use lfs_types::name::Name;
+use lfs_types::limits::FILE_BYTES;
+use lfs_types::name::{BadName, NAME_MAX, Name};
 use lfs_types::store::FileStore;
+use std::alloc::{AllocError, Global};
+
+/// A block of a directory with an entry more or less than the stored one, and where it goes.
+#[derive(Clone, Copy)]
+pub(crate) struct Room {
+    /// Where the block begins in the directory's bytes.
+    pub(crate) off: u64,
+    /// The block.
+    pub(crate) block: Block,
+}
 
 /// The block of a file that begins at byte `off`.
 pub(crate) fn read_block<F: FileStore>(store: &mut Tree<F>, ino: u32, off: u64) -> Block
@@ -58,4 +77,222 @@ fn search<F: FileStore>(store: &mut Tree<F>, dir: u32, size: u64, name: &Name) -
         }
     }
     None
+}
+
+/// The names that a directory of this size lists, as they stand in its blocks; an error where a growth was refused.
+pub(crate) fn names_of_directory<F: FileStore>(
+    alloc: Global,
+    store: &mut Tree<F>,
+    dir: u32,
+    size: u64,
+) -> Result<Vec<Name>, AllocError>
+    requires stored { HasBlocks (F.state store.old).content dir size }
+    requires blocks { AreBlocks (bytes_of (F.state store.old).content dir) }
+    ensures names { IfOk result (λ names. names.items
+        ≡ map (λ e. e.1) (all_entries (bytes_of (F.state store.old).content dir))) }
+    ensures state { F.state store.new ≡ F.state store.old }
+{
+    let block_size = BLOCK_SIZE as u64;
+    let mut names = Vec::new(alloc);
+    for k in 0..size / block_size {
+        let block = read_block(store, dir, block_size * k);
+        push_names(alloc, &mut names, &block)?;
+    }
+    Ok(names)
+}
+
+/// Puts the names of a block's entries behind others; an error where a growth was refused.
+fn push_names(alloc: Global, names: &mut Vec<Name>, block: &Block) -> Result<(), AllocError>
+    requires block { IsDirectoryBlock block.now (entries_of block.now) }
+    ensures { IfOk result (λ _. names.new.items
+        ≡ names.old.items ++ map (λ e. e.1) (entries_of block.now)) }
+{
+    for (_, bytes) in entries(block) {
+        names.push(name_of(alloc, bytes)?)?;
+    }
+    Ok(())
+}
+
+/// The name of an entry; an error where a growth was refused.
+fn name_of(alloc: Global, bytes: &[u8]) -> Result<Name, AllocError>
+    requires { name_fault bytes.now ≡ None }
+    ensures { IfOk result (λ name. name ≡ bytes.now) }
+{
+    match Name::parse(alloc, bytes) {
+        Ok(name) => Ok(name),
+        Err(BadName::Memory) => Err(AllocError),
+        Err(_) => unreachable!(),
+    }
+}
+
+/// Whether a directory of this size lists no name.
+pub fn is_empty_directory<F: FileStore>(store: &mut Tree<F>, dir: u32, size: u64) -> bool
+    requires { HasBlocks (F.state store.old).content dir size }
+    ensures empty { IsTrue result ↔ (all_entries (bytes_of (F.state store.old).content dir) ≡ []) }
+    ensures state { F.state store.new ≡ F.state store.old }
+{
+    let block_size = BLOCK_SIZE as u64;
+    for k in 0..size / block_size {
+        let block = read_block(store, dir, block_size * k);
+        if entries(&block).next().is_some() {
+            return false;
+        }
+    }
+    true
+}
+
+/// The first block of a directory that has room for a new entry, with that entry, else a new block at the end; None
+/// where the directory has all the blocks that it may have. The block `taken`, if there is one, is read in place of
+/// the stored one; without one, blocks that are known to have no room are passed over.
+pub(crate) fn find_room<F: FileStore>(
+    store: &mut Tree<F>,
+    dir: u32,
+    size: u64,
+    taken: Option<&Room>,
+    name: &Name,
+    number: u32,
+) -> Option<Room>
+    requires { CanEnter (F.state store.old).content dir size taken name.now number }
+    ensures room { MatchOption result
+        (FitsNowhere (with_block (bytes_of (F.state store.old).content dir) taken.entry)
+        None name.now)
+        (λ room. (k : ℕ) × IsRoom
+        (with_block (bytes_of (F.state store.old).content dir) taken.entry)
+        number name.now room k) }
+    ensures state { F.state store.new ≡ F.state store.old }
+{
+    let block_size = BLOCK_SIZE as u64;
+    let first = first_to_try(store, dir, taken, name);
+    for k in first..size / block_size {
+        let off = block_size * k;
+        let block = seen_block(store, dir, off, taken);
+        if let Some(block) = added(&block, name, number) {
+            keep_hint(store, dir, taken, k, name);
+            return Some(Room { off, block });
+        }
+    }
+    if size == FILE_BYTES {
+        return None;
+    }
+    keep_hint(store, dir, taken, size / block_size, name);
+    let block = lone_entry(name, number);
+    Some(Room { off: size, block })
+}
+
+/// The index of a block of a directory before which a name fits in none: that of the directory's hint, where no block is
+/// read in place of a stored one and the name is no shorter than the hint's.
+fn first_to_try<F: FileStore>(store: &Tree<F>, dir: u32, taken: Option<&Room>, name: &Name) -> u64
+    ensures { IsFullBefore (with_block (bytes_of (F.state store.now).content dir) taken.entry)
+        (record { block = result; length = length name.now }) }
+{
+    match store.hint(dir) {
+        Some(hint) if taken.is_none() && hint.length <= name.as_bytes().len() => hint.block,
+        _ => 0,
+    }
+}
+
+/// Keeps in mind that a name fits in none of the first `block` blocks of a directory, where no block is read in place of
+/// a stored one.
+fn keep_hint<F: FileStore>(
+    store: &mut Tree<F>,
+    dir: u32,
+    taken: Option<&Room>,
+    block: u64,
+    name: &Name,
+)
+    requires { IsFullBefore (with_block (bytes_of (F.state store.old).content dir) taken)
+        (record { block = block; length = length name.now }) }
+    ensures { F.state store.new ≡ F.state store.old }
+{
+    if taken.is_none() {
+        let length = name.as_bytes().len();
+        store.enter_hint(dir, Hint { block, length });
+    }
+}
+
+/// The block of a directory that begins at byte `off`: that in `taken` if it begins there, else the stored one.
+pub(crate) fn seen_block<F: FileStore>(
+    store: &mut Tree<F>,
+    dir: u32,
+    off: u64,
+    taken: Option<&Room>,
+) -> Block
+    requires used { IsSome (get (F.state store.old).content dir) }
+    requires aligned { off % BLOCK_SIZE ≡ 0 }
+    requires within { off + BLOCK_SIZE ≤ length (bytes_of (F.state store.old).content dir) }
+    requires taken { IfSome taken
+        (λ room. StandsIn (bytes_of (F.state store.old).content dir) room.now) }
+    ensures block { result ≡ take BLOCK_SIZE
+        (drop off (with_block (bytes_of (F.state store.old).content dir) taken.entry)) }
+    ensures state { F.state store.new ≡ F.state store.old }
+{
+    match taken {
+        Some(room) if room.off == off => room.block,
+        _ => read_block(store, dir, off),
+    }
+}
+
+/// The block that lists one name alone.
+fn lone_entry(name: &Name, number: u32) -> Block
+    requires { 0 < number }
+    ensures block { IsDirectoryBlock result ((number, name.now) ∷ []) }
+    ensures listed { entries_of result ≡ (number, name.now) ∷ [] }
+{
+    prove!(name.as_bytes().len() <= NAME_MAX);
+    let empty = [0; BLOCK_SIZE];
+    match added(&empty, name, number) {
+        Some(block) => block,
+        None => unreachable!(),
+    }
+}
+
+/// The block of a directory that lists a name, without the name, and where it goes.
+pub(crate) fn take_name<F: FileStore>(store: &mut Tree<F>, dir: u32, size: u64, name: &Name) -> Room
+    requires { ListsName (F.state store.old).content dir size name.now }
+    ensures room { (k : ℕ) × IsTaking (bytes_of (F.state store.old).content dir) name.now result k }
+    ensures state { F.state store.new ≡ F.state store.old }
+{
+    if let Some(room) = take_hinted(store, dir, size, name) {
+        return room;
+    }
+    for k in 0..size / BLOCK_SIZE as u64 {
+        if let Some(room) = take_from(store, dir, k, name) {
+            return room;
+        }
+    }
+    unreachable!()
+}
+
+/// The block of a directory's hint without a name, and where it goes, if it lists the name, as where the name was made
+/// last.
+fn take_hinted<F: FileStore>(store: &mut Tree<F>, dir: u32, size: u64, name: &Name) -> Option<Room>
+    requires { ListsName (F.state store.old).content dir size name.now }
+    ensures room { IfSome result (λ room. (k : ℕ)
+        × IsTaking (bytes_of (F.state store.old).content dir) name.now room k) }
+    ensures state { F.state store.new ≡ F.state store.old }
+{
+    let Hint { block, .. } = store.hint(dir)?;
+    if block < size / BLOCK_SIZE as u64 {
+        take_from(store, dir, block, name)
+    } else {
+        None
+    }
+}
+
+/// The block of this index of a directory without a name, and where it goes, if it lists the name.
+fn take_from<F: FileStore>(store: &mut Tree<F>, dir: u32, k: u64, name: &Name) -> Option<Room>
+    requires used { IsSome (get (F.state store.old).content dir) }
+    requires bounded { length (bytes_of (F.state store.old).content dir) ≤ FILE_BYTES }
+    requires blocks { AreBlocks (bytes_of (F.state store.old).content dir) }
+    requires within { k < length (bytes_of (F.state store.old).content dir) / BLOCK_SIZE }
+    ensures room { MatchOption result
+        (number_in name.now (entries_of (block_at (bytes_of (F.state store.old).content dir) k)) ≡ None)
+        (λ room. IsTaking (bytes_of (F.state store.old).content dir) name.now room k) }
+    ensures state { F.state store.new ≡ F.state store.old }
+{
+    let off = BLOCK_SIZE as u64 * k;
+    let block = read_block(store, dir, off);
+    find(&block, name)?;
+    let block = removed(&block, name);
+    Some(Room { off, block })
 }

@@ -1,34 +1,24 @@
 //! The calls that take away a name.
 
-ghost use Rattle.std.specs.Prelude.{◌≡◌, ◌==◌, None, Some, ◌↔◌, ℕ, ◌<◌, ◌≤◌, ◌/◌, [], length, IfSome, IsSome, IsTrue, MatchOption};
-ghost use Rattle.std.specs.FinMap.{get};
-ghost use Rattle.lfs_types.specs.declared.block.TheConstants.{BLOCK_SIZE};
-ghost use Rattle.lfs_types.specs.declared.limits.TheConstants.{FILE_BYTES};
+ghost use Rattle.std.specs.Prelude.{◌≡◌, ◌==◌, None, Some, ◌≤◌, length};
 ghost use Rattle.lfs_types.specs.declared.path.TheConstants.{PATH_MAX};
-ghost use Rattle.lfs_types.specs.Stored.{bytes_of, shown_attrs};
+ghost use Rattle.lfs_types.specs.Stored.{shown_attrs};
 ghost use Rattle.lfs_types.specs.Tree.{World};
-ghost use Rattle.lfs_dirs.specs.Directory.{number_in};
-ghost use Rattle.lfs_dirs.specs.Reading.{entries_of};
 ghost use Rattle.lfs_model.specs.Rules.{Judges, judged, removing, rmdir_tests, rule_table};
 ghost use Rattle.lfs_model.specs.World.{children};
 ghost use Rattle.lfs_calls.specs.Calls.{ChangesTo, IsCall};
 ghost use Rattle.lfs_calls.specs.Volumes.{HasWorld, InWorld, IsVolume};
-ghost use Rattle.lfs_calls.specs.Content.{AreBlocks, HasBlocks, all_entries, block_at};
-ghost use Rattle.lfs_calls.specs.Removes.{HangsAs, IsChildless, IsRemovable, IsRemoval, IsTaking, ListsName, TakesRow, removal_request, removed_tests};
+ghost use Rattle.lfs_calls.specs.Removes.{HangsAs, IsChildless, IsRemovable, IsRemoval, TakesRow, removal_request, removed_tests};
 
-use crate::directory::read_block;
-use crate::making::Room;
+use crate::directory::{is_empty_directory, take_name};
 use crate::not_served::NotServed;
 use crate::tree::Tree;
 use crate::walking::{Reached, component, last_name, reach, step};
 use lfs_checks::asking::ask;
 use lfs_checks::names::{may_remove, may_unlink};
 use lfs_checks::site::Site;
-use lfs_dirhints::Hint;
-use lfs_dirs::{entries, find, removed};
 use lfs_types::answer::Served;
 use lfs_types::attrs::Kind;
-use lfs_types::block::BLOCK_SIZE;
 use lfs_types::cred::Cred;
 use lfs_types::name::Name;
 use lfs_types::path::Path;
@@ -70,57 +60,6 @@ pub(crate) fn judge_remove<F: FileStore>(
     may_remove(&dir.attrs, &attrs, cred, site)?;
     let file = Reached { number, attrs };
     Ok(Removal { dir, file })
-}
-
-/// The block of a directory that lists a name, without the name, and where it goes.
-pub(crate) fn take_name<F: FileStore>(store: &mut Tree<F>, dir: u32, size: u64, name: &Name) -> Room
-    requires { ListsName (F.state store.old).content dir size name.now }
-    ensures room { (k : ℕ) × IsTaking (bytes_of (F.state store.old).content dir) name.now result k }
-    ensures state { F.state store.new ≡ F.state store.old }
-{
-    if let Some(room) = take_hinted(store, dir, size, name) {
-        return room;
-    }
-    for k in 0..size / BLOCK_SIZE as u64 {
-        if let Some(room) = take_from(store, dir, k, name) {
-            return room;
-        }
-    }
-    unreachable!()
-}
-
-/// The block of a directory's hint without a name, and where it goes, if it lists the name, as where the name was made
-/// last.
-fn take_hinted<F: FileStore>(store: &mut Tree<F>, dir: u32, size: u64, name: &Name) -> Option<Room>
-    requires { ListsName (F.state store.old).content dir size name.now }
-    ensures room { IfSome result (λ room. (k : ℕ)
-        × IsTaking (bytes_of (F.state store.old).content dir) name.now room k) }
-    ensures state { F.state store.new ≡ F.state store.old }
-{
-    let Hint { block, .. } = store.hint(dir)?;
-    if block < size / BLOCK_SIZE as u64 {
-        take_from(store, dir, block, name)
-    } else {
-        None
-    }
-}
-
-/// The block of this index of a directory without a name, and where it goes, if it lists the name.
-fn take_from<F: FileStore>(store: &mut Tree<F>, dir: u32, k: u64, name: &Name) -> Option<Room>
-    requires used { IsSome (get (F.state store.old).content dir) }
-    requires bounded { length (bytes_of (F.state store.old).content dir) ≤ FILE_BYTES }
-    requires blocks { AreBlocks (bytes_of (F.state store.old).content dir) }
-    requires within { k < length (bytes_of (F.state store.old).content dir) / BLOCK_SIZE }
-    ensures room { MatchOption result
-        (number_in name.now (entries_of (block_at (bytes_of (F.state store.old).content dir) k)) ≡ None)
-        (λ room. IsTaking (bytes_of (F.state store.old).content dir) name.now room k) }
-    ensures state { F.state store.new ≡ F.state store.old }
-{
-    let off = BLOCK_SIZE as u64 * k;
-    let block = read_block(store, dir, off);
-    find(&block, name)?;
-    let block = removed(&block, name);
-    Some(Room { off, block })
 }
 
 /// Takes away a row: its name from the directory, and the file under its number.
@@ -246,20 +185,4 @@ fn may_rmdir<F: FileStore>(store: &mut Tree<F>, row: &Reached, at: u32) -> Resul
     ask(row.attrs.kind.is_directory(), Rule::IsDirectory, site)?;
     let empty = is_empty_directory(store, row.number, row.attrs.size);
     ask(empty, Rule::IsEmpty, site)
-}
-
-/// Whether a directory of this size lists no name.
-pub fn is_empty_directory<F: FileStore>(store: &mut Tree<F>, dir: u32, size: u64) -> bool
-    requires { HasBlocks (F.state store.old).content dir size }
-    ensures empty { IsTrue result ↔ (all_entries (bytes_of (F.state store.old).content dir) ≡ []) }
-    ensures state { F.state store.new ≡ F.state store.old }
-{
-    let block_size = BLOCK_SIZE as u64;
-    for k in 0..size / block_size {
-        let block = read_block(store, dir, block_size * k);
-        if entries(&block).next().is_some() {
-            return false;
-        }
-    }
-    true
 }

@@ -21,9 +21,9 @@ ghost use Rattle.lfs_calls.specs.Arrivals.{IsArrival};
 ghost use Rattle.lfs_calls.specs.Removes.{IsRemoval};
 
 use crate::arriving::{Arrival, judge_arrival, judge_there};
-use crate::making::{Room, find_room, seen_block};
+use crate::directory::{Room, find_room, seen_block, take_name};
 use crate::not_served::NotServed;
-use crate::removing::{Removal, judge_remove, take_name};
+use crate::removing::{Removal, judge_remove};
 use crate::tree::Tree;
 use crate::walking::{Reached, component, last_name, parents_of, step};
 use lfs_checks::names::may_move;

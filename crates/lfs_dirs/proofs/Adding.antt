@@ -6,8 +6,8 @@ use Rattle.std.proofs.lemmas.Grind.{flat_map-append}
 use Rattle.std.proofs.lemmas.List.{append-nil, take_at, drop_at, take_all, drop_all, drop-replicate, length-replicate}
 use Rattle.std.proofs.lemmas.List.Elements.{All-drop, All-replicate, All-same}
 use Rattle.lfs_dirs.specs.Directory.{Entry, entry_bytes, used_of, number_in, IsEntry, Spells, IsDirectoryBlock}
-use Rattle.lfs_dirs.specs.Laws.{bytes_of, length-bytes_of, Spells-bytes, Spells-from_bytes, zeros_left, used_of-append}
-use Rattle.lfs_dirs.specs.Changes.{AreEntries-added}
+use Rattle.lfs_dirs.proofs.Laws.{bytes_of, length-bytes_of, Spells-bytes, Spells-from_bytes, zeros_left, used_of-append}
+use Rattle.lfs_dirs.proofs.Changes.{AreEntries-added}
 use borrow.Rule.Slice.PartMut.{put_mid, mid_of, post_of}
 
 mid_is : (a k : ℕ) (xs : List ℕ) → mid_of a k xs ≡ take k (drop a xs)

@@ -4,7 +4,7 @@ use Rattle.std.specs.Int.{w32, to_be_bytes, from_be_bytes}
 use Rattle.std.proofs.lemmas.List.{take-append-drop, length-take-le}
 use Rattle.std.proofs.lemmas.Nat.{be_bytes_4}
 use Rattle.lfs_dirs.specs.Reading.{StandsFirst, is_entry, entries_of}
-use Rattle.lfs_dirs.specs.Laws.{entries_of-first, entries_of-none}
+use Rattle.lfs_dirs.proofs.Laws.{entries_of-first, entries_of-none}
 
 -- every byte is below 256
 abbrev pub AreBytes : List ℕ → Type 0

@@ -1,3 +1,5 @@
+pub mod Laws
+pub mod Changes
 pub mod Front
 pub mod Adding
 pub mod Testing

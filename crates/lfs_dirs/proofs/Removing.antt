@@ -2,8 +2,8 @@
 use Rattle.std.proofs.Common.{◌≡◌, ℕ, ◌+◌, ◌≤◌, true, false, List, [], ◌∷◌, ◌++◌, length, None, sym, ap, ◌∙◌, subst, arith, append_assoc}
 use Rattle.std.proofs.lemmas.List.{append-nil}
 use Rattle.lfs_dirs.specs.Directory.{Entry, used_of, has_name, number_in, without, IsEntry, AreEntries, IsDirectoryBlock}
-use Rattle.lfs_dirs.specs.Laws.{used_of-append, used_of-block}
-use Rattle.lfs_dirs.specs.Changes.{without-nil, without-here, without-later, AreEntries-without, AreEntries-middle, used_of-without_le}
+use Rattle.lfs_dirs.proofs.Laws.{used_of-append, used_of-block}
+use Rattle.lfs_dirs.proofs.Changes.{without-nil, without-here, without-later, AreEntries-without, AreEntries-middle, used_of-without_le}
 
 -- the next entry, of another name, is the next that is kept
 pub keeps_next : (name : List ℕ) (done left next es : List Entry) (e : Entry)

@@ -1,9 +1,9 @@
 -- The entries of a block written again, one of them with another number.
-use Rattle.std.proofs.Common.{◌≡◌, ℕ, ◌+◌, ◌<◌, ◌≤◌, ◌^◌, List, [], ◌∷◌, ◌++◌, length, None, sym, ap, ◌∙◌, subst, arith, append_assoc}
+use Rattle.std.proofs.Common.{◌≡◌, ℕ, ◌+◌, ◌<◌, ◌^◌, List, [], ◌∷◌, ◌++◌, sym, ap, ◌∙◌, subst, arith}
 use Rattle.std.proofs.lemmas.List.{append-nil}
-use Rattle.lfs_dirs.specs.Directory.{Entry, used_of, number_in, renumbered, with_number, IsEntry, AreEntries, IsDirectoryBlock}
-use Rattle.lfs_dirs.specs.Laws.{used_of-append, used_of-block}
-use Rattle.lfs_dirs.specs.Changes.{renumbered-nil, renumbered-cons, with_number-name, AreEntries-renumbered, AreEntries-middle, used_of-renumbered}
+use Rattle.lfs_dirs.specs.Directory.{Entry, used_of, renumbered, with_number, AreEntries, IsDirectoryBlock}
+use Rattle.lfs_dirs.proofs.Laws.{used_of-append, used_of-block}
+use Rattle.lfs_dirs.proofs.Changes.{renumbered-nil, renumbered-cons, with_number-name, AreEntries-renumbered, AreEntries-middle, used_of-renumbered}
 use Rattle.lfs_dirs.proofs.Removing.{MayFollow}
 
 -- the next entry is the next that is written

@@ -1,4 +1,2 @@
 pub mod Directory
 pub mod Reading
-pub mod Laws
-pub mod Changes

@@ -10,8 +10,7 @@ ghost use Rattle.lfs_explain.specs.Trails.{IsTrail, shown_row, rows_along};
 ghost use Rattle.lfs_explain.specs.declared.trail.ShownRow.{ShownRow};
 
 use crate::trail::{ShownRow, Trail};
-use lfs_calls::directory::look_up;
-use lfs_calls::removing::is_empty_directory;
+use lfs_calls::directory::{is_empty_directory, look_up};
 use lfs_calls::tree::Tree;
 use lfs_checks::attributes::shown_size;
 use lfs_types::attrs::Attrs;

@@ -6,38 +6,31 @@ use Rattle.std.specs.FinMap as map
 use Rattle.std.specs.FinMap.{get-empty, same_map, nat_cmp-IsAntisymmetric}
 use Rattle.std.proofs.lemmas.Bool.{cases_eq, cases_lt}
 use Rattle.std.specs.Vec.{vec_capacity}
-use Rattle.lfs_types.specs.Tree.{File, Content, file_of}
+use Rattle.lfs_types.specs.Tree.{File, file_of}
 use Rattle.lfs_types.specs.Stored.{bytes_of_file}
 use Rattle.lfs_types.specs.declared.attrs.Attrs.{Attrs}
 use Rattle.lfs_types.specs.Changes.{changed_at}
 use Rattle.lfs_types.specs.declared.store.Change.{Change}
 use Rattle.lfs_types.specs.declared.store.Change.TheVariants.{Make, Remove, SetAttrs, Put, SetLength}
 use Rattle.lfs_flatfiles.specs.declared.flat_files.place.Place.{Place}
-use Rattle.lfs_flatfiles.specs.FlatFiles.{file_at, file_in, room_in, with_file, content_from, content_of, HasRoom, KeepsRoom}
+use Rattle.lfs_flatfiles.specs.FlatFiles.{file_at, file_in, room_in, content_from, content_of, HasRoom, KeepsRoom}
 use Rattle.lfs_types.proofs.Maps.{get-insert_same, get-insert_other, get-remove_same, get-remove_other}
+use Rattle.lfs_types.proofs.Contents.{get-content_with, get-content_with_apart}
 
 -- ---- the files at places
-get-with_file : (k : ℕ) (o : Option File) (c : Content) → map.get c k ≡ None → map.get (with_file k o c) k ≡ o
-get-with_file k None c none = none
-get-with_file k (Some f) c none = get-insert_same c k f
-
-get-with_file_apart : (k q : ℕ) (o : Option File) (c : Content) → q ≢ k → map.get (with_file k o c) q ≡ map.get c q
-get-with_file_apart k q None c apart = refl
-get-with_file_apart k q (Some f) c apart = get-insert_other c k f q apart
-
 get_below : (ps : List Place) (first q : ℕ) → q < first → map.get (content_from first ps) q ≡ None
 get_below [] first q h = get-empty nat_cmp q
 get_below (p ∷ ps) first q h =
-    get-with_file_apart first q (file_at p) (content_from (first + 1) ps) (λ e. omega arith) ∙ get_below ps (first + 1) q (omega arith)
+    get-content_with_apart first q (file_at p) (content_from (first + 1) ps) (λ e. omega arith) ∙ get_below ps (first + 1) q (omega arith)
 
 get_from : (ps : List Place) (first k : ℕ) → map.get (content_from first ps) (first + k) ≡ file_in ps k
 get_from [] first k = get-empty nat_cmp (first + k)
 get_from (p ∷ ps) first zero =
     let here : first + 0 ≡ first = omega arith in
-    rw here (get-with_file first (file_at p) (content_from (first + 1) ps) (get_below ps (first + 1) first (omega arith)))
+    rw here (get-content_with first (file_at p) (content_from (first + 1) ps) (get_below ps (first + 1) first (omega arith)))
 get_from (p ∷ ps) first (suc k) =
     let next : first + suc k ≡ first + 1 + k = omega arith in
-    rw next (get-with_file_apart first (first + 1 + k) (file_at p) (content_from (first + 1) ps) (λ e. omega arith) ∙ get_from ps (first + 1) k)
+    rw next (get-content_with_apart first (first + 1 + k) (file_at p) (content_from (first + 1) ps) (λ e. omega arith) ∙ get_from ps (first + 1) k)
 
 -- what the content has at a number is the file at its place
 pub get-content_of : (ps : List Place) (ino : ℕ) → map.get (content_of ps) ino ≡ file_in ps ino

@@ -8,8 +8,6 @@ use Rattle.std.proofs.lemmas.List.{length-append, length-take, length-replicate}
 use Rattle.lfs_types.specs.Splicing.{splice}
 use Rattle.lfs_types.specs.Tree.{File, Content, fresh_root, opening_content}
 use Rattle.lfs_types.specs.Changes.{CanChange, CanChangeAll, changed, changed_at, IsLength}
-use Rattle.lfs_types.specs.declared.attrs.Kind.{Kind}
-use Rattle.lfs_types.specs.declared.attrs.Kind.TheVariants.{File as Regular, Directory}
 use Rattle.lfs_types.specs.declared.store.Change.{Change}
 use Rattle.lfs_types.specs.declared.store.Change.TheVariants.{Make, Remove, SetAttrs, Put, SetLength}
 use Rattle.lfs_flatfiles.specs.declared.flat_files.place.Place.{Place}
@@ -17,14 +15,12 @@ use Rattle.lfs_flatfiles.specs.FlatFiles.{file_in, content_of, end_of, IsInReach
 use Rattle.lfs_flatfiles.proofs.FlatFilesContent.{get-content_of, file_in_past}
 use Rattle.lfs_types.specs.declared.limits.TheConstants.{FILE_BYTES}
 use Rattle.lfs_types.proofs.Maps.{get-insert_other, get-remove_same, get-remove_other}
+use Rattle.lfs_types.proofs.Somewhere.{some_from}
+use Rattle.lfs_types.proofs.Contents.{length_limit, length_of_file}
 
 -- each number in use is below this one
 abbrev pub IsBelow : ℕ → Content → Type 0
 IsBelow numbers c = (ino : ℕ) → IsSome (map.get c ino) → ino < numbers
-
-some_from_and : (o : Option File) (P : File → Type 0) → IsSomeAnd o P → IsSome o
-some_from_and None P h = absurd h
-some_from_and (Some f) P h = refl
 
 some_past : (ps : List Place) (ino : ℕ) → length ps ≤ ino → IsSome (map.get (content_of ps) ino) → ino < length ps
 some_past ps ino past some =
@@ -36,10 +32,6 @@ pub content_below : (ps : List Place) → IsBelow (length ps) (content_of ps)
 content_below ps ino some =
     elim (cases_lt ino (length ps)) [ inl below ↦ below | inr past ↦ some_past ps ino past some ]
 
-length_limit : (kind : Kind) (len : ℕ) → IsLength kind len → len ≤ FILE_BYTES
-length_limit Regular len h = h
-length_limit Directory len h = h.0
-
 end_within : (old : List ℕ) (off : ℕ) (bytes : List ℕ) → length (splice old off bytes) ≤ FILE_BYTES → end_of off bytes ≤ FILE_BYTES
 end_within old off [] h = omega arith
 end_within old off (b ∷ bs) h =
@@ -50,17 +42,12 @@ pub end_of_file : (o : Option File) (off : ℕ) (bytes : List ℕ) → IsSomeAnd
 end_of_file None off bytes h = absurd h
 end_of_file (Some f) off bytes h = end_within f.bytes off bytes (length_limit f.kind _ h)
 
--- a length that a file may have
-pub length_of_file : (o : Option File) (len : ℕ) → IsSomeAnd o (λ f. IsLength f.kind len) → len ≤ FILE_BYTES
-length_of_file None len h = absurd h
-length_of_file (Some f) len h = length_limit f.kind len h
-
 in_reach : (numbers : ℕ) (change : Change) (c : Content) → IsBelow numbers c → CanChange numbers change c → IsInReach numbers change
 in_reach numbers (Make ino attrs) c below can = can.1
 in_reach numbers (Remove ino) c below can = below ino can
-in_reach numbers (SetAttrs ino attrs) c below can = below ino (some_from_and _ _ can)
-in_reach numbers (Put ino off bytes) c below can = (below ino (some_from_and _ _ can), end_of_file _ off bytes.now can)
-in_reach numbers (SetLength ino len) c below can = (below ino (some_from_and _ _ can), length_of_file _ len can)
+in_reach numbers (SetAttrs ino attrs) c below can = below ino (some_from _ _ can)
+in_reach numbers (Put ino off bytes) c below can = (below ino (some_from _ _ can), end_of_file _ off bytes.now can)
+in_reach numbers (SetLength ino len) c below can = (below ino (some_from _ _ can), length_of_file _ len can)
 
 below_inserted : (numbers : ℕ) (c : Content) (k : ℕ) (f : File) → IsBelow numbers c → k < numbers → IsBelow numbers (map.insert c k f)
 below_inserted numbers c k f below h ino some =
@@ -96,11 +83,11 @@ all_in_reach numbers (change ∷ changes) c below can (suc k) d h =
 
 -- ---- a number that a change names has a file
 pub file_used : (ps : List Place) (ino : ℕ) (P : File → Type 0) → IsSomeAnd (map.get (content_of ps) ino) P → IsSome (file_in ps ino)
-file_used ps ino P can = ap is_some (sym (get-content_of ps ino)) ∙ some_from_and _ P can
+file_used ps ino P can = ap is_some (sym (get-content_of ps ino)) ∙ some_from _ P can
 
 -- a number with a file is a place of the list
 pub used_within : (ps : List Place) (ino : ℕ) (P : File → Type 0) → IsSomeAnd (map.get (content_of ps) ino) P → ino < length ps
-used_within ps ino P can = content_below ps ino (some_from_and _ P can)
+used_within ps ino P can = content_below ps ino (some_from _ P can)
 
 -- a fresh volume has no file but the root
 pub free_at_opening : (ino : ℕ) → 4 ≤ ino → map.get opening_content ino ≡ None

@@ -1,7 +1,7 @@
 -- The plain store: a list of places, one for each inode number, seen as a finite map.
-use Rattle.std.specs.Prelude.{ℕ, true, zero, suc, ◌+◌, ◌<◌, ◌≤◌, List, [], ◌∷◌, length, Option, None, Some, IsSome, option_map}
+use Rattle.std.specs.Prelude.{ℕ, true, zero, suc, ◌+◌, ◌<◌, ◌≤◌, List, [], ◌∷◌, length, Option, None, IsSome, option_map}
 use Rattle.std.specs.FinMap as map
-use Rattle.lfs_types.specs.Tree.{File, Content, file_of, opening_content}
+use Rattle.lfs_types.specs.Tree.{File, Content, content_with, file_of, opening_content}
 use Rattle.lfs_types.specs.StoreStates.{Shape, StoreState}
 use Rattle.lfs_types.specs.declared.limits.TheConstants.{FILE_BYTES}
 use Rattle.lfs_types.specs.Ranges.{most_segments}
@@ -15,15 +15,10 @@ use Rattle.lfs_flatfiles.specs.declared.flat_files.place.Place.{Place}
 abbrev pub file_at : Place → Option File
 file_at p = option_map (λ a. file_of a p.bytes.items) p.attrs
 
--- a map with a file put at a number, if there is one
-abbrev pub with_file : ℕ → Option File → Content → Content
-with_file ino None c = c
-with_file ino (Some f) c = map.insert c ino f
-
 -- the files at places, the first of which has this number
 abbrev pub content_from : ℕ → List Place → Content
 content_from first [] = map.empty
-content_from first (p ∷ ps) = with_file first (file_at p) (content_from (first + 1) ps)
+content_from first (p ∷ ps) = content_with first (file_at p) (content_from (first + 1) ps)
 
 -- what the places of a store contain
 abbrev pub content_of : List Place → Content

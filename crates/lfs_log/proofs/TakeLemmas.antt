@@ -5,8 +5,9 @@ use Rattle.lfs_segments.specs.Log.{first_of}
 use Rattle.lfs_segments.specs.Memory.{next_address}
 use Rattle.lfs_bmap.specs.declared.blocks.TheConstants.{BLOCK_CODES}
 use Rattle.lfs_bmap.specs.Counting.{seg_of, units}
-use Rattle.lfs_bmap.specs.Log.{IsPlaced, IsLog, MayTake, owner_of}
+use Rattle.lfs_bmap.specs.Log.{IsPlaced, IsLog, owner_of}
 use Rattle.lfs_bmap.proofs.SegmentLemmas.{left_fits, taken_fits}
+use Rattle.lfs_bmap.proofs.LogLemmas.{MayTake}
 use Rattle.lfs_log.specs.Names.{named_at}
 use Rattle.lfs_log.specs.Parts.{IsParts, LogParts, MayMoveLive, live_of, log_state}
 

@@ -39,12 +39,9 @@ use Rattle.lfs_model.proofs.NameLists.{are_names}
 use Rattle.lfs_model.proofs.WalkLemmas.{directory_kind, regular_kind}
 use Rattle.lfs_model.proofs.Ways.{reaches_root, walk_reaches}
 use Rattle.lfs_types.proofs.Maps.{get-insert_same, get-insert_other, get-remove_same, get-remove_other}
-use Rattle.lfs_types.proofs.Somewhere.{There, some_and}
+use Rattle.lfs_types.proofs.Somewhere.{There, some_and, none_there}
 
 -- ---- new rows
-
-none_there : {A : Type 0} (o : Option Row) (s : Row) → o ≡ None → o ≡ Some s → A
-none_there o s e is = absurd (cc)
 
 file_absent : (o : Option Row) (w : World) (n m : ℕ) (change : File → File) → map.get w.rows m ≡ o → map.get w.rows n ≡ None → map.get (with_file o m change w).rows n ≡ None
 file_absent None w n m change e none = none

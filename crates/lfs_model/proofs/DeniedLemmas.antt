@@ -1,6 +1,6 @@
 -- What the denials of a walk and of the tests behind it tell, and that it is true.
 use Rattle.std.proofs.Common.{◌≡◌, ◌≢◌, ◌⊎◌, ◌<◌, ◌≤◌, ℕ, ◌+◌, ◌==◌, ◌&&◌, ◌||◌, not, Bool, true, false, cond, List, [], ◌∷◌, ◌++◌, length, Option, None, Some, refl, sym, ap, subst, ◌∙◌, arith, append_assoc, append-nil, length-append, eqb-true, eq-eqb, inl, inr, ⊎_elim}
-use Rattle.std.proofs.lemmas.Bool.{eqb-false, not-true}
+use Rattle.std.proofs.lemmas.Bool.{eqb-false, not-true, not-false, or_parts, or_right}
 use Rattle.std.specs.Prelude.{is_some, is_none, nat_le, slice_get, IsSome, IsSomeAnd}
 use Rattle.std.specs.List.{list_any}
 use Rattle.std.specs.FinMap as map
@@ -30,8 +30,8 @@ use Rattle.lfs_rules.specs.Sticky.{is_barred}
 use Rattle.lfs_model.proofs.Allowed.{child_there, directory_attrs, grants_attrs, last_step, reached_last, split_last, MayArrive, may_arrive}
 use Rattle.lfs_model.proofs.Children.{child-is}
 use Rattle.lfs_model.proofs.Deciding.{failing-behind, failing-front, met_first, passes-append}
-use Rattle.lfs_model.proofs.Fates.{regular_of}
-use Rattle.lfs_model.proofs.ServedLemmas.{directory_of, gives, childless}
+use Rattle.lfs_model.proofs.ServedLemmas.{gives, childless}
+use Rattle.lfs_model.proofs.WalkLemmas.{directory_kind, regular_kind}
 use Rattle.lfs_types.proofs.Somewhere.{is_some_and, not_some, present, some_and, there_of}
 
 -- ---- ways
@@ -88,10 +88,6 @@ not_none : (o : Option ℕ) → is_none o ≡ false → (m : ℕ) × (o ≡ Some
 not_none None h = absurd (cc)
 not_none (Some m) h = (m, refl)
 
-true_of : (b : Bool) → not b ≡ false → b ≡ true
-true_of true h = refl
-true_of false h = absurd (cc)
-
 -- ---- tests that aren't met
 
 no_names : (l : List (List ℕ)) → length l ≡ 0 → l ≡ []
@@ -99,7 +95,7 @@ no_names [] h = refl
 no_names (x ∷ xs) h = absurd (omega (arith, h))
 
 no_path : (path : List (List ℕ)) → not (length path == 0) ≡ false → path ≡ []
-no_path path h = no_names path (eqb-true (length path) 0 (true_of _ h))
+no_path path h = no_names path (eqb-true (length path) 0 (not-false _ h))
 
 one_left : (behind : List (List ℕ)) (name : List ℕ) → behind ≡ name ∷ [] → length behind ≤ 1
 one_left behind name e = let long = ap (length {A = List ℕ}) e in omega (arith, long)
@@ -125,20 +121,16 @@ of_row rows n r there P h = subst P (ap (λ o. attrs_of (file_at o)) there) h
 parent_of_row : (rows : Rows) (n : ℕ) (r : Row) → map.get rows n ≡ Some r → (dir : ℕ) → {name : List ℕ} → IsChild rows dir name n → dir ≡ r.parent
 parent_of_row rows n r there dir hangs = let row : hangs.row ≡ r = cc (hangs.there, there) in sym hangs.hangs ∙ ap (λ (x : Row). x.parent) row
 
-neither_of : (a b : Bool) → (a || b) ≡ false → (a ≡ false) × (b ≡ false)
-neither_of true b h = absurd (cc)
-neither_of false b h = (refl, h)
-
 both_of : (a b : Bool) → not (a && b) ≡ false → (a ≡ true) × (b ≡ true)
-both_of true b h = (refl, true_of _ h)
+both_of true b h = (refl, not-false _ h)
 both_of false b h = absurd (cc)
 
 -- of a test that holds also where something else doesn't
 second_of : (a b : Bool) → (a || not b) ≡ false → b ≡ true
-second_of a b h = true_of b (neither_of a (not b) h).1
+second_of a b h = not-false b (or_parts a (not b) h).1
 
 last_of : (d stays granted : Bool) → (not d || stays || granted) ≡ false → granted ≡ false
-last_of true stays granted h = (neither_of stays granted h).1
+last_of true stays granted h = (or_parts stays granted h).1
 last_of false stays granted h = absurd (cc)
 
 not_most : (a b : ℕ) → nat_le a b ≡ false → b < a
@@ -165,11 +157,11 @@ kept w caller r b = record { sticky = b.0; ordinary = b.1; row = b.2; parent = b
 -- who is neither the superuser nor the owner
 neither_owner : (caller : Caller) (attrs : Attrs) → is_owner_or_superuser caller attrs ≡ false → (caller.uid ≢ 0) × (caller.uid ≢ attrs.uid)
 neither_owner caller attrs h =
-    let b = neither_of (caller.uid == 0) (caller.uid == attrs.uid) h in
+    let b = or_parts (caller.uid == 0) (caller.uid == attrs.uid) h in
     (eqb-false caller.uid 0 b.0, eqb-false caller.uid attrs.uid b.1)
 
 gives_not : (s o u g m : Bool) → (s || ((o && u) && (g || m))) ≡ false → o ≡ true → (s ≡ true) ⊎ ((u ≡ true) × ((g ≡ true) ⊎ (m ≡ true))) → ⊥
-gives_not s o u g m h e may = wrong (sym h ∙ gives s o u g m (ap (λ b. s || b) e ∙ last_true s) may)
+gives_not s o u g m h e may = wrong (sym h ∙ gives s o u g m (or_right s o e) may)
   where
     last_true : (b : Bool) → (b || true) ≡ true
     last_true true = refl
@@ -261,9 +253,9 @@ module _ (w : World) (caller : Caller) (request : Request) (tree : IsTree w.rows
     along [] rest n k a is tail on denial h = on k (omega arith) a is denial h
     along (name ∷ names) rest n k a is tail on denial h =
         fails D (is_directory_row (map.get w.rows n)) _ _
-        (λ none. tells IsDirectory k (here n k a IsDirectory (λ r there. regular_of r.file.kind (ap is_directory_row (sym there) ∙ none))))
+        (λ none. tells IsDirectory k (here n k a IsDirectory (λ r there. regular_kind r.file.kind (ap is_directory_row (sym there) ∙ none))))
         (λ dir. fails D (row_grants caller bits.Search (map.get w.rows n)) _ _
-        (λ none. tells GrantsSearch k (here n k a GrantsSearch (λ r there. (directory_of r.file.kind (ap is_directory_row (sym there) ∙ dir), ap (row_grants caller bits.Search) (sym there) ∙ none))))
+        (λ none. tells GrantsSearch k (here n k a GrantsSearch (λ r there. (directory_kind r.file.kind (ap is_directory_row (sym there) ∙ dir), ap (row_grants caller bits.Search) (sym there) ∙ none))))
         (λ search. fails D (is_some (child w.rows n name)) _ _
         (λ none. tells NameThere (k + 1) (missing n k a name (names ++ rest) is (dir, search) (not_some _ none)))
         (λ some. along names rest (next w.rows n name) (k + 1)
@@ -297,15 +289,15 @@ module _ (w : World) (caller : Caller) (request : Request) (tree : IsTree w.rows
         let attrs = attrs_at w.rows dir in
         let kind_is = directory_attrs (map.get w.rows dir) (there_of _ b.there) in
         let search_is = grants_attrs caller bits.Search (map.get w.rows dir) (there_of _ b.there) in
-        fails D (is_directory_kind attrs.kind) _ _ (λ none. tell_at 0 D tells _ j _ at b IsDirectory (λ r there. regular_of r.file.kind (of_row w.rows dir r there (λ x. is_directory_kind x.kind ≡ false) none)))
+        fails D (is_directory_kind attrs.kind) _ _ (λ none. tell_at 0 D tells _ j _ at b IsDirectory (λ r there. regular_kind r.file.kind (of_row w.rows dir r there (λ x. is_directory_kind x.kind ≡ false) none)))
         (λ d. fails D (grants_of caller attrs bits.Search) _ _
-        (λ none. tell_at 0 D tells _ j _ at b GrantsSearch (λ r there. (directory_of r.file.kind (of_row w.rows dir r there (λ x. is_directory_kind x.kind ≡ true) d), of_row w.rows dir r there (λ x. grants_of caller x bits.Search ≡ false) none)))
+        (λ none. tell_at 0 D tells _ j _ at b GrantsSearch (λ r there. (directory_kind r.file.kind (of_row w.rows dir r there (λ x. is_directory_kind x.kind ≡ true) d), of_row w.rows dir r there (λ x. grants_of caller x bits.Search ≡ false) none)))
         (λ s. fails D (is_none (child w.rows dir (last path))) _ _
         (λ taken. let m = not_none (child w.rows dir (last path)) taken in
         let c = next_at _ j b (last path) [] is (kind_is ∙ d, search_is ∙ s) m.0 m.1 in
         tell_at 0 D tells m.0 (j + 1) _ (ap (λ q. q + 1) at) c NameFree (λ r there. refl))
         (λ free. fails D (not (is_immutable attrs)) _ _
-        (λ none. tell_at 0 D tells _ j _ at b IsMutable (λ r there. (one_left b.behind (last path) is, of_row w.rows dir r there (λ x. is_immutable x ≡ true) (true_of _ none))))
+        (λ none. tell_at 0 D tells _ j _ at b IsMutable (λ r there. (one_left b.behind (last path) is, of_row w.rows dir r there (λ x. is_immutable x ≡ true) (not-false _ none))))
         (λ m. fails D (grants_of caller attrs bits.Write) _ _
         (λ none. tell_at 0 D tells _ j _ at b GrantsWrite (λ r there. (one_left b.behind (last path) is, of_row w.rows dir r there (λ x. grants_of caller x bits.Write ≡ false) none)))
         (λ g. none_fails D)))))))
@@ -333,20 +325,20 @@ module _ (w : World) (caller : Caller) (request : Request) (tree : IsTree w.rows
       → (dir m : ℕ) (name : List ℕ) (hangs : IsChild w.rows dir name m) (j k : ℕ) → j ≡ k → j + 1 ≡ k + 1 → (a : At w.rows caller path dir j) → length a.behind ≤ 1
       → (c : At w.rows caller path m (j + 1)) → c.behind ≡ [] → (denial : Denial) → first_failing (removing_tests caller index (attrs_at w.rows dir) (attrs_at w.rows m) k) ≡ Some denial → D denial
   lost index D tells dir m name hangs j k at after a one c last_one = each D (removing_tests caller index (attrs_at w.rows dir) (attrs_at w.rows m) k) (
-    λ f. tell_at index D tells _ j _ at a IsMutable (λ r there. (one, of_row w.rows dir r there (λ x. is_immutable x ≡ true) (true_of _ f))),
+    λ f. tell_at index D tells _ j _ at a IsMutable (λ r there. (one, of_row w.rows dir r there (λ x. is_immutable x ≡ true) (not-false _ f))),
     (
       λ f. tell_at index D tells _ j _ at a GrantsWrite (λ r there. (one, of_row w.rows dir r there (λ x. grants_of caller x bits.Write ≡ false) f)),
       (
-        λ f. tell_at index D tells _ j _ at a IsNotAppendOnly (λ r there. (one, of_row w.rows dir r there (λ x. is_append_only x ≡ true) (true_of _ f))),
+        λ f. tell_at index D tells _ j _ at a IsNotAppendOnly (λ r there. (one, of_row w.rows dir r there (λ x. is_append_only x ≡ true) (not-false _ f))),
         (
           λ f. tell_at index D tells _ (j + 1) _ after c PassesSticky (λ r there. (
             last_one,
             kept w caller r (subst (λ p. BarredBy caller (attrs_at w.rows p) (attrs_of r.file)) (parent_of_row w.rows m r there dir hangs)
-                (of_row w.rows m r there (λ x. BarredBy caller (attrs_at w.rows dir) x) (barred_by caller (attrs_at w.rows dir) (attrs_at w.rows m) (true_of _ f)))),
+                (of_row w.rows m r there (λ x. BarredBy caller (attrs_at w.rows dir) x) (barred_by caller (attrs_at w.rows dir) (attrs_at w.rows m) (not-false _ f)))),
           )),
           (
-            λ f. tell_at index D tells _ (j + 1) _ after c IsMutable (λ r there. (nothing_left c.behind last_one, of_row w.rows m r there (λ x. is_immutable x ≡ true) (true_of _ f))),
-            (λ f. tell_at index D tells _ (j + 1) _ after c IsNotAppendOnly (λ r there. (nothing_left c.behind last_one, of_row w.rows m r there (λ x. is_append_only x ≡ true) (true_of _ f))), tt),
+            λ f. tell_at index D tells _ (j + 1) _ after c IsMutable (λ r there. (nothing_left c.behind last_one, of_row w.rows m r there (λ x. is_immutable x ≡ true) (not-false _ f))),
+            (λ f. tell_at index D tells _ (j + 1) _ after c IsNotAppendOnly (λ r there. (nothing_left c.behind last_one, of_row w.rows m r there (λ x. is_append_only x ≡ true) (not-false _ f))), tt),
           ),
         ),
       ),
@@ -384,9 +376,9 @@ module _ (w : World) (caller : Caller) (request : Request) (tree : IsTree w.rows
         (λ some. along 1 D tells (front path) (last path ∷ []) root 0 start (sym (split_last path (not-true _ some))) _
         (λ j e b is. let at : j ≡ length (front path) = omega (arith, e) in
         let dir = reached w.rows root (front path) in
-        fails D (is_directory_kind (attrs_at w.rows dir).kind) _ _ (λ none. tell_at 1 D tells _ j _ at b IsDirectory (λ r there. regular_of r.file.kind (of_row w.rows dir r there (λ x. is_directory_kind x.kind ≡ false) none)))
+        fails D (is_directory_kind (attrs_at w.rows dir).kind) _ _ (λ none. tell_at 1 D tells _ j _ at b IsDirectory (λ r there. regular_kind r.file.kind (of_row w.rows dir r there (λ x. is_directory_kind x.kind ≡ false) none)))
         (λ d. fails D (grants_of caller (attrs_at w.rows dir) bits.Search) _ _
-        (λ none. tell_at 1 D tells _ j _ at b GrantsSearch (λ r there. (directory_of r.file.kind (of_row w.rows dir r there (λ x. is_directory_kind x.kind ≡ true) d), of_row w.rows dir r there (λ x. grants_of caller x bits.Search ≡ false) none)))
+        (λ none. tell_at 1 D tells _ j _ at b GrantsSearch (λ r there. (directory_kind r.file.kind (of_row w.rows dir r there (λ x. is_directory_kind x.kind ≡ true) d), of_row w.rows dir r there (λ x. grants_of caller x bits.Search ≡ false) none)))
         (λ s. none_fails D))))
 
     -- and of the directory and the row there
@@ -399,7 +391,7 @@ module _ (w : World) (caller : Caller) (request : Request) (tree : IsTree w.rows
         let at : end.to ≡ length (front path) = omega (arith, to) in
         let one = one_left end.at.behind (last path) end.left in
         each D (entering_tests caller 1 (attrs_at w.rows dir) (length (front path))) (
-          λ f. tell_at 1 D tells _ end.to _ at end.at IsMutable (λ r there. (one, of_row w.rows dir r there (λ x. is_immutable x ≡ true) (true_of _ f))),
+          λ f. tell_at 1 D tells _ end.to _ at end.at IsMutable (λ r there. (one, of_row w.rows dir r there (λ x. is_immutable x ≡ true) (not-false _ f))),
           (λ f. tell_at 1 D tells _ end.to _ at end.at GrantsWrite (λ r there. (one, of_row w.rows dir r there (λ x. grants_of caller x bits.Write ≡ false) f)), tt),
         )
     placed moved (Some m) is into =
@@ -415,9 +407,9 @@ module _ (w : World) (caller : Caller) (request : Request) (tree : IsTree w.rows
         fails-append D (removing_tests caller 1 (attrs_at w.rows dir) (attrs_at w.rows m) k) (replaced_tests (length (children w.rows m) == 0) (attrs_at w.rows moved) (attrs_at w.rows m) (k + 1))
         (lost 1 D tells dir m (last path) hangs _ _ at after end.at one c refl)
         (λ first. fails D (not (is_directory_kind (attrs_at w.rows m).kind) || is_directory_kind (attrs_at w.rows moved).kind) _ _
-        (λ f. tell_at 1 D tells _ (end.to + 1) _ after c IsNoDirectory (λ r there. (refl, directory_of r.file.kind (of_row w.rows m r there (λ x. is_directory_kind x.kind ≡ true) (true_of _ (neither_of _ _ f).0)))))
+        (λ f. tell_at 1 D tells _ (end.to + 1) _ after c IsNoDirectory (λ r there. (refl, directory_kind r.file.kind (of_row w.rows m r there (λ x. is_directory_kind x.kind ≡ true) (not-false _ (or_parts _ _ f).0)))))
         (λ no. fails D (is_directory_kind (attrs_at w.rows m).kind || not (is_directory_kind (attrs_at w.rows moved).kind)) _ _
-        (λ f. tell_at 1 D tells _ (end.to + 1) _ after c IsDirectory (λ r there. regular_of r.file.kind (of_row w.rows m r there (λ x. is_directory_kind x.kind ≡ false) (neither_of _ _ f).0)))
+        (λ f. tell_at 1 D tells _ (end.to + 1) _ after c IsDirectory (λ r there. regular_kind r.file.kind (of_row w.rows m r there (λ x. is_directory_kind x.kind ≡ false) (or_parts _ _ f).0)))
         (λ yes. fails D (length (children w.rows m) == 0) _ _
         (λ f. tell_at 1 D tells _ (end.to + 1) _ after c IsEmpty (λ r there. (refl, full_directory w.rows caller tree m r there f, λ none. let zero_long = eq-eqb _ 0 (ap (length {A = ℕ}) none) in cc (zero_long, f))))
         (λ e. none_fails D))))
@@ -496,9 +488,9 @@ module _ (w : World) (caller : Caller) (tree : IsTree w.rows) where
       → first_failing (change_tests caller appends (attrs_at w.rows n) (length path) ++ (asks (fits (attrs_at w.rows n)) FitsFile 0 (length path) ∷ [])) ≡ Some denial → Along request path denial
   change_told request path appends fits long n a =
       each (Along request path) (change_tests caller appends (attrs_at w.rows n) (length path) ++ (asks (fits (attrs_at w.rows n)) FitsFile 0 (length path) ∷ [])) (
-        λ f. object request path n a IsNoDirectory (λ r there. (refl, directory_of r.file.kind (of_row w.rows n r there (λ x. is_directory_kind x.kind ≡ true) (true_of _ f)))),
+        λ f. object request path n a IsNoDirectory (λ r there. (refl, directory_kind r.file.kind (of_row w.rows n r there (λ x. is_directory_kind x.kind ≡ true) (not-false _ f)))),
         (
-          λ f. object request path n a IsMutable (λ r there. (omega arith, of_row w.rows n r there (λ x. is_immutable x ≡ true) (true_of _ f))),
+          λ f. object request path n a IsMutable (λ r there. (omega arith, of_row w.rows n r there (λ x. is_immutable x ≡ true) (not-false _ f))),
           (
             λ f. object request path n a GrantsWrite (λ r there. (omega arith, of_row w.rows n r there (λ x. grants_of caller x bits.Write ≡ false) f)),
             (
@@ -537,7 +529,7 @@ module _ (w : World) (caller : Caller) (tree : IsTree w.rows) where
       unless (ToldOf from to) (is_there moved o) (tests ++ last_tests w.rows caller from to)
       (fails-append (ToldOf from to) tests (last_tests w.rows caller from to) (placed w caller (Rename from to) tree to (ToldOf from to) (λ rule k t. t) moved o is into)
       (λ first. each (ToldOf from to) (last_tests w.rows caller from to) (
-        λ f. beneath from to out into (true_of _ f),
+        λ f. beneath from to out into (not-false _ f),
         (
           λ f. let a = taken_end w caller (Rename from to) tree from out in
               object (Rename from to) from moved a GrantsWrite (λ r there. (
@@ -559,11 +551,11 @@ module _ (w : World) (caller : Caller) (tree : IsTree w.rows) where
   told : (request : Request) (denial : Denial) → decide w caller request ≡ Some denial → Told w caller request denial
   told (Stat path) = by_path (Stat path) path stat_tests (λ n a. none_fails (Along (Stat path) path))
   told (Read path off len) = by_path (Read path off len) path (read_tests caller) (λ n a. each (Along (Read path off len) path) (read_tests caller (attrs_at w.rows n) (length path)) (
-    λ f. object (Read path off len) path n a IsNoDirectory (λ r there. (refl, directory_of r.file.kind (of_row w.rows n r there (λ x. is_directory_kind x.kind ≡ true) (true_of _ f)))),
+    λ f. object (Read path off len) path n a IsNoDirectory (λ r there. (refl, directory_kind r.file.kind (of_row w.rows n r there (λ x. is_directory_kind x.kind ≡ true) (not-false _ f)))),
     (λ f. object (Read path off len) path n a GrantsRead (λ r there. (refl, of_row w.rows n r there (λ x. grants_of caller x bits.Read ≡ false) f)), tt),
   ))
   told (Names path) = by_path (Names path) path (list_tests caller) (λ n a. each (Along (Names path) path) (list_tests caller (attrs_at w.rows n) (length path)) (
-    λ f. object (Names path) path n a IsDirectory (λ r there. regular_of r.file.kind (of_row w.rows n r there (λ x. is_directory_kind x.kind ≡ false) f)),
+    λ f. object (Names path) path n a IsDirectory (λ r there. regular_kind r.file.kind (of_row w.rows n r there (λ x. is_directory_kind x.kind ≡ false) f)),
     (λ f. object (Names path) path n a GrantsRead (λ r there. (refl, of_row w.rows n r there (λ x. grants_of caller x bits.Read ≡ false) f)), tt),
   ))
   told (Write path place bytes) = by_path (Write path place bytes) path (write_tests caller place (length bytes))
@@ -576,37 +568,37 @@ module _ (w : World) (caller : Caller) (tree : IsTree w.rows) where
       let rest = unlink_tests (attrs_at w.rows n) (length path) in
       fails-append (Along (Unlink path) path) (removing w.rows caller path) rest (removed w caller (Unlink path) tree path (Along (Unlink path) path) (λ rule k t. t))
       (λ out. let a = taken_end w caller (Unlink path) tree path out in
-      each (Along (Unlink path) path) rest (λ f. object (Unlink path) path n a IsNoDirectory (λ r there. (refl, directory_of r.file.kind (of_row w.rows n r there (λ x. is_directory_kind x.kind ≡ true) (true_of _ f)))), tt))
+      each (Along (Unlink path) path) rest (λ f. object (Unlink path) path n a IsNoDirectory (λ r there. (refl, directory_kind r.file.kind (of_row w.rows n r there (λ x. is_directory_kind x.kind ≡ true) (not-false _ f)))), tt))
   told (Rmdir path) =
       let n = reached w.rows root path in
       let rest = rmdir_tests (length (children w.rows n) == 0) (attrs_at w.rows n) (length path) in
       fails-append (Along (Rmdir path) path) (removing w.rows caller path) rest (removed w caller (Rmdir path) tree path (Along (Rmdir path) path) (λ rule k t. t))
       (λ out. let a = taken_end w caller (Rmdir path) tree path out in
       fails (Along (Rmdir path) path) (is_directory_kind (attrs_at w.rows n).kind) _ _
-      (λ f. object (Rmdir path) path n a IsDirectory (λ r there. regular_of r.file.kind (of_row w.rows n r there (λ x. is_directory_kind x.kind ≡ false) f)))
+      (λ f. object (Rmdir path) path n a IsDirectory (λ r there. regular_kind r.file.kind (of_row w.rows n r there (λ x. is_directory_kind x.kind ≡ false) f)))
       (λ d. fails (Along (Rmdir path) path) (length (children w.rows n) == 0) _ _
       (λ f. object (Rmdir path) path n a IsEmpty (λ r there. (
         refl,
-        directory_of r.file.kind (of_row w.rows n r there (λ x. is_directory_kind x.kind ≡ true) d),
+        directory_kind r.file.kind (of_row w.rows n r there (λ x. is_directory_kind x.kind ≡ true) d),
         (λ none. let zero_long = eq-eqb _ 0 (ap (length {A = ℕ}) none) in cc (zero_long, f)),
       )))
       (λ e. none_fails (Along (Rmdir path) path))))
   told (Rename from to) = renamed_told from to
   told (Chmod path mode) = by_path (Chmod path mode) path (chmod_tests caller) (λ n a. each (Along (Chmod path mode) path) (chmod_tests caller (attrs_at w.rows n) (length path)) (
-    λ f. object (Chmod path mode) path n a IsMutable (λ r there. (omega arith, of_row w.rows n r there (λ x. is_immutable x ≡ true) (true_of _ f))),
+    λ f. object (Chmod path mode) path n a IsMutable (λ r there. (omega arith, of_row w.rows n r there (λ x. is_immutable x ≡ true) (not-false _ f))),
     (
-      λ f. object (Chmod path mode) path n a IsNotAppendOnly (λ r there. (omega arith, of_row w.rows n r there (λ x. is_append_only x ≡ true) (true_of _ f))),
+      λ f. object (Chmod path mode) path n a IsNotAppendOnly (λ r there. (omega arith, of_row w.rows n r there (λ x. is_append_only x ≡ true) (not-false _ f))),
       (λ f. object (Chmod path mode) path n a IsOwner (λ r there. let b = of_row w.rows n r there (λ x. (caller.uid ≢ 0) × (caller.uid ≢ x.uid)) (neither_owner caller (attrs_at w.rows n) f) in (refl, b.0, b.1)), tt),
     ),
   ))
   told (Chown path uid gid) = by_path (Chown path uid gid) path (chown_tests caller uid gid) (λ n a. each (Along (Chown path uid gid) path) (chown_tests caller uid gid (attrs_at w.rows n) (length path)) (
-    λ f. object (Chown path uid gid) path n a IsMutable (λ r there. (omega arith, of_row w.rows n r there (λ x. is_immutable x ≡ true) (true_of _ f))),
+    λ f. object (Chown path uid gid) path n a IsMutable (λ r there. (omega arith, of_row w.rows n r there (λ x. is_immutable x ≡ true) (not-false _ f))),
     (
-      λ f. object (Chown path uid gid) path n a IsNotAppendOnly (λ r there. (omega arith, of_row w.rows n r there (λ x. is_append_only x ≡ true) (true_of _ f))),
+      λ f. object (Chown path uid gid) path n a IsNotAppendOnly (λ r there. (omega arith, of_row w.rows n r there (λ x. is_append_only x ≡ true) (not-false _ f))),
       (
         λ f. object (Chown path uid gid) path n a MaySetOwner (λ r there. (
           refl,
-          eqb-false caller.uid 0 (neither_of (caller.uid == 0) _ f).0,
+          eqb-false caller.uid 0 (or_parts (caller.uid == 0) _ f).0,
           given_wrongly caller uid gid r (of_row w.rows n r there (λ x. may_set_owner caller x uid gid ≡ false) f),
         )),
         tt,
@@ -618,7 +610,7 @@ module _ (w : World) (caller : Caller) (tree : IsTree w.rows) where
     (
       λ f. object (Chflags path flags) path n a MaySetFlags (λ r there. (
         refl,
-        eqb-false caller.uid 0 (neither_of (caller.uid == 0) _ f).0,
+        eqb-false caller.uid 0 (or_parts (caller.uid == 0) _ f).0,
         second_of (caller.uid == 0) _ (of_row w.rows n r there (λ x. may_set_flags caller x.flags flags ≡ false) f),
       )),
       (λ f. object (Chflags path flags) path n a KeepsSystemLocks (λ r there. let b = both_of (is_above_zero w.level) _ (of_row w.rows n r there (λ x. keeps_system_locks w.level x.flags flags ≡ false) f) in (refl, b.0, b.1)), tt),

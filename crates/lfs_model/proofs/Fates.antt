@@ -1,6 +1,6 @@
 -- What a call can do to a row that is there, and by what right.
 use Rattle.std.proofs.Common.{◌≡◌, ◌≢◌, ◌⊎◌, ◌≤◌, ℕ, ◌+◌, ◌-◌, ◌==◌, ◌&&◌, ◌||◌, not, Bool, true, false, cond, List, [], ◌∷◌, length, get_or, max, Option, None, Some, inl, inr, refl, sym, ap, subst, ◌∙◌, ⊎_elim, arith, eqb-true, ne_eqb}
-use Rattle.std.proofs.lemmas.Bool.{eqb-false, not-true, cases_eq, cases_lt}
+use Rattle.std.proofs.lemmas.Bool.{eqb-false, not-true, cases_eq, cases_lt, or_from}
 use Rattle.std.specs.FinMap as map
 use Rattle.lfs_types.specs.Caller.{Caller}
 use Rattle.lfs_types.specs.Kinds.{is_directory_kind}
@@ -38,11 +38,12 @@ use Rattle.lfs_model.proofs.Allowed.{MayArrive, MayChange, MayGo, MayMake, MayRe
 use Rattle.lfs_model.proofs.Children.{child-is, child-none}
 use Rattle.lfs_model.proofs.Deciding.{met_first, passes-append}
 use Rattle.lfs_model.proofs.LawBytes.{resized-keeps, splice-before, splice-inside, splice-behind, length-spliced}
-use Rattle.lfs_model.proofs.LawFates.{file_changed, file_unchanged, place_unchanged, splice_end, at_end}
+use Rattle.lfs_model.proofs.LawFates.{file_changed, file_unchanged, place_unchanged, splice_end, at_end, owner_first}
 use Rattle.lfs_model.proofs.LawTree.{childless}
 use Rattle.lfs_model.proofs.LawUnused.{old_not_new}
 use Rattle.lfs_model.proofs.Trees.{no_parent}
 use Rattle.lfs_model.proofs.Ways.{reaches_root, reaches_below, walk_reaches}
+use Rattle.lfs_model.proofs.WalkLemmas.{regular_kind}
 use Rattle.lfs_types.proofs.Maps.{get-insert_same, get-insert_other, get-remove_same, get-remove_other}
 use Rattle.lfs_types.proofs.Pieces.{length-resized}
 use Rattle.lfs_types.proofs.Somewhere.{is_some_and}
@@ -75,10 +76,6 @@ pub data Fate (w : World) (caller : Caller) (request : Request) (v : World) (n :
 
 -- ---- tests
 
-fixed_not : (a b : Bool) → a ≡ false → b ≡ false → (a || b) ≡ false
-fixed_not true b h e = absurd (cc)
-fixed_not false b h e = e
-
 pub giving : (s o u g m : Bool) → (s || ((o && u) && (g || m))) ≡ true → (s ≡ true) ⊎ ((u ≡ true) × ((g ≡ true) ⊎ (m ≡ true)))
 giving true o u g m h = inl refl
 giving false true true true m h = inr (refl, inl refl)
@@ -91,11 +88,6 @@ owner_of : (s o : Bool) (rest : Bool) → (s || (o && rest)) ≡ true → (s || 
 owner_of true o rest h = refl
 owner_of false true rest h = refl
 owner_of false false rest h = absurd (cc)
-
-pub owner_first : (s o u g : Bool) → (s || ((o && u) && g)) ≡ true → (s || o) ≡ true
-owner_first true o u g h = refl
-owner_first false true u g h = refl
-owner_first false false u g h = absurd (cc)
 
 -- whoever may set such flags is the superuser
 pub only_super : (s system : Bool) → (s || not system) ≡ true → system ≡ true → s ≡ true
@@ -118,10 +110,6 @@ le-true a b h = grind (arith)
 
 pub most : (size end : ℕ) → end + (size - end) ≡ max size end
 most size end = omega arith
-
-pub regular_of : (k : Kind) → is_directory_kind k ≡ false → k ≡ Regular
-regular_of Regular h = refl
-regular_of Directory h = absurd (cc)
 
 -- an unbarred caller is one of three, where the directory is sticky
 unbarred_one : (sticky s o d : Bool) → (sticky && not ((s || o) || d)) ≡ false → sticky ≡ true → s ≡ false → o ≡ false → d ≡ false → ⊥
@@ -167,7 +155,7 @@ module _ (w : World) (caller : Caller) (tree : IsTree w.rows) (n : ℕ) (r : Row
   owned path same walks h = record { reaches = reaches_end path same walks; owner = known_at (λ a. is_owner_or_superuser caller a ≡ true) _ same h }
 
   pub loose_at : (m : ℕ) → n ≡ m → is_immutable (attrs_at w.rows m) ≡ false → is_append_only (attrs_at w.rows m) ≡ false → is_fixed (attrs_at w.rows n) ≡ false
-  loose_at m same h e = known_at (λ a. is_fixed a ≡ false) m same (fixed_not _ _ h e)
+  loose_at m same h e = known_at (λ a. is_fixed a ≡ false) m same (or_from _ _ h e)
 
   -- ---- taken away
 
@@ -191,7 +179,7 @@ module _ (w : World) (caller : Caller) (tree : IsTree w.rows) (n : ℕ) (r : Row
         reaches = reaches_below w.rows caller n r there (subst (Reaches w.rows caller) up above) (subst (λ p. row_grants caller bits.Search (map.get w.rows p) ≡ true) up may.searches);
         writes = subst (MayWrite w.rows caller) up (record { reaches = above; granted = may.granted; mutable = may.dir_mutable });
         loose = loose_at _ same may.mutable may.rewritable;
-        parent_loose = subst (λ p. is_fixed (attrs_at w.rows p) ≡ false) up (fixed_not _ _ may.dir_mutable may.dir_rewritable);
+        parent_loose = subst (λ p. is_fixed (attrs_at w.rows p) ≡ false) up (or_from _ _ may.dir_mutable may.dir_rewritable);
         sticky = subst (λ p. has_bit (attrs_at w.rows p).mode 0o1000 ≡ true → (caller.uid ≡ 0) ⊎ (caller.uid ≡ (attrs_at w.rows n).uid) ⊎ (caller.uid ≡ (attrs_at w.rows p).uid)) up
             (one_of (attrs_at w.rows (reached w.rows root (front path))) (attrs_at w.rows n) (known_at (λ a. is_barred caller (attrs_at w.rows (reached w.rows root (front path))) a ≡ false) _ same may.unbarred));
       }
@@ -206,7 +194,7 @@ module _ (w : World) (caller : Caller) (tree : IsTree w.rows) (n : ℕ) (r : Row
       let within : start + length (b ∷ bs) ≤ file_max = le-true _ _ (known (λ a. nat_le (start_in place a.size + length (b ∷ bs)) file_max ≡ true) _ same fits) in
       let long = length-spliced r.file.bytes start b bs in
       record {
-        regular = regular_of r.file.kind (known (λ a. is_directory_kind a.kind ≡ false) _ same may.regular);
+        regular = regular_kind r.file.kind (known (λ a. is_directory_kind a.kind ≡ false) _ same may.regular);
         writes = may_write path (is_end place) same may;
         size = long ∙ most (length r.file.bytes) (start + length (b ∷ bs));
         fits = λ small. omega (arith, within, long, small);
@@ -232,7 +220,7 @@ module _ (w : World) (caller : Caller) (tree : IsTree w.rows) (n : ℕ) (r : Row
       let within : len ≤ file_max = le-true _ _ fits in
       let long = length-resized r.file.bytes len in
       record {
-        regular = regular_of r.file.kind (known (λ a. is_directory_kind a.kind ≡ false) _ same may.regular);
+        regular = regular_kind r.file.kind (known (λ a. is_directory_kind a.kind ≡ false) _ same may.regular);
         writes = may_write path false same may;
         size = long;
         fits = λ small. omega (arith, within, long);

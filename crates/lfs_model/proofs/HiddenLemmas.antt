@@ -30,11 +30,8 @@ use Rattle.lfs_model.proofs.LawTree.{childless}
 use Rattle.lfs_model.proofs.Members.{children-hang}
 use Rattle.lfs_model.proofs.Trees.{root_above}
 use Rattle.lfs_model.proofs.ViewLaw.{view}
-use Rattle.lfs_types.proofs.Somewhere.{some_and}
+use Rattle.lfs_types.proofs.Somewhere.{some_and, none_there}
 use Rattle.lfs_model.proofs.LawFlags.{both}
-
-pub none_there : {A : Type 0} {X : Type 0} (o : Option X) (x : X) → o ≡ None → o ≡ Some x → A
-none_there o x e f = absurd (cc)
 
 when : {A : Type 0} (b : Bool) (xs ys : List A) → (b ≡ true → xs ≡ ys) → cond b xs [] ≡ cond b ys []
 when true xs ys on = on refl

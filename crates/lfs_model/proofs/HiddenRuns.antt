@@ -46,14 +46,14 @@ use Rattle.lfs_model.proofs.BetweenLemmas.{cases_place}
 use Rattle.lfs_model.proofs.CallLaws.{new_law}
 use Rattle.lfs_model.proofs.Deciding.{met_first, passes-append}
 use Rattle.lfs_model.proofs.DoorLemmas.{RemovesDirectory, SameDoor, a_child, door_event, has_directory, outside_on, row_event, way_stays}
-use Rattle.lfs_model.proofs.HiddenLemmas.{Apart, Filled, NamesAlike, WalkEnd, child_comes, child_goes, entered, filled, none_there, same_view, top, told, told_door, walk_end, same_child}
+use Rattle.lfs_model.proofs.HiddenLemmas.{Apart, Filled, NamesAlike, WalkEnd, child_comes, child_goes, entered, filled, same_view, top, told, told_door, walk_end, same_child}
 use Rattle.lfs_model.proofs.LawTree.{childless, event_tree}
 use Rattle.lfs_model.proofs.LevelLemmas.{with_file-level, with_place-level}
 use Rattle.lfs_model.proofs.Members.{children-hang, children-has, children-sorted, number_eq-Decides}
 use Rattle.lfs_model.proofs.RowLaws.{moved_law}
 use Rattle.lfs_model.proofs.ViewLaw.{view}
 use Rattle.lfs_types.proofs.Maps.{get-insert_same, get-insert_other, get-remove_same, get-remove_other}
-use Rattle.lfs_types.proofs.Somewhere.{There}
+use Rattle.lfs_types.proofs.Somewhere.{There, none_there}
 use Rattle.lfs_model.proofs.LawFlags.{both}
 
 some_too : {X : Type 0} (o p : Option X) (x : X) → is_some o ≡ is_some p → o ≡ Some x → There p

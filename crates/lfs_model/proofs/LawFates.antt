@@ -108,10 +108,11 @@ at_end (At start) false h e = absurd (cc)
 
 -- ---- who sets an owner
 
-either : (s o u g : Bool) → (s || ((o && u) && g)) ≡ true → (s || o) ≡ true
-either true o u g h = refl
-either false true u g h = refl
-either false false u g h = absurd (cc)
+-- whoever passes such a test is the superuser or the owner
+pub owner_first : (s o u g : Bool) → (s || ((o && u) && g)) ≡ true → (s || o) ≡ true
+owner_first true o u g h = refl
+owner_first false true u g h = refl
+owner_first false false u g h = absurd (cc)
 
 kept : (s o u g : Bool) → (s || ((o && u) && g)) ≡ true → s ≡ false → u ≡ true
 kept true o u g h other = absurd (cc)
@@ -121,7 +122,7 @@ kept false false u g h other = absurd (cc)
 
 -- whoever may set an owner and a group is the owner or the superuser
 owner_sets : (caller : Caller) (attrs : Attrs) (uid gid : ℕ) → may_set_owner caller attrs uid gid ≡ true → is_owner_or_superuser caller attrs ≡ true
-owner_sets caller attrs uid gid h = either (is_the_superuser caller) (is_the_owner caller attrs) (uid == attrs.uid) _ h
+owner_sets caller attrs uid gid h = owner_first (is_the_superuser caller) (is_the_owner caller attrs) (uid == attrs.uid) _ h
 
 -- and another than the superuser keeps the owner
 owner_keeps : (caller : Caller) (attrs : Attrs) (uid gid : ℕ) → may_set_owner caller attrs uid gid ≡ true → is_the_superuser caller ≡ false → uid ≡ attrs.uid

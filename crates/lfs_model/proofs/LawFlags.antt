@@ -1,5 +1,6 @@
 -- What flags keep through a call, and through a list of calls.
 use Rattle.std.proofs.Common.{◌≡◌, ℕ, ◌≤◌, ◌&&◌, ◌||◌, not, Bool, true, false, List, [], ◌∷◌, ◌++◌, length, None, Some, inl, inr, refl, sym, ap, subst, ◌∙◌, ⊎_elim, arith, append-nil, append_assoc, length-append}
+use Rattle.std.proofs.lemmas.Bool.{or_parts, or_right, true_from_ne_false}
 use Rattle.std.specs.Prelude.{IsSomeAnd}
 use Rattle.std.specs.FinMap as map
 use Rattle.lfs_types.specs.Caller.{Caller}
@@ -73,13 +74,9 @@ falls HighlySecure Insecure h e = refl
 falls HighlySecure Secure h e = absurd (cc)
 falls HighlySecure HighlySecure h e = absurd (cc)
 
-not_dropped : (above : Bool) → (above ≡ false → ⊥) → above ≡ true
-not_dropped true none = refl
-not_dropped false none = absurd (none refl)
-
 above_after : (w : World) (caller : Caller) (request : Request) (after : Level) → LevelFate w caller request after → is_above_zero w.level ≡ true → (DropsLevel w caller request → ⊥) → is_above_zero after ≡ true
 above_after w caller request after (Same e) above none = ap is_above_zero e ∙ above
-above_after w caller request after (Set is super may) above none = not_dropped (is_above_zero after)
+above_after w caller request after (Set is super may) above none = true_from_ne_false (is_above_zero after)
     (λ low. none (subst (DropsLevel w caller) (sym is) (by_init (is_lower after w.level) caller.init may (falls w.level after above low), above, low)))
 
 above_event : (numbers : ℕ) (w : World) (caller : Caller) (request : Request) → decide w caller request ≡ None → is_above_zero w.level ≡ true → (DropsLevel w caller request → ⊥) → is_above_zero (effect numbers w caller request).level ≡ true
@@ -126,21 +123,13 @@ Above w = is_above_zero w.level ≡ true
 
 -- ---- flags that forbid
 
-second_or : (a b : Bool) → (a || b) ≡ false → b ≡ false
-second_or true b h = absurd (cc)
-second_or false b h = h
-
-pub or_second : (a b : Bool) → b ≡ true → (a || b) ≡ true
-or_second true b h = refl
-or_second false b h = h
-
 pub both : {A : Type 0} (b : Bool) → b ≡ true → b ≡ false → A
 both true h e = absurd (cc)
 both false h e = absurd (cc)
 
 -- a system lock of a row that isn't immutable or append-only
 lock_off : {A : Type 0} (user lock : Bool) → lock ≡ true → (user || lock) ≡ false → A
-lock_off user lock set off = both lock set (second_or user lock off)
+lock_off user lock set off = both lock set (or_parts user lock off).1
 
 keeps_first : (above a x b y : Bool) → not (above && ((a && not x) || (b && not y))) ≡ true → above ≡ true → a ≡ true → x ≡ true
 keeps_first above a true b y h up set = refl
@@ -266,7 +255,7 @@ system_grown_step : (numbers n : ℕ) (w : World) (caller : Caller) (request : R
     → Fate numbers w caller request n r → IsSomeAnd (map.get (effect numbers w caller request).rows n) (λ s. Grows r s × HasAppend s)
 system_grown_step numbers n w caller request r above set none (Stays e) = is_some_and (λ s. Grows r s × HasAppend s) e (grows_none r, set)
 system_grown_step numbers n w caller request r above set none (Rewrites f e x) = is_some_and (λ s. Grows r s × HasAppend s) e
-    (grows_by caller r f x (or_second _ _ set), ap (λ flags. has_bit flags 0x4_0000) x.flags ∙ set)
+    (grows_by caller r f x (or_right _ _ set), ap (λ flags. has_bit flags 0x4_0000) x.flags ∙ set)
 system_grown_step numbers n w caller request r above set none (Retitles f e x) = lock_off _ _ set x.rewritable
 system_grown_step numbers n w caller request r above set none (Reflags flags e x) = is_some_and (λ s. Grows r s × HasAppend s) e (
   record { hangs = record { parents = refl; names = refl }; kind = refl; owner = refl; group = refl; mode = inl refl; more = []; bytes = sym (append-nil r.file.bytes); size = omega arith },

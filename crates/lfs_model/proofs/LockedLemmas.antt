@@ -1,5 +1,6 @@
 -- Directories that flags lock keep their names.
-use Rattle.std.proofs.Common.{◌≡◌, ℕ, ◌||◌, Bool, true, false, List, [], ◌∷◌, Option, None, Some, refl, sym, ap, ◌∙◌, ⊎_elim}
+use Rattle.std.proofs.Common.{◌≡◌, ℕ, ◌||◌, true, false, List, [], ◌∷◌, Option, None, Some, refl, sym, ap, ◌∙◌, ⊎_elim}
+use Rattle.std.proofs.lemmas.Bool.{or_left}
 use Rattle.std.specs.Prelude.{IsSomeAnd}
 use Rattle.std.specs.FinMap as map
 use Rattle.lfs_types.specs.Caller.{Caller}
@@ -30,10 +31,6 @@ use Rattle.lfs_model.proofs.LawTree.{event_tree}
 use Rattle.lfs_model.proofs.RowLaws.{moved_law}
 use Rattle.lfs_types.proofs.Somewhere.{is_some_and, some_and}
 use Rattle.lfs_model.proofs.LawFlags.{both}
-
-first_or : (a b : Bool) → a ≡ true → (a || b) ≡ true
-first_or true b h = refl
-first_or false b h = absurd (cc)
 
 sets_flags : (w : World) (caller : Caller) (d flags : ℕ) (request : Request) → SetsFlagsTo w d flags request → SetsFlags d w caller request
 sets_flags w caller d flags (Stat path) h = h
@@ -137,7 +134,7 @@ module _ (numbers segments d : ℕ) where
       → map.get w.rows d ≡ Some dir → is_immutable (attrs_of dir.file) ≡ true → IsChild (world_after numbers entries w).rows d name n → IsChild w.rows d name n
   comes [] w dir name n tree legal none there set c = c
   comes (e ∷ es) w dir name n tree legal none there set c =
-      let next = some_and _ (SameFlags dir) (flags_event w e.cred e.event dir tree legal.0 none.0 there (first_or _ _ set)) in
+      let next = some_and _ (SameFlags dir) (flags_event w e.cred e.event dir tree legal.0 none.0 there (or_left _ _ set)) in
       came_event w e.cred e.event dir name n tree legal.0 there set
       (comes es (after_event numbers w e.cred e.event) next.value name n (event_tree numbers segments w e.cred e.event tree legal.0) legal.1 none.1 next.is
       (ap (λ flags. has_bit flags 0x2 || has_bit flags 0x2_0000) next.holds ∙ set) c)

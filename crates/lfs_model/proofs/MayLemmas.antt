@@ -28,11 +28,13 @@ use Rattle.lfs_model.proofs.Children.{child-is, child-none}
 use Rattle.lfs_model.proofs.LawTree.{childless}
 use Rattle.lfs_types.proofs.Somewhere.{is_some_and}
 use Rattle.lfs_model.proofs.Deciding.{met_first, passes-append}
-use Rattle.lfs_model.proofs.Fates.{attrs_there, giving, known, le-true, loose_at, may_write, moved_grants, not_cleared, only_super, owned, owner_first, parent_is, placed, regular_of, taken}
+use Rattle.lfs_model.proofs.Fates.{attrs_there, giving, known, le-true, loose_at, may_write, moved_grants, not_cleared, only_super, owned, parent_is, placed, taken}
 use Rattle.lfs_model.proofs.LawFlags.{by_init}
 use Rattle.lfs_model.proofs.MovedWay.{no_ancestor}
-use Rattle.lfs_model.proofs.ServedLemmas.{directory_of, served}
+use Rattle.lfs_model.proofs.ServedLemmas.{served}
 use Rattle.lfs_model.proofs.Ways.{reaches_root, walk_reaches}
+use Rattle.lfs_model.proofs.LawFates.{owner_first}
+use Rattle.lfs_model.proofs.WalkLemmas.{directory_kind, regular_kind}
 
 -- names along which a walk passes lead to a row
 led_met : (rows : Rows) (caller : Caller) (path k at : ℕ) (names : List (List ℕ)) → first_failing (walk rows caller path k at names) ≡ None → led rows (Some at) names ≡ Some (reached rows at names)
@@ -56,11 +58,6 @@ some_path path h e = let none = ap (λ (l : List (List ℕ)). length l == 0) e i
 none_left : (l : List ℕ) → (length l == 0) ≡ true → l ≡ []
 none_left [] h = refl
 none_left (x ∷ xs) h = let none = eqb-true (suc (length xs)) 0 h in absurd (omega (arith, none))
-
-end_of : (end append : Bool) → (end || not append) ≡ true → append ≡ true → end ≡ true
-end_of true append h e = refl
-end_of false true h e = absurd (cc)
-end_of false false h e = absurd (cc)
 
 module _ (w : World) (caller : Caller) (tree : IsTree w.rows) where
   reaches : (path : List (List ℕ)) → first_failing (walk w.rows caller 0 0 root path) ≡ None → Reaches w.rows caller (reached w.rows root path)
@@ -177,7 +174,7 @@ module _ (w : World) (caller : Caller) (tree : IsTree w.rows) where
       let b = met_first _ _ _ a.1 in
       at_end path _ walks.0 (λ r there. (
         reaches path walks.0,
-        regular_of _ (known w caller tree _ r there (λ x. is_directory_kind x.kind ≡ false) _ refl (not-true _ a.0)),
+        regular_kind _ (known w caller tree _ r there (λ x. is_directory_kind x.kind ≡ false) _ refl (not-true _ a.0)),
         known w caller tree _ r there (λ x. grants_of caller x bits.Read ≡ true) _ refl b.0,
       ))
   may (Names path) h =
@@ -186,7 +183,7 @@ module _ (w : World) (caller : Caller) (tree : IsTree w.rows) where
       let b = met_first _ _ _ a.1 in
       at_end path _ walks.0 (λ r there. (
         reaches path walks.0,
-        directory_of _ (known w caller tree _ r there (λ x. is_directory_kind x.kind ≡ true) _ refl a.0),
+        directory_kind _ (known w caller tree _ r there (λ x. is_directory_kind x.kind ≡ true) _ refl a.0),
         known w caller tree _ r there (λ x. grants_of caller x bits.Read ≡ true) _ refl b.0,
       ))
   may (Write path place bytes) h =
@@ -194,9 +191,9 @@ module _ (w : World) (caller : Caller) (tree : IsTree w.rows) where
       let change = may_change w.rows caller path (is_end place) more h in
       let fits = met_first _ _ _ (fits_last w.rows caller path (is_end place) more h) in
       at_end path _ change.walks (λ r there. (
-        regular_of _ (known w caller tree _ r there (λ x. is_directory_kind x.kind ≡ false) _ refl change.regular),
+        regular_kind _ (known w caller tree _ r there (λ x. is_directory_kind x.kind ≡ false) _ refl change.regular),
         may_write w caller tree _ r there path (is_end place) refl change,
-        (λ e. end_of (is_end place) _ (known w caller tree _ r there (λ x. (is_end place || not (is_append_only x)) ≡ true) _ refl change.keeps) e),
+        (λ e. only_super (is_end place) _ (known w caller tree _ r there (λ x. (is_end place || not (is_append_only x)) ≡ true) _ refl change.keeps) e),
         le-true _ _ (known w caller tree _ r there (λ x. nat_le (start_in place x.size + length bytes) file_max ≡ true) _ refl fits.0),
       ))
   may (SetLength path len) h =
@@ -204,7 +201,7 @@ module _ (w : World) (caller : Caller) (tree : IsTree w.rows) where
       let change = may_change w.rows caller path false more h in
       let fits = met_first _ _ _ (fits_last w.rows caller path false more h) in
       at_end path _ change.walks (λ r there. (
-        regular_of _ (known w caller tree _ r there (λ x. is_directory_kind x.kind ≡ false) _ refl change.regular),
+        regular_kind _ (known w caller tree _ r there (λ x. is_directory_kind x.kind ≡ false) _ refl change.regular),
         may_write w caller tree _ r there path false refl change,
         not-true _ (known w caller tree _ r there (λ x. (false || not (is_append_only x)) ≡ true) _ refl change.keeps),
         le-true _ _ fits.0,
@@ -216,7 +213,7 @@ module _ (w : World) (caller : Caller) (tree : IsTree w.rows) where
       let file = met_first _ _ _ two.1 in
       at_end path _ (removed_walk path two.0) (λ r there. (
         taken w caller tree _ r there path refl (may_remove w.rows caller path two.0),
-        regular_of _ (known w caller tree _ r there (λ x. is_directory_kind x.kind ≡ false) _ refl (not-true _ file.0)),
+        regular_kind _ (known w caller tree _ r there (λ x. is_directory_kind x.kind ≡ false) _ refl (not-true _ file.0)),
       ))
   may (Rmdir path) h =
       let two = passes-append (removing w.rows caller path) _ h in
@@ -224,7 +221,7 @@ module _ (w : World) (caller : Caller) (tree : IsTree w.rows) where
       let empty = met_first _ _ _ dir.1 in
       at_end path _ (removed_walk path two.0) (λ r there. (
         taken w caller tree _ r there path refl (may_remove w.rows caller path two.0),
-        directory_of _ (known w caller tree _ r there (λ x. is_directory_kind x.kind ≡ true) _ refl dir.0),
+        directory_kind _ (known w caller tree _ r there (λ x. is_directory_kind x.kind ≡ true) _ refl dir.0),
         none_left _ empty.0,
       ))
   may (Rename from to) h = rename_may from to h

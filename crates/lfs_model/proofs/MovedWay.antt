@@ -1,8 +1,8 @@
 -- The rows that a walk leads through are the ancestors of the row at which it ends.
-use Rattle.std.proofs.Common.{◌≡◌, ◌≢◌, ℕ, zero, suc, ◌+◌, ◌==◌, Bool, true, false, List, [], ◌∷◌, Some, Ok, refl, sym, ap, subst, ◌∙◌, arith}
+use Rattle.std.proofs.Common.{◌≡◌, ◌≢◌, ℕ, zero, suc, ◌+◌, ◌==◌, true, false, List, [], ◌∷◌, Some, Ok, sym, ap, subst, ◌∙◌, arith}
 use Rattle.std.specs.Prelude.{◌||◌, unwrap_or}
 use Rattle.std.specs.List.{list_any}
-use Rattle.std.proofs.lemmas.Bool.{eqb-false, ne_eqb, cond-false}
+use Rattle.std.proofs.lemmas.Bool.{eqb-false, ne_eqb, cond-false, or_parts}
 use Rattle.std.specs.FinMap as map
 use Rattle.lfs_types.specs.Caller.{Caller}
 use Rattle.lfs_types.specs.Tree.{root}
@@ -14,15 +14,10 @@ use Rattle.lfs_model.proofs.Children.{child-is}
 use Rattle.lfs_model.proofs.Deciding.{walked_taken}
 use Rattle.lfs_model.proofs.Trees.{root_above}
 
--- neither of two tests holds
-neither : (a b : Bool) → (a || b) ≡ false → (a ≡ false) × (b ≡ false)
-neither true b h = absurd (cc)
-neither false b h = (refl, h)
-
 -- the row from which names lead on is the first that they lead through
 visited-first : (rows : Rows) (at n : ℕ) (names : List (List ℕ)) → list_any (λ m. m == n) (visited rows at names) ≡ false → at ≢ n
-visited-first rows at n [] h = eqb-false at n (neither (at == n) false h).0
-visited-first rows at n (name ∷ names) h = eqb-false at n (neither (at == n) (list_any (λ m. m == n) (visited rows (next rows at name) names)) h).0
+visited-first rows at n [] h = eqb-false at n (or_parts (at == n) false h).0
+visited-first rows at n (name ∷ names) h = eqb-false at n (or_parts (at == n) (list_any (λ m. m == n) (visited rows (next rows at name) names)) h).0
 
 -- what is no ancestor of a directory, and not the row that hangs there, is no ancestor of that row
 one_down : (rows : Rows) (n at to : ℕ) (name : List ℕ) → child rows at name ≡ Some to → ((k : ℕ) → ancestor rows k at ≢ n) → to ≢ n → (k : ℕ) → ancestor rows k to ≢ n
@@ -37,7 +32,7 @@ not_on_way : (rows : Rows) (caller : Caller) (path k at n m : ℕ) (names : List
 not_on_way rows caller path k at n m [] h away none = away
 not_on_way rows caller path k at n m (name ∷ names) h away none =
     let t = walked_taken rows caller path k at name names m h in
-    let rest : list_any (λ x. x == n) (visited rows (next rows at name) names) ≡ false = (neither (at == n) _ none).1 in
+    let rest : list_any (λ x. x == n) (visited rows (next rows at name) names) ≡ false = (or_parts (at == n) _ none).1 in
     let there : next rows at name ≡ t.to = ap (λ o. unwrap_or o 0) t.child in
     let after = subst (λ x. list_any (λ y. y == n) (visited rows x names) ≡ false) there rest in
     subst (λ x. (j : ℕ) → ancestor rows j (reached rows x names) ≢ n) (sym there)

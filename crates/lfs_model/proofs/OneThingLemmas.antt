@@ -20,8 +20,9 @@ use Rattle.lfs_model.proofs.Fates.{Fate, fate}
 use Rattle.lfs_model.proofs.Fates.Fate.{Stays, Goes, Moves, Changes, Remodes, Gives, Reflags}
 use Rattle.lfs_model.proofs.LawFates.{file_unchanged, kept_mode, place_unchanged}
 use Rattle.lfs_model.proofs.LevelLemmas.{level_after}
-use Rattle.lfs_model.proofs.RowLaws.{row_of, gone_from}
+use Rattle.lfs_model.proofs.RowLaws.{row_of}
 use Rattle.lfs_types.proofs.Maps.{get-insert_other, get-remove_other, get-remove_same}
+use Rattle.lfs_types.proofs.Somewhere.{none_there}
 
 -- the call changes one row at most
 abbrev OneRow : Request → Type 0
@@ -142,7 +143,7 @@ Part r s = DiffersInPlace r s ⊎ DiffersInBytes r s ⊎ DiffersInMode r s ⊎ D
 
 part_of : (w : World) (caller : Caller) (request : Request) (v : World) (n : ℕ) (r s : Row) → map.get v.rows n ≡ Some s → Fate w caller request v n r → Part r s
 part_of w caller request v n r s is (Stays e) = subst (Part r) (sym (row_of _ _ s e is)) (inl refl)
-part_of w caller request v n r s is (Goes e x over) = gone_from _ _ e is
+part_of w caller request v n r s is (Goes e x over) = none_there _ _ e is
 part_of w caller request v n r s is (Moves parent name e x) = subst (Part r) (sym (row_of _ _ s e is)) (inl refl)
 part_of w caller request v n r s is (Changes bytes e x) = subst (Part r) (sym (row_of _ _ s e is)) (inr (inl (refl, kept_mode (caller.uid == 0) r.file.mode)))
 part_of w caller request v n r s is (Remodes mode e x) = subst (Part r) (sym (row_of _ _ s e is)) (inr (inr (inl refl)))

@@ -1,6 +1,6 @@
 -- A path stays whose rows none who calls owns or may take away.
 use Rattle.std.proofs.Common.{◌≡◌, ◌≢◌, ◌⊎◌, ℕ, zero, suc, ◌+◌, ◌==◌, ◌||◌, Bool, true, false, List, [], ◌∷◌, Option, None, Some, inl, inr, refl, sym, ap, subst, ◌∙◌, ⊎_elim}
-use Rattle.std.proofs.lemmas.Bool.{eq-eqb, eqb-true, ne_eqb}
+use Rattle.std.proofs.lemmas.Bool.{eq-eqb, eqb-true, ne_eqb, or_cases, or_from, or_left, or_right}
 use Rattle.std.specs.List.{list_any}
 use Rattle.std.specs.Prelude.{IsSomeAnd, is_some, unwrap_or}
 use Rattle.std.specs.FinMap as map
@@ -29,20 +29,12 @@ use Rattle.lfs_model.proofs.Children.{child-answer, child-is}
 use Rattle.lfs_model.proofs.Fates.{Fate, fate}
 use Rattle.lfs_model.proofs.Fates.Fate.{Stays, Goes, Moves, Changes, Remodes, Gives, Reflags}
 use Rattle.lfs_model.proofs.LawFates.{kept_mode}
-use Rattle.lfs_model.proofs.LawFlags.{both, mode_on, or_second}
+use Rattle.lfs_model.proofs.LawFlags.{both, mode_on}
 use Rattle.lfs_model.proofs.LawTree.{event_tree}
 use Rattle.lfs_model.proofs.LockedLemmas.{at_row}
 use Rattle.lfs_types.proofs.Somewhere.{There, is_some_and, some_and}
 
 -- ---- tests
-
-or_cases : (a b : Bool) → (a || b) ≡ true → (a ≡ true) ⊎ (b ≡ true)
-or_cases true b h = inl refl
-or_cases false b h = inr h
-
-or_first : (a b : Bool) → a ≡ true → (a || b) ≡ true
-or_first true b h = refl
-or_first false b h = absurd (cc)
 
 -- what the system locks is fixed
 lock_fixes : (a b c d : Bool) → (b || d) ≡ true → ((a || b) || (c || d)) ≡ true
@@ -105,8 +97,8 @@ abbrev passes : Rows → ℕ → List (List ℕ) → ℕ → Bool
 passes rows at names m = list_any (λ x. x == m) (visited rows at names)
 
 passes_first : (rows : Rows) (at : ℕ) (names : List (List ℕ)) → passes rows at names at ≡ true
-passes_first rows at [] = or_first _ _ (eq-eqb at at refl)
-passes_first rows at (name ∷ names) = or_first _ _ (eq-eqb at at refl)
+passes_first rows at [] = or_left _ _ (eq-eqb at at refl)
+passes_first rows at (name ∷ names) = or_left _ _ (eq-eqb at at refl)
 
 -- a row on the way is the first, or hangs in one on the way
 record IsOn (rows : Rows) (at : ℕ) (names : List (List ℕ)) (m : ℕ) : Type 0 where
@@ -132,8 +124,8 @@ on_way rows (name ∷ names) at n m there h on =
       above = inr (⊎_elim
           (λ same.
           let row : o.row ≡ c.row = cc (o.there, c.there, ap (map.get rows) same) in
-          or_first _ _ (eq-eqb at o.row.parent (sym (ap (λ (x : Row). x.parent) row ∙ c.hangs))))
-          (λ up. or_second _ _ up) o.above);
+          or_left _ _ (eq-eqb at o.row.parent (sym (ap (λ (x : Row). x.parent) row ∙ c.hangs))))
+          (λ up. or_right _ _ up) o.above);
     })
     (or_cases _ _ on)
 
@@ -165,11 +157,11 @@ module _ (w v : World) (tree : IsTree w.rows) (other : IsTree v.rows) where
       let s = step w.rows at name names n h in
       let to = next w.rows at name in
       let c = child-is w.rows at name to s.child in
-      let on = along names to n s.rest (λ m r on. stay m r (or_second _ _ on)) in
-      let new = some_and (map.get v.rows to) (StaysPut c.row) (stay to c.row (or_second _ _ (passes_first w.rows to names)) c.there) in
+      let on = along names to n s.rest (λ m r on. stay m r (or_right _ _ on)) in
+      let new = some_and (map.get v.rows to) (StaysPut c.row) (stay to c.row (or_right _ _ (passes_first w.rows to names)) c.there) in
       let k = keeps c.row new.value new.holds in
       let kid : child v.rows at name ≡ child w.rows at name = child-answer v.rows other.unique at name (Some to) (record { row = new.value; there = new.is; below = c.below; hangs = k.parents ∙ c.hangs; named = k.names ∙ c.named }) ∙ sym s.child in
-      let dir = directory_stays at (name ∷ names) stay at to c.row c.there c.hangs (or_first _ _ (eq-eqb at at refl)) in
+      let dir = directory_stays at (name ∷ names) stay at to c.row c.there c.hangs (or_left _ _ (eq-eqb at at refl)) in
       record {
         leads = ap (λ o. led v.rows o names) (kid ∙ s.child) ∙ on.leads ∙ ap (λ o. led w.rows o names) (sym s.child);
         way = ap (λ o. at ∷ visited v.rows (unwrap_or o 0) names) kid ∙ ap (λ l. at ∷ l) on.way;
@@ -288,7 +280,7 @@ module _ (w v : World) (caller : Caller) (request : Request) (m : ℕ) (r : Row)
   stays_put (Gives uid gid e x) = untitled x.allowed
   stays_put (Reflags flags e x) =
       let h = alone.owned x.owns in
-      absurd (h.0 (x.system (or_second _ _ (ap (λ (a : Attrs). has_system_lock a.flags) (sym (at_row w m r there)) ∙ h.1))))
+      absurd (h.0 (x.system (or_right _ _ (ap (λ (a : Attrs). has_system_lock a.flags) (sym (at_row w m r there)) ∙ h.1))))
 
 module _ (numbers segments : ℕ) where
   row_stays : (w : World) (tree : IsTree w.rows) (path : List (List ℕ)) (caller : Caller) (event : Event) → IsEvent numbers segments w caller event → IsHarmless w.rows path caller event
@@ -338,10 +330,6 @@ path_stays numbers segments entries w path n tree legal leads harmless =
 
 -- ---- who must leave a row
 
-not_owner : (super owner : Bool) → super ≡ false → owner ≡ false → (super || owner) ≡ false
-not_owner true owner h e = absurd (cc)
-not_owner false owner h e = e
-
 module _ (rows : Rows) (caller : Caller) (n : ℕ) (ordinary : caller.uid ≢ 0) (foreign : caller.uid ≢ (attrs_at rows n).uid) where
   guarded_from : (p : ℕ) → parent_of (map.get rows n) ≡ p → (n ≢ root → IsGuarded rows caller n p) → MayTakeAway rows caller n p → ⊥
   unfolding ancestor
@@ -358,7 +346,7 @@ module _ (rows : Rows) (caller : Caller) (n : ℕ) (ordinary : caller.uid ≢ 0)
 
   left : (n ≢ root → IsGuarded rows caller n (parent_of (map.get rows n))) → LeavesAlone rows caller n
   left guarded = record {
-    owned = λ owns. both _ owns.owner (not_owner (caller.uid == 0) (caller.uid == (attrs_at rows n).uid) (ne_eqb caller.uid 0 ordinary) (ne_eqb caller.uid (attrs_at rows n).uid foreign));
+    owned = λ owns. both _ owns.owner (or_from (caller.uid == 0) (caller.uid == (attrs_at rows n).uid) (ne_eqb caller.uid 0 ordinary) (ne_eqb caller.uid (attrs_at rows n).uid foreign));
     taken = guarded_from (parent_of (map.get rows n)) refl guarded;
   }
 

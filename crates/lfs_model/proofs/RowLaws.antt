@@ -5,6 +5,7 @@ use Rattle.std.specs.FinMap as map
 use Rattle.lfs_types.specs.Caller.{Caller}
 use Rattle.lfs_types.specs.Tree.{Row, World}
 use Rattle.lfs_types.specs.declared.request.Request.{Request}
+use Rattle.lfs_types.proofs.Somewhere.{none_there}
 use Rattle.lfs_rules.specs.SetId.{set_id_cleared}
 use Rattle.lfs_model.specs.Effects.{mode_after}
 use Rattle.lfs_model.specs.LawGone as gone
@@ -20,10 +21,6 @@ use Rattle.lfs_model.proofs.Fates.Fate.{Stays, Goes, Moves, Changes, Remodes, Gi
 -- what a number has is one row
 pub row_of : (o : Option Row) (x s : Row) → o ≡ Some x → o ≡ Some s → s ≡ x
 row_of o x s e is = cc
-
--- what has no row has none
-pub gone_from : {A : Type 0} (o : Option Row) (s : Row) → o ≡ None → o ≡ Some s → A
-gone_from o s e is = absurd (cc)
 
 same_field : {A : Type 0} (field : Row → A) (x s : Row) → s ≡ x → field s ≡ field x
 same_field field x s e = ap field e
@@ -45,18 +42,18 @@ mode_changed caller mode differs super = differs (ap (λ b. cond b mode (set_id_
 
 module _ (w : World) (caller : Caller) (request : Request) (v : World) (n : ℕ) (r : Row) where
   gone_by : Fate w caller request v n r → map.get v.rows n ≡ None → gone.MayRemove w caller request n r × gone.TakesOver w v request r
-  gone_by (Stays e) none = gone_from _ _ none e
+  gone_by (Stays e) none = none_there _ _ none e
   gone_by (Goes e x over) none = (x, over)
-  gone_by (Moves parent name e x) none = gone_from _ _ none e
-  gone_by (Changes bytes e x) none = gone_from _ _ none e
-  gone_by (Remodes mode e x) none = gone_from _ _ none e
-  gone_by (Gives uid gid e x) none = gone_from _ _ none e
-  gone_by (Reflags flags e x) none = gone_from _ _ none e
+  gone_by (Moves parent name e x) none = none_there _ _ none e
+  gone_by (Changes bytes e x) none = none_there _ _ none e
+  gone_by (Remodes mode e x) none = none_there _ _ none e
+  gone_by (Gives uid gid e x) none = none_there _ _ none e
+  gone_by (Reflags flags e x) none = none_there _ _ none e
 
   module _ (s : Row) (is : map.get v.rows n ≡ Some s) where
     moved_by : Fate w caller request v n r → (HangsStill r s → ⊥) → MayMove w caller request n r s.parent s.name
     moved_by (Stays e) differs = absurd (differs (hangs_by r _ s (row_of _ _ s e is) refl refl))
-    moved_by (Goes e x over) differs = gone_from _ _ e is
+    moved_by (Goes e x over) differs = none_there _ _ e is
     moved_by (Moves parent name e x) differs =
         subst (λ (y : Row). MayMove w caller request n r y.parent y.name) (sym (row_of _ _ s e is)) x
     moved_by (Changes bytes e x) differs = absurd (differs (hangs_by r _ s (row_of _ _ s e is) refl refl))
@@ -69,7 +66,7 @@ module _ (w : World) (caller : Caller) (request : Request) (v : World) (n : ℕ)
 
     rewritten_by : Fate w caller request v n r → s.file.bytes ≢ r.file.bytes → MayRewrite w caller request n r s.file.bytes
     rewritten_by (Stays e) differs = absurd (differs (ap bytes_in (row_of _ _ s e is)))
-    rewritten_by (Goes e x over) differs = gone_from _ _ e is
+    rewritten_by (Goes e x over) differs = none_there _ _ e is
     rewritten_by (Moves parent name e x) differs = absurd (differs (ap bytes_in (row_of _ _ s e is)))
     rewritten_by (Changes bytes e x) differs = subst (λ (y : Row). MayRewrite w caller request n r y.file.bytes) (sym (row_of _ _ s e is)) x
     rewritten_by (Remodes mode e x) differs = absurd (differs (ap bytes_in (row_of _ _ s e is)))
@@ -81,7 +78,7 @@ module _ (w : World) (caller : Caller) (request : Request) (v : World) (n : ℕ)
 
     remoded_by : Fate w caller request v n r → s.file.mode ≢ r.file.mode → IsChmod w caller request n r s ⊎ LosesSetId w caller request n r s
     remoded_by (Stays e) differs = absurd (differs (ap mode_in (row_of _ _ s e is)))
-    remoded_by (Goes e x over) differs = gone_from _ _ e is
+    remoded_by (Goes e x over) differs = none_there _ _ e is
     remoded_by (Moves parent name e x) differs = absurd (differs (ap mode_in (row_of _ _ s e is)))
     remoded_by (Changes bytes e x) differs =
         let same = row_of _ _ s e is in
@@ -97,7 +94,7 @@ module _ (w : World) (caller : Caller) (request : Request) (v : World) (n : ℕ)
 
     given_by : Fate w caller request v n r → (SameOwner r.file s.file → ⊥) → MayGive w caller request n r s.file.uid s.file.gid
     given_by (Stays e) differs = absurd (differs (owner_by r _ s (row_of _ _ s e is) refl refl))
-    given_by (Goes e x over) differs = gone_from _ _ e is
+    given_by (Goes e x over) differs = none_there _ _ e is
     given_by (Moves parent name e x) differs = absurd (differs (owner_by r _ s (row_of _ _ s e is) refl refl))
     given_by (Changes bytes e x) differs = absurd (differs (owner_by r _ s (row_of _ _ s e is) refl refl))
     given_by (Remodes mode e x) differs = absurd (differs (owner_by r _ s (row_of _ _ s e is) refl refl))
@@ -116,7 +113,7 @@ module _ (w : World) (caller : Caller) (request : Request) (v : World) (n : ℕ)
 
     reflagged_by : Fate w caller request v n r → s.file.flags ≢ r.file.flags → MayReflag w caller request n r s.file.flags
     reflagged_by (Stays e) differs = absurd (differs (ap flags_in (row_of _ _ s e is)))
-    reflagged_by (Goes e x over) differs = gone_from _ _ e is
+    reflagged_by (Goes e x over) differs = none_there _ _ e is
     reflagged_by (Moves parent name e x) differs = absurd (differs (ap flags_in (row_of _ _ s e is)))
     reflagged_by (Changes bytes e x) differs = absurd (differs (ap flags_in (row_of _ _ s e is)))
     reflagged_by (Remodes mode e x) differs = absurd (differs (ap flags_in (row_of _ _ s e is)))

@@ -1,5 +1,7 @@
 -- A call is allowed exactly where its caller may make it: whoever may is served.
 use Rattle.std.proofs.Common.{◌≡◌, ◌≢◌, ◌⊎◌, ◌≤◌, ℕ, zero, suc, ◌+◌, ◌==◌, ◌&&◌, ◌||◌, not, Bool, true, false, cond, List, [], ◌∷◌, length, Option, None, Some, inl, inr, refl, sym, ap, subst, ◌∙◌, ⊎_elim, arith, eq-eqb, ne_eqb, ◌++◌}
+use Rattle.std.proofs.lemmas.Bool.{not_from_false, or_left, or_parts, or_right}
+use Rattle.lfs_model.proofs.WalkLemmas.{directory_kind}
 use Rattle.std.specs.Prelude.{IsSomeAnd, is_none, is_some, nat_le, unwrap_or, Contains}
 use Rattle.std.specs.List.{list_any}
 use Rattle.std.specs.FinMap as map
@@ -22,7 +24,7 @@ use Rattle.lfs_model.specs.LawDenied.{led}
 use Rattle.lfs_model.specs.LawServed.{IsNotUnder, May, MayHang, HasPlaceFor}
 use Rattle.lfs_model.specs.Rights.{MayPlace, MayTakeAway, Reaches, MayReplace, MayTakePlace}
 use Rattle.lfs_model.specs.Rules.{Check, attrs_at, chflags_tests, chmod_tests, chown_tests, decide, first_failing, front, is_directory_row, last, length_tests, list_tests, making, next, reached, reaching, read_tests, removing, row_grants, stat_tests, visited, walk, write_tests, arriving, is_there, last_tests, moving_tests, placing_tests, removing_tests, replaced_tests}
-use Rattle.lfs_model.proofs.Allowed.{child_there, directory_attrs, grants_attrs, last_step, reached_last}
+use Rattle.lfs_model.proofs.Allowed.{child_there, directory_attrs, grants_attrs, last_step, reached_last, directory_row_there}
 use Rattle.lfs_model.proofs.Children.{child-is}
 use Rattle.lfs_model.proofs.Deciding.{failing-behind}
 use Rattle.lfs_types.proofs.Somewhere.{There, some_and}
@@ -33,9 +35,6 @@ use Rattle.lfs_model.proofs.Ways.{reaches_root}
 
 met_then : (met : Bool) (denial : Denial) (rest : Option Denial) → met ≡ true → rest ≡ None → cond met rest (Some denial) ≡ None
 met_then met denial rest e h = ap (λ b. cond b rest (Some denial)) e ∙ h
-
-not_true : (b : Bool) → b ≡ false → not b ≡ true
-not_true b e = ap not e
 
 at_most : (a b : ℕ) → a ≤ b → nat_le a b ≡ true
 at_most a b h = grind (arith, h)
@@ -63,20 +62,8 @@ pub gives : (s o u g m : Bool) → (s || o) ≡ true → (s ≡ true) ⊎ ((u �
 gives true o u g m h e = refl
 gives false false u g m h e = absurd (cc)
 gives false true u g m h e = ⊎_elim (λ s. absurd (cc (s))) (λ two. ⊎_elim
-    (λ a. ap (λ b. b && (g || m)) two.0 ∙ ap (λ b. b || m) a)
-    (λ a. ap (λ b. b && (g || m)) two.0 ∙ ap (λ b. g || b) a ∙ last_true g) two.1) e
-  where
-    last_true : (b : Bool) → (b || true) ≡ true
-    last_true true = refl
-    last_true false = refl
-
-second_false : (a b : Bool) → (a || b) ≡ false → b ≡ false
-second_false true b h = absurd (cc)
-second_false false b h = h
-
-first_false : (a b : Bool) → (a || b) ≡ false → a ≡ false
-first_false true b h = absurd (cc)
-first_false false b h = refl
+    (λ a. ap (λ b. b && (g || m)) two.0 ∙ or_left g m a)
+    (λ a. ap (λ b. b && (g || m)) two.0 ∙ or_right g m a) two.1) e
 
 free_of : (sticky s o d : Bool) → (sticky ≡ true → (s ≡ true) ⊎ (o ≡ true) ⊎ (d ≡ true)) → not (sticky && not ((s || o) || d)) ≡ true
 free_of false s o d h = refl
@@ -89,10 +76,6 @@ leaves : (d stays granted : Bool) → (d ≡ true → stays ≡ false → grante
 leaves false stays granted h = refl
 leaves true true granted h = refl
 leaves true false granted h = h refl refl
-
-pub directory_of : (k : Kind) → is_directory_kind k ≡ true → k ≡ Directory
-directory_of Regular h = absurd (cc)
-directory_of Directory h = refl
 
 -- ---- the way to a row that a caller reaches
 
@@ -173,10 +156,6 @@ module _ (rows : Rows) (caller : Caller) (tree : IsTree rows) where
   free_name p name None e free = ap is_none e
   free_name p name (Some m) e free = absurd (free m (child-is rows p name m e))
 
-  there_is : (o : Option Row) → is_directory_row o ≡ true → There o
-  there_is None h = absurd (cc)
-  there_is (Some r) h = record { value = r; is = refl }
-
   filled_path : (path : List (List ℕ)) → path ≢ [] → (length path == 0) ≡ false
   filled_path [] some = absurd (some refl)
   filled_path (name ∷ names) some = ne_eqb (suc (length names)) 0 (omega arith)
@@ -185,12 +164,12 @@ module _ (rows : Rows) (caller : Caller) (tree : IsTree rows) where
       → first_failing (making rows caller path) ≡ None
   makes path p filled e may =
       let way = passes 0 0 root (front path) p e may.writes.reaches in
-      let there = there_is _ may.directory in
-      met_then _ _ _ (not_true _ (filled_path path filled)) (failing-behind (walk rows caller 0 0 root (front path)) _ way.walks
+      let there = directory_row_there _ may.directory in
+      met_then _ _ _ (not_from_false _ (filled_path path filled)) (failing-behind (walk rows caller 0 0 root (front path)) _ way.walks
       ∙ met_then _ _ _ (ap (λ n. is_directory_kind (attrs_at rows n).kind) way.ends ∙ sym (directory_attrs _ there) ∙ may.directory)
       (met_then _ _ _ (ap (λ n. grants_of caller (attrs_at rows n) bits.Search) way.ends ∙ sym (grants_attrs caller bits.Search _ there) ∙ may.searches)
       (met_then _ _ _ (ap (λ n. is_none (child rows n (last path))) way.ends ∙ free_name p (last path) _ refl may.free)
-      (met_then _ _ _ (ap (λ n. not (is_immutable (attrs_at rows n))) way.ends ∙ not_true _ may.writes.mutable)
+      (met_then _ _ _ (ap (λ n. not (is_immutable (attrs_at rows n))) way.ends ∙ not_from_false _ may.writes.mutable)
       (met_then _ _ _ (ap (λ n. grants_of caller (attrs_at rows n) bits.Write) way.ends ∙ sym (grants_attrs caller bits.Write _ there) ∙ may.writes.granted) refl)))))
 
   -- ---- a name that is taken away
@@ -209,20 +188,20 @@ module _ (rows : Rows) (caller : Caller) (tree : IsTree rows) where
       sym hangs.hangs ∙ ap (λ (x : Row). x.parent) row
 
   parent_there : (n : ℕ) (r : Row) → map.get rows n ≡ Some r → There (map.get rows r.parent)
-  parent_there n r there = there_is _ (is_directory_at r.parent (tree.parents n r there))
+  parent_there n r there = directory_row_there _ (is_directory_at r.parent (tree.parents n r there))
 
   -- the tests of a name that a caller may take away, by any path
   removing_met : (index p m k : ℕ) → There (map.get rows p) → MayTakeAway rows caller m p → first_failing (removing_tests caller index (attrs_at rows p) (attrs_at rows m) k) ≡ None
   removing_met index p m k there may =
       let owners : (f d : Attrs) → (caller.uid ≡ 0) ⊎ (caller.uid ≡ f.uid) ⊎ (caller.uid ≡ d.uid) → (is_the_superuser caller ≡ true) ⊎ (is_the_owner caller f ≡ true) ⊎ (is_the_owner caller d ≡ true)
       = λ f d h. ⊎_elim (λ a. inl (eq-eqb caller.uid 0 a)) (λ more. ⊎_elim (λ a. inr (inl (eq-eqb caller.uid f.uid a))) (λ a. inr (inr (eq-eqb caller.uid d.uid a))) more) h in
-      met_then _ _ _ (not_true _ may.writes.mutable)
+      met_then _ _ _ (not_from_false _ may.writes.mutable)
       (met_then _ _ _ (sym (grants_attrs caller bits.Write _ there) ∙ may.writes.granted)
-      (met_then _ _ _ (not_true _ (second_false _ _ may.parent_loose))
+      (met_then _ _ _ (not_from_false _ ((or_parts _ _ may.parent_loose).1))
       (met_then _ _ _ (free_of (has_bit (attrs_at rows p).mode 0o1000) (is_the_superuser caller) (is_the_owner caller (attrs_at rows m)) (is_the_owner caller (attrs_at rows p))
       (λ s. owners (attrs_at rows m) (attrs_at rows p) (may.sticky s)))
-      (met_then _ _ _ (not_true _ (first_false _ _ may.loose))
-      (met_then _ _ _ (not_true _ (second_false _ _ may.loose)) refl)))))
+      (met_then _ _ _ (not_from_false _ ((or_parts _ _ may.loose).0))
+      (met_then _ _ _ (not_from_false _ ((or_parts _ _ may.loose).1)) refl)))))
 
   removes : (path : List (List ℕ)) (n : ℕ) (r : Row) → led rows (Some root) path ≡ Some n → map.get rows n ≡ Some r → MayTakeAway rows caller n r.parent
       → first_failing (removing rows caller path) ≡ None
@@ -230,7 +209,7 @@ module _ (rows : Rows) (caller : Caller) (tree : IsTree rows) where
       let filled = some_names path n e may.below in
       let way = passes 0 0 root path n e may.reaches in
       let up = above_is path n r filled there way in
-      met_then _ _ _ (not_true _ filled) (failing-behind (walk rows caller 0 0 root path) _ way.walks
+      met_then _ _ _ (not_from_false _ filled) (failing-behind (walk rows caller 0 0 root path) _ way.walks
       ∙ (λ i. first_failing (removing_tests caller 0 (attrs_at rows (up i)) (attrs_at rows (way.ends i)) (length (front path))))
       ∙ removing_met 0 r.parent n (length (front path)) (parent_there n r there) may)
 
@@ -239,8 +218,8 @@ module _ (rows : Rows) (caller : Caller) (tree : IsTree rows) where
   arrives : (path : List (List ℕ)) (p : ℕ) → (length path == 0) ≡ false → Passed 1 0 root (front path) p → is_directory_row (map.get rows p) ≡ true → row_grants caller bits.Search (map.get rows p) ≡ true
       → first_failing (arriving rows caller path) ≡ None
   arrives path p filled way dir search =
-      let there = there_is _ dir in
-      met_then _ _ _ (not_true _ filled) (failing-behind (walk rows caller 1 0 root (front path)) _ way.walks
+      let there = directory_row_there _ dir in
+      met_then _ _ _ (not_from_false _ filled) (failing-behind (walk rows caller 1 0 root (front path)) _ way.walks
       ∙ met_then _ _ _ (ap (λ n. is_directory_kind (attrs_at rows n).kind) way.ends ∙ sym (directory_attrs _ there) ∙ dir)
       (met_then _ _ _ (ap (λ n. grants_of caller (attrs_at rows n) bits.Search) way.ends ∙ sym (grants_attrs caller bits.Search _ there) ∙ search) refl))
 
@@ -273,9 +252,9 @@ module _ (rows : Rows) (caller : Caller) (tree : IsTree rows) where
   placing_met : (moved p k : ℕ) (name : List ℕ) (o : Option ℕ) → child rows p name ≡ o → MayTakePlace rows caller (attrs_at rows moved).kind p name
       → first_failing (placing_tests rows caller moved p o k) ≡ None
   placing_met moved p k name None e may =
-      met_then _ _ _ (not_true _ may.writes.mutable)
-      (met_then _ _ _ (sym (grants_attrs caller bits.Write _ (there_is _ may.directory)) ∙ may.writes.granted) refl)
-  placing_met moved p k name (Some m) e may = replaced_met p m k (attrs_at rows moved) (there_is _ may.directory) (may.there m (child-is rows p name m e))
+      met_then _ _ _ (not_from_false _ may.writes.mutable)
+      (met_then _ _ _ (sym (grants_attrs caller bits.Write _ (directory_row_there _ may.directory)) ∙ may.writes.granted) refl)
+  placing_met moved p k name (Some m) e may = replaced_met p m k (attrs_at rows moved) (directory_row_there _ may.directory) (may.there m (child-is rows p name m e))
 
   -- ---- a place that isn't beneath a row
 
@@ -351,10 +330,10 @@ module _ (w : World) (caller : Caller) (tree : IsTree w.rows) where
       → led w.rows (Some root) (front to) ≡ Some p → MayHang w caller n r p → first_failing (last_tests w.rows caller from to) ≡ None
   last_met from to n p r there ends up into leads hang =
       let a = at_row w.rows caller tree n r there in
-      met_then _ _ _ (ap (λ m. not (list_any (λ x. x == m) (visited w.rows root (front to)))) ends ∙ not_true _ (off_way w.rows caller tree root (front to) p n leads hang.apart))
+      met_then _ _ _ (ap (λ m. not (list_any (λ x. x == m) (visited w.rows root (front to)))) ends ∙ not_from_false _ (off_way w.rows caller tree root (front to) p n leads hang.apart))
       (met_then _ _ _ (leaves (is_directory_kind (attrs_at w.rows (reached w.rows root from)).kind) (reached w.rows root (front from) == reached w.rows root (front to)) (grants_of caller (attrs_at w.rows (reached w.rows root from)) bits.Write)
       (λ d apart. ap (λ m. grants_of caller (attrs_at w.rows m) bits.Write) ends ∙ ap (λ x. grants_of caller x bits.Write) a
-      ∙ hang.granted (directory_of _ (ap (λ (x : Attrs). is_directory_kind x.kind) (sym a) ∙ ap (λ m. is_directory_kind (attrs_at w.rows m).kind) (sym ends) ∙ d))
+      ∙ hang.granted (directory_kind _ (ap (λ (x : Attrs). is_directory_kind x.kind) (sym a) ∙ ap (λ m. is_directory_kind (attrs_at w.rows m).kind) (sym ends) ∙ d))
       (λ same. absurd (cc (apart, eq-eqb (reached w.rows root (front from)) (reached w.rows root (front to)) (up ∙ sym same ∙ sym into))))))
       refl)
 
@@ -393,7 +372,7 @@ module _ (w : World) (caller : Caller) (tree : IsTree w.rows) where
       let a = at_row w.rows caller tree may.number may.row may.there in
       tested w.rows caller tree path may.number may.row may.leads may.there writes.reaches (write_tests caller place (length bytes))
       (met_then _ _ _ (regular_then _ may.holds.0)
-      (met_then _ _ _ (ap (λ x. not (is_immutable x)) (sym a) ∙ not_true _ writes.mutable)
+      (met_then _ _ _ (ap (λ x. not (is_immutable x)) (sym a) ∙ not_from_false _ writes.mutable)
       (met_then _ _ _ (ap (row_grants caller bits.Write) (sym may.there) ∙ writes.granted)
       (met_then _ _ _ (append_end _ _ may.holds.2)
       (met_then _ _ _ (at_most _ _ may.holds.3) refl)))))
@@ -402,9 +381,9 @@ module _ (w : World) (caller : Caller) (tree : IsTree w.rows) where
       let a = at_row w.rows caller tree may.number may.row may.there in
       tested w.rows caller tree path may.number may.row may.leads may.there writes.reaches (length_tests caller len)
       (met_then _ _ _ (regular_then _ may.holds.0)
-      (met_then _ _ _ (ap (λ x. not (is_immutable x)) (sym a) ∙ not_true _ writes.mutable)
+      (met_then _ _ _ (ap (λ x. not (is_immutable x)) (sym a) ∙ not_from_false _ writes.mutable)
       (met_then _ _ _ (ap (row_grants caller bits.Write) (sym may.there) ∙ writes.granted)
-      (met_then _ _ _ (not_true _ may.holds.2)
+      (met_then _ _ _ (not_from_false _ may.holds.2)
       (met_then _ _ _ (at_most _ _ may.holds.3) refl)))))
   served (Create path mode) may = makes w.rows caller tree path may.parent may.filled may.leads may.placed
   served (Mkdir path mode) may = makes w.rows caller tree path may.parent may.filled may.leads may.placed
@@ -421,15 +400,15 @@ module _ (w : World) (caller : Caller) (tree : IsTree w.rows) where
   served (Chmod path mode) may =
       let a = at_row w.rows caller tree may.number may.row may.there in
       tested w.rows caller tree path may.number may.row may.leads may.there may.holds.owns.reaches (chmod_tests caller)
-      (met_then _ _ _ (ap (λ x. not (is_immutable x)) (sym a) ∙ not_true _ (first_false _ _ may.holds.loose))
-      (met_then _ _ _ (ap (λ x. not (is_append_only x)) (sym a) ∙ not_true _ (second_false _ _ may.holds.loose))
+      (met_then _ _ _ (ap (λ x. not (is_immutable x)) (sym a) ∙ not_from_false _ ((or_parts _ _ may.holds.loose).0))
+      (met_then _ _ _ (ap (λ x. not (is_append_only x)) (sym a) ∙ not_from_false _ ((or_parts _ _ may.holds.loose).1))
       (met_then _ _ _ (ap (λ (x : Attrs). is_the_superuser caller || is_the_owner caller x) (sym a) ∙ may.holds.owns.owner) refl)))
   served (Chown path uid gid) may =
       let a = at_row w.rows caller tree may.number may.row may.there in
       let title = may.holds.0 in
       tested w.rows caller tree path may.number may.row may.leads may.there title.owns.reaches (chown_tests caller uid gid)
-      (met_then _ _ _ (ap (λ x. not (is_immutable x)) (sym a) ∙ not_true _ (first_false _ _ title.loose))
-      (met_then _ _ _ (ap (λ x. not (is_append_only x)) (sym a) ∙ not_true _ (second_false _ _ title.loose))
+      (met_then _ _ _ (ap (λ x. not (is_immutable x)) (sym a) ∙ not_from_false _ ((or_parts _ _ title.loose).0))
+      (met_then _ _ _ (ap (λ x. not (is_append_only x)) (sym a) ∙ not_from_false _ ((or_parts _ _ title.loose).1))
       (met_then _ _ _ (gives (is_the_superuser caller) (is_the_owner caller (attrs_of may.row.file)) (uid == may.row.file.uid) (gid == may.row.file.gid) (is_in_group caller gid)
       (ap (λ (x : Attrs). is_the_superuser caller || is_the_owner caller x) (sym a) ∙ title.owns.owner)
       (⊎_elim (λ s. inl (eq-eqb caller.uid 0 s)) (λ two. inr (eq-eqb uid may.row.file.uid two.0, ⊎_elim (λ g. inl (eq-eqb gid may.row.file.gid g)) (λ m. inr m) two.1)) may.holds.1)) refl)))

@@ -1,5 +1,6 @@
 -- What a caller sees along names is enough for the tests of a walk.
-use Rattle.std.proofs.Common.{◌≡◌, ℕ, ◌+◌, ◌&&◌, Bool, true, false, cond, List, [], ◌∷◌, ◌++◌, Option, None, Some, refl, sym, ap, subst, ◌∙◌}
+use Rattle.std.proofs.Common.{◌≡◌, ℕ, ◌+◌, Bool, true, false, cond, List, [], ◌∷◌, ◌++◌, Option, None, Some, refl, sym, ap, subst, ◌∙◌}
+use Rattle.std.proofs.lemmas.Bool.{and_from}
 use Rattle.std.specs.Prelude.{is_some, unwrap_or, option_map, IsSome}
 use Rattle.std.specs.FinMap as map
 use Rattle.lfs_types.specs.Caller.{Caller}
@@ -116,11 +117,6 @@ rest_same a b true true xs ys h g e = cc
 rest_same a b true false xs ys h g e = absurd (cc)
 rest_same a b false q xs ys h g e = absurd (cc)
 
-and_true : (p q : Bool) → p ≡ true → q ≡ true → (p && q) ≡ true
-and_true true true h g = refl
-and_true true false h g = absurd (cc)
-and_true false q h g = absurd (cc)
-
 module _ (rows others : Rows) (caller : Caller) where
   -- the same is seen along names from a row
   abbrev pub Sees : Option ℕ → List (List ℕ) → Type 0
@@ -149,8 +145,8 @@ module _ (rows others : Rows) (caller : Caller) where
       → Step at name names
   sees_step at name names e d s =
       let here = sees_first at (name ∷ names) e in
-      let rest = seen_rest at name names e (and_true _ _ d s)
-      (and_true _ _ (sym (directory_alike rows others at here) ∙ d) (sym (grants_alike rows others caller bits.Search at here) ∙ s)) in
+      let rest = seen_rest at name names e (and_from _ _ d s)
+      (and_from _ _ (sym (directory_alike rows others at here) ∙ d) (sym (grants_alike rows others caller bits.Search at here) ∙ s)) in
       let same = same_child rows others at name (seen_first (child rows at name) (child others at name) names rest) in
       record { leads = same; sees = subst (λ o. sights rows caller (child rows at name) names ≡ sights others caller o names) (sym same) rest }
 

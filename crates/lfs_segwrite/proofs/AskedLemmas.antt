@@ -12,6 +12,7 @@ use Rattle.lfs_types.specs.declared.attrs.Kind.{Kind}
 use Rattle.lfs_types.specs.declared.attrs.Kind.TheVariants.{File as Regular, Directory}
 use Rattle.lfs_types.proofs.Maps.{get-insert_other, get-insert_same}
 use Rattle.lfs_types.specs.declared.limits.TheConstants.{FILE_BYTES}
+use Rattle.lfs_types.proofs.Contents.{length_limit}
 use Rattle.lfs_ifile.specs.Tables.{row_of}
 use Rattle.lfs_inodes.specs.Facts.{IsSizeOf}
 use Rattle.lfs_inodes.specs.Reading.{Fields}
@@ -30,10 +31,6 @@ use Rattle.lfs_staging.proofs.KeyLemmas.{lies_in}
 use Rattle.lfs_staging.proofs.ForgettingLemmas.{used_low}
 
 -- ---- which numbers are in use
-pub some_from : (o : Option File) (P : File → Type 0) → IsSomeAnd o P → IsSome o
-some_from None P h = absurd h
-some_from (Some f) P h = refl
-
 pub some_at : (o : Option File) (P : File → Type 0) (f : File) → o ≡ Some f → IsSomeAnd o P → P f
 some_at o P f is h = subst (λ x. IsSomeAnd x P) is h
 
@@ -124,15 +121,7 @@ pub kind_same : (p : Parts) (n : ℕ) (k : Kind) → IsSomeAnd (map.get (content
 kind_same p n k can f is = sym (some_at _ (λ f. f.kind ≡ k) _ (content_file p n f is) can)
 
 -- ---- how far changes reach
-limit_of : (k : Kind) (n : ℕ) → IsLength k n → n ≤ FILE_BYTES
-limit_of Regular n h = h
-limit_of Directory n h = h.0
-
-pub length_limit : (o : Option File) (len : ℕ) → IsSomeAnd o (λ f. IsLength f.kind len) → len ≤ FILE_BYTES
-length_limit None len h = absurd h
-length_limit (Some f) len h = limit_of f.kind len h
-
 pub put_limit : (o : Option File) (start : ℕ) (bytes : List ℕ) → IsSomeAnd o (λ f. IsLength f.kind (length (splice f.bytes start bytes))) → 0 < length bytes
     → start + length bytes ≤ FILE_BYTES
 put_limit None start bytes h some = absurd h
-put_limit (Some f) start bytes h some = let long = splice_length f.bytes start bytes some in let most = limit_of f.kind _ h in omega arith
+put_limit (Some f) start bytes h some = let long = splice_length f.bytes start bytes some in let most = length_limit f.kind _ h in omega arith

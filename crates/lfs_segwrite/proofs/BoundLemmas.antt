@@ -8,10 +8,11 @@ use Rattle.lfs_types.specs.Tree.{Content}
 use Rattle.lfs_types.specs.declared.limits.TheConstants.{FILE_BLOCKS, FILE_BYTES}
 use Rattle.lfs_types.specs.declared.store.Change.{Change}
 use Rattle.lfs_types.specs.declared.store.Change.TheVariants.{Make, Remove, SetAttrs, Put, SetLength}
+use Rattle.lfs_types.proofs.Contents.{length_of_file}
 use Rattle.lfs_segwrite.specs.Applying.{IsInReach, blocks_for, frames_of_all, needs_of, peak_of, peak_of_all, records_of_all}
 use Rattle.lfs_staging.specs.Changing.{frames_of, frames_of_length, length_table, records_of}
 use Rattle.lfs_segwrite.specs.Collecting.{inode_blocks}
-use Rattle.lfs_segwrite.proofs.AskedLemmas.{length_limit, put_limit}
+use Rattle.lfs_segwrite.proofs.AskedLemmas.{put_limit}
 use Rattle.lfs_staging.specs.Putting.{frames_of_put}
 use Rattle.lfs_inodes.specs.Facts.{block_count}
 use Rattle.lfs_bmap.specs.declared.blocks.FileBlock.TheVariants.{Data}
@@ -31,7 +32,7 @@ in_reach numbers (Make ino attrs) c few can = tt
 in_reach numbers (Remove ino) c few can = tt
 in_reach numbers (SetAttrs ino attrs) c few can = tt
 in_reach numbers (Put ino off bytes) c few can = (omega arith, put_limit (map.get c ino) off bytes.now can)
-in_reach numbers (SetLength ino len) c few can = length_limit (map.get c ino) len can
+in_reach numbers (SetLength ino len) c few can = length_of_file (map.get c ino) len can
 
 one_put : (change : Change) (changes : List Change) → put_bytes (change ∷ changes) ≡ put_bytes (change ∷ []) + put_bytes changes
 one_put (Make ino attrs) changes = omega arith

@@ -1,5 +1,5 @@
 -- A block that waits lands: what that makes of each file, and of the log.
-use Rattle.std.proofs.Common.{◌≡◌, ◌≢◌, ℕ, ◌+◌, ◌-◌, ◌*◌, ◌/◌, ◌<◌, ◌≤◌, ◌⊎◌, List, [], ◌∷◌, length, None, Some, IsSome, false, refl, sym, ap, ◌∙◌, subst, inl, inr, arith}
+use Rattle.std.proofs.Common.{◌≡◌, ◌≢◌, ℕ, ◌+◌, ◌-◌, ◌*◌, ◌/◌, ◌<◌, ◌≤◌, ◌⊎◌, List, [], ◌∷◌, length, None, Some, IsSome, false, sym, ap, ◌∙◌, subst, inl, inr, arith}
 use Rattle.std.specs.Prelude.{slice_set}
 use Rattle.std.proofs.lemmas.Bool.{cases_eq, cases_lt, cond-true, cond-false, eq-eqb, ne_eqb, lt-ltb, le-ltb}
 use Rattle.lfs_types.specs.declared.limits.TheConstants.{FILE_BLOCKS}
@@ -11,31 +11,30 @@ use Rattle.lfs_segments.specs.Memory.{SegmentMemory, block_at, next_address}
 use Rattle.lfs_cache.specs.declared.key.Key.{Key}
 use Rattle.lfs_cache.specs.Contents.{Contents, block_in}
 use Rattle.lfs_cache.specs.Keys.{same_key}
-use Rattle.lfs_log.specs.Parts.{LogParts, live_of}
+use Rattle.lfs_log.specs.Parts.{live_of}
 use Rattle.lfs_log.specs.Parts as log
 use Rattle.lfs_log.proofs.NameLemmas.{named_at-block}
 use Rattle.lfs_bmap.specs.declared.blocks.TheConstants.{BLOCK_CODES}
 use Rattle.lfs_bmap.specs.declared.blocks.FileBlock.{FileBlock}
 use Rattle.lfs_bmap.specs.Blocks.{IsFileBlock, code_of, logical_of, way_to}
 use Rattle.lfs_bmap.specs.Counting.{placed, units}
-use Rattle.lfs_bmap.specs.Log.{Assigns, IsLog, LogState, MayTake}
+use Rattle.lfs_bmap.specs.Log.{Assigns, IsLog, LogState}
 use Rattle.lfs_bmap.specs.Reading.{Lands, SameReadings, address, data_block, read, table}
 use Rattle.lfs_bmap.specs.Ways.{IsBlockWay, code_at, data_way, way_of}
 use Rattle.lfs_bmap.proofs.BlockLemmas.{code_of-below}
-use Rattle.lfs_bmap.proofs.CountingLemmas.{placed-cases}
-use Rattle.lfs_bmap.proofs.LogLemmas.{taken_log, written_log}
+use Rattle.lfs_bmap.proofs.LogLemmas.{taken_log, written_log, MayTake}
 use Rattle.lfs_bmap.proofs.ReadingLemmas.{kept_blocks, landed_address, landed_addresses, landed_data, read-waits}
-use Rattle.lfs_bmap.proofs.WayLemmas.{known_way_of, same_code, up_known, way_of-code_of, way_of-data, way_of-known}
+use Rattle.lfs_bmap.proofs.WayLemmas.{way_of-data, way_of-known}
 use Rattle.lfs_staging.specs.declared.parts.Parts.{Parts}
 use Rattle.lfs_staging.specs.Keys.{log_state}
 use Rattle.lfs_staging.specs.Addressing.{IsWaiting, Sets}
 use Rattle.lfs_segwrite.specs.Landing.{AppendsBlock}
-use Rattle.lfs_staging.specs.View.{key_of, record_of, root_in, tree_of, version_of, waiting_in}
-use Rattle.lfs_staging.proofs.KeyLemmas.{place-block, place-record}
-use Rattle.lfs_staging.proofs.TableLemmas.{apart_code, apart_number, longer, room_at, same_place, table_same}
-use Rattle.lfs_staging.proofs.ViewLemmas.{record_like}
+use Rattle.lfs_staging.specs.View.{key_of, record_of, root_in, tree_of, version_of}
+use Rattle.lfs_staging.proofs.TableLemmas.{apart_code, longer, room_at, table_same}
 use Rattle.lfs_staging.proofs.ViewLemmas.{code_at-way_to}
 use Rattle.lfs_staging.specs.Store.{HolderWaits}
+use Rattle.lfs_staging.proofs.UnstagedLemmas as unstaged
+use Rattle.lfs_staging.proofs.UnstagedLemmas.{Readdresses, Unstages, above_known, code_apart, known, parent_set, record_here, waits_none, waits_other, waits_rest, way_here}
 
 -- The steps of a landing: the block is put, its address is set, its live bytes move, and it waits no more.
 pub record Steps (p r s q : Parts) (v : Inode) (block : FileBlock) (a i : ℕ) (up : List ℕ) : Type 0 where
@@ -56,20 +55,14 @@ pub record Steps (p r s q : Parts) (v : Inode) (block : FileBlock) (a i : ℕ) (
       → block_in key q.cache.lru ≡ Some bytes → block_in key s.cache.lru ≡ Some bytes
   pub own : (bytes : List ℕ) → block_in (key_of v.number v.version (code_of block)) q.cache.lru ≡ Some bytes → bytes ≡ read (tree_of p v.number) (i ∷ up)
 
--- a block has another code than what holds its address
-code_over : (block : FileBlock) (i : ℕ) (up : List ℕ) → IsFileBlock block → way_to block ≡ i ∷ up → code_of block ≢ code_at up
-code_over block i up can way e =
-    let here : way_of (code_of block) ≡ i ∷ up = way_of-code_of block can ∙ way in
-    let known : IsBlockWay (i ∷ up) = subst IsBlockWay here (way_of-known (code_of block) (code_of-below block can)) in
-    longer i up (sym (known_way_of up (up_known i up known)) ∙ ap way_of (sym e) ∙ here)
-
 -- what waits for a block does still when it was put and its address was set
 pub waits_set : (p r s : Parts) (v : Inode) (block : FileBlock) (a i : ℕ) (up bytes : List ℕ) → IsFileBlock block → way_to block ≡ i ∷ up
     → AppendsBlock p r a bytes → Sets r s v i up a
     → block_in (key_of v.number v.version (code_of block)) s.cache.locked ≡ block_in (key_of v.number v.version (code_of block)) p.cache.locked
 waits_set p r s v block a i up bytes can way put set =
     let key = key_of v.number v.version (code_of block) in
-    set.waits key (apart_code v.number v.number v.version v.version (code_at up) (code_of block) (code_over block i up can way))
+    set.waits key (apart_code v.number v.number v.version v.version (code_at up) (code_of block)
+    (λ e. code_apart block i up can way up (above_known block i up can way) (longer i up) (sym e)))
     ∙ ap (λ (c : Contents). block_in key c.locked) put.cache
 
 -- a block that waits is what it reads as
@@ -88,40 +81,35 @@ module _ (p r s q : Parts) (v : Inode) (block : FileBlock) (a i : ℕ) (up : Lis
   pub version_same : (m : ℕ) → version_of q m ≡ version_of p m
   version_same m = ap (λ (rs : List InodeRow). (row_at rs m).version) rows_all
 
-  -- the codes of the block and of what holds its address
-  code_here : code_at (i ∷ up) ≡ code_of block
-  code_here = ap code_at (sym h.way) ∙ code_at-way_to block
+  -- the address is set when the block was put
+  unstages : Unstages r s q v block a i up
+  unstages = record {
+    can = h.can;
+    way = h.way;
+    at_version = h.is.at_version ∙ sym (ap (λ (t : Tables). (row_of t v.number).version) h.put.tables);
+    set = h.set;
+    memory = h.memory;
+    rows = h.rows;
+    waiting = h.waiting;
+    gone = h.gone;
+    kept = h.kept;
+  }
 
-  pub way_here : way_of (code_of block) ≡ i ∷ up
-  way_here = way_of-code_of block h.can ∙ h.way
-
-  pub known : IsBlockWay (i ∷ up)
-  known = subst IsBlockWay way_here (way_of-known (code_of block) (code_of-below block h.can))
-
-  above_known : IsBlockWay up
-  above_known = up_known i up known
-
-  code_apart : (way : List ℕ) → IsBlockWay way → way ≢ i ∷ up → code_at way ≢ code_of block
-  code_apart way there ne e = ne (sym (known_way_of way there) ∙ ap way_of e ∙ way_here)
-
-  code_above : (way : List ℕ) → IsBlockWay way → way ≢ up → code_at way ≢ code_at up
-  code_above way there ne e = ne (sym (known_way_of way there) ∙ ap way_of e ∙ known_way_of up above_known)
-
-  -- records
-  record_after : (m : ℕ) → record_of q m ≡ record_of s m
-  record_after m =
-      record_like s q m (h.memory ∙ ap (λ (l : LogParts). l.memory) (sym h.set.log)) (h.rows ∙ ap (λ (l : LogParts). l.tables.rows) (sym h.set.log)) (ap (λ items. waiting_in items m) h.waiting)
+  known_way : IsBlockWay (i ∷ up)
+  known_way = known block i up h.can h.way
 
   pub record_other : (m : ℕ) → m ≢ v.number → record_of q m ≡ record_of p m
-  record_other m other = record_after m ∙ h.set.records m other ∙ h.put.records m
+  record_other m other = unstaged.record_other r s q v block a i up unstages m other ∙ h.put.records m
 
   -- what waits
   pub waits_key : (key : Key) → same_key (key_of v.number v.version (code_of block)) key ≡ false → same_key (key_of v.number v.version (code_at up)) key ≡ false
       → block_in key q.cache.locked ≡ block_in key p.cache.locked
-  waits_key key apart above = h.kept key apart ∙ h.set.waits key above ∙ ap (λ (c : Contents). block_in key c.locked) h.put.cache
+  waits_key key apart above = unstaged.waits_key r s q v block a i up unstages key apart above ∙ ap (λ (c : Contents). block_in key c.locked) h.put.cache
 
-  waits_version : (m : ℕ) (way : List ℕ) → (tree_of q m).waits way ≡ block_in (key_of m (version_of p m) (code_at way)) q.cache.locked
-  waits_version m way = ap (λ n. block_in (key_of m n (code_at way)) q.cache.locked) (version_same m)
+  waits_put : (m : ℕ) (way : List ℕ) → (tree_of r m).waits way ≡ (tree_of p m).waits way
+  waits_put m way =
+      ap (λ (t : Tables). block_in (key_of m (row_of t m).version (code_at way)) r.cache.locked) h.put.tables
+      ∙ ap (λ (c : Contents). block_in (key_of m (version_of p m) (code_at way)) c.locked) h.put.cache
 
   pub block_other : (b : ℕ) → b ≢ a → block_at q.log.memory b ≡ block_at p.log.memory b
   block_other b other = ap (λ (m : SegmentMemory). block_at m b) h.memory ∙ h.put.blocks b other
@@ -130,56 +118,23 @@ module _ (p r s q : Parts) (v : Inode) (block : FileBlock) (a i : ℕ) (up : Lis
   pub others_same : (m : ℕ) → m < length p.log.tables.rows → m ≢ v.number → SameReadings (tree_of p m) (tree_of q m)
   others_same m inside other =
       kept_blocks (tree_of p m) (tree_of q m) (ap root_in (record_other m other))
-      (λ way there. waits_version m way ∙ waits_key (key_of m (version_of p m) (code_at way))
-      (apart_number v.number m v.version (version_of p m) (code_of block) (code_at way) other)
-      (apart_number v.number m v.version (version_of p m) (code_at up) (code_at way) other))
+      (λ way there. waits_other r s q v block a i up unstages m way other ∙ waits_put m way)
       (λ way there some. block_other (address (tree_of p m) way) (h.put.unread m inside way there))
-
-  -- what holds the address waits before and after
-  parent_waits : up ≢ [] → IsSome ((tree_of s v.number).waits up)
-  parent_waits some = still up some h.set.still
-    where
-      still : (up : List ℕ) → up ≢ [] → HolderWaits s.cache v.number v.version up → IsSome ((tree_of s v.number).waits up)
-      still [] some waits = absurd (some refl)
-      still (j ∷ above) some waits = subst (λ n. IsSome (block_in (key_of v.number n (code_at (j ∷ above))) s.cache.locked)) at_version waits
-        where
-          at_version : v.version ≡ version_of s v.number
-          at_version = h.is.at_version ∙ sym (ap (λ (t : Tables). (row_of t v.number).version) h.put.tables) ∙ sym (ap (λ (l : LogParts). (row_of l.tables v.number).version) h.set.log)
-
-  table_after : table (tree_of q v.number) up ≡ table (tree_of s v.number) up
-  table_after =
-      table_same (tree_of s v.number) (tree_of q v.number) up (ap root_in (record_after v.number))
-      (λ some. (waits_after, parent_waits some))
-    where
-      version_after : version_of q v.number ≡ version_of s v.number
-      version_after = ap (λ (rs : List InodeRow). (row_at rs v.number).version) (h.rows ∙ ap (λ (l : LogParts). l.tables.rows) (sym h.set.log))
-
-      waits_after : (tree_of q v.number).waits up ≡ (tree_of s v.number).waits up
-      waits_after = ap (λ n. block_in (key_of v.number n (code_at up)) q.cache.locked) version_after
-          ∙ h.kept (key_of v.number (version_of s v.number) (code_at up))
-          (apart_code v.number v.number v.version (version_of s v.number) (code_of block) (code_at up) (code_apart up above_known (longer i up)))
 
   table_before : (up ≢ [] → IsSome ((tree_of p v.number).waits up)) → table (tree_of r v.number) up ≡ table (tree_of p v.number) up
   table_before waited =
       table_same (tree_of p v.number) (tree_of r v.number) up (ap root_in (h.put.records v.number))
-      (λ some. (
-        ap (λ (t : Tables). block_in (key_of v.number (row_of t v.number).version (code_at up)) r.cache.locked) h.put.tables
-            ∙ ap (λ (c : Contents). block_in (key_of v.number (version_of p v.number) (code_at up)) c.locked) h.put.cache,
-        waited some,
-      ))
+      (λ some. (waits_put v.number up, waited some))
 
   -- the file of the number lands
   pub lands : (up ≢ [] → IsSome ((tree_of p v.number).waits up)) → Lands (tree_of p v.number) (tree_of q v.number) i up a
   lands waited = record {
     somewhere = h.put.somewhere;
     room = room_at p v block h.is h.can h.other i up h.way;
-    parent = table_after ∙ h.set.parent ∙ ap (λ ys. slice_set ys i a) (table_before waited);
-    root = λ some. ap root_in (record_after v.number ∙ h.set.root some ∙ h.put.records v.number);
-    settled = waits_version v.number (i ∷ up) ∙ ap (λ c. block_in (key_of v.number (version_of p v.number) c) q.cache.locked) code_here
-        ∙ ap (λ n. block_in (key_of v.number n (code_of block)) q.cache.locked) (sym h.is.at_version) ∙ h.gone;
-    waits = λ way there ne far. waits_version v.number way ∙ waits_key (key_of v.number (version_of p v.number) (code_at way))
-        (apart_code v.number v.number v.version (version_of p v.number) (code_of block) (code_at way) (code_apart way there ne))
-        (apart_code v.number v.number v.version (version_of p v.number) (code_at up) (code_at way) (code_above way there far));
+    parent = parent_set r s q v block a i up unstages ∙ ap (λ ys. slice_set ys i a) (table_before waited);
+    root = λ some. ap root_in (record_here r s q v block a i up unstages some ∙ h.put.records v.number);
+    settled = waits_none r s q v block a i up unstages;
+    waits = λ way there ne far. waits_rest r s q v block a i up unstages way there ne far ∙ waits_put v.number way;
     written = ap (λ (m : SegmentMemory). block_at m a) h.memory ∙ h.put.written;
     blocks = λ b other. block_other b other;
   }
@@ -197,7 +152,7 @@ module _ (p r s q : Parts) (v : Inode) (block : FileBlock) (a i : ℕ) (up : Lis
       reads below =
           elim (cases_eq m v.number) [
             | inl e ↦ ap (λ n. read (tree_of q n) (data_way k)) e ∙ ap (read (tree_of q v.number)) (sym (way_of-data k))
-                ∙ landed_data (tree_of p v.number) (tree_of q v.number) i up a known (lands waited) (h.put.unread v.number h.low) (131 + k) (omega arith) (omega arith)
+                ∙ landed_data (tree_of p v.number) (tree_of q v.number) i up a known_way (lands waited) (h.put.unread v.number h.low) (131 + k) (omega arith) (omega arith)
                 ∙ ap (read (tree_of p v.number)) (way_of-data k) ∙ ap (λ n. read (tree_of p n) (data_way k)) (sym e)
             | inr ne ↦ (others_same m inside ne).bytes (data_way k) (subst IsBlockWay (way_of-data k) (way_of-known (131 + k) (omega arith)))
           ]
@@ -205,34 +160,25 @@ module _ (p r s q : Parts) (v : Inode) (block : FileBlock) (a i : ℕ) (up : Lis
   -- the places of the keys
   module _ (waited : up ≢ [] → IsSome ((tree_of p v.number).waits up)) where
     pub address_here : address (tree_of q v.number) (way_of (code_of block)) ≡ a
-    address_here = ap (address (tree_of q v.number)) way_here ∙ landed_address (tree_of p v.number) (tree_of q v.number) i up a known (lands waited) (h.put.unread v.number h.low)
+    address_here = ap (address (tree_of q v.number)) (way_here block i up h.can h.way)
+        ∙ landed_address (tree_of p v.number) (tree_of q v.number) i up a known_way (lands waited) (h.put.unread v.number h.low)
+
+    readdresses : Readdresses (λ m. m < length p.log.tables.rows) p q v block a
+    readdresses = record {
+      other = h.other;
+      rows = rows_all;
+      here = address_here;
+      rest = λ way there ne. landed_addresses (tree_of p v.number) (tree_of q v.number) i up a known_way (lands waited) (h.put.unread v.number h.low) way there
+          (λ e. ne (e ∙ sym (way_here block i up h.can h.way)));
+      others = others_same;
+    }
 
     pub address_same : (m d : ℕ) → m < length p.log.tables.rows → d < BLOCK_CODES → (m ≢ v.number) ⊎ (d ≢ code_of block)
         → address (tree_of q m) (way_of d) ≡ address (tree_of p m) (way_of d)
-    address_same m d inside below apart =
-        elim (cases_eq m v.number) [
-          | inl e ↦
-              let other : d ≢ code_of block = elim apart [ inl ne ↦ absurd (ne e) | inr ne ↦ ne ] in
-              ap (λ n. address (tree_of q n) (way_of d)) e
-              ∙ landed_addresses (tree_of p v.number) (tree_of q v.number) i up a known (lands waited) (h.put.unread v.number h.low) (way_of d) (way_of-known d below)
-              (λ same. other (same_code d (code_of block) (same ∙ sym way_here)))
-              ∙ ap (λ n. address (tree_of p n) (way_of d)) (sym e)
-          | inr ne ↦ (others_same m inside ne).addresses (way_of d) (way_of-known d below)
-        ]
-
-    place_kept : (m d : ℕ) → m < length p.log.tables.rows → d < BLOCK_CODES → (m ≢ v.number) ⊎ (d ≢ code_of block) → (log_state q).at m d ≡ (log_state p).at m d
-    place_kept m d inside below apart =
-        elim (cases_eq d 0) [
-          | inl none ↦ ap ((log_state q).at m) none ∙ place-record q m ∙ same_place p.log.tables q.log.tables m rows_all ∙ sym (place-record p m) ∙ ap ((log_state p).at m) (sym none)
-          | inr some ↦ place-block q m d some ∙ ap (λ n. 4 * n) (address_same m d inside below apart) ∙ sym (place-block p m d some)
-        ]
+    address_same = unstaged.address_same (λ m. m < length p.log.tables.rows) p q v block a readdresses
 
     pub place_after : (m d : ℕ) → m < length p.log.tables.rows → d < BLOCK_CODES → (log_state q).at m d ≡ placed (log_state p).at v.number (code_of block) (4 * a) m d
-    place_after m d inside below =
-        elim (placed-cases (log_state p).at v.number (code_of block) (4 * a) m d) [
-          | inl e ↦ ap (λ n. (log_state q).at n d) e.0 ∙ ap ((log_state q).at v.number) e.1 ∙ place-block q v.number (code_of block) h.other ∙ ap (λ n. 4 * n) address_here ∙ sym e.2
-          | inr e ↦ place_kept m d inside below e.0 ∙ sym e.1
-        ]
+    place_after = unstaged.place_after (λ m. m < length p.log.tables.rows) p q v block a readdresses
 
 -- ---- live bytes
 units_most : (code : ℕ) → 128 * units code ≤ 512

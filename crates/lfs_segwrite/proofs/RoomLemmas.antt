@@ -3,7 +3,7 @@ use Rattle.std.proofs.Common.{◌≡◌, ◌≢◌, ℕ, zero, suc, ◌+◌, ◌
 use Rattle.std.specs.Prelude.{slice_index, true}
 use Rattle.std.proofs.lemmas.Bool.{cases_Bool, cases_eq, cases_lt, cond-true, cond-false}
 use Rattle.std.proofs.lemmas.List.{get_or_past}
-use Rattle.lfs_types.specs.Tree.{File, file_of}
+use Rattle.lfs_types.specs.Tree.{File, file_of, content_with}
 use Rattle.lfs_inodes.specs.Attributes.{stat_of}
 use Rattle.lfs_ifile.specs.declared.inode.InodeRow.{InodeRow}
 use Rattle.lfs_ifile.specs.declared.segment.SegState.TheVariants.{Clean}
@@ -28,7 +28,7 @@ use Rattle.lfs_bmap.proofs.ReadingLemmas.{SameReadings-refl, address-root, kept_
 use Rattle.lfs_bmap.proofs.SegmentLemmas.{opened_log}
 use Rattle.lfs_bmap.proofs.WayLemmas.{known_way_of, way_of-known, way_of-zero}
 use Rattle.lfs_staging.specs.declared.parts.Parts.{Parts}
-use Rattle.lfs_staging.specs.Files.{content_below, content_of, file_at, file_with, with_file}
+use Rattle.lfs_staging.specs.Files.{content_below, content_of, file_at, file_with}
 use Rattle.lfs_staging.specs.Keys.{log_state}
 use Rattle.lfs_segwrite.specs.Room.{KeepsFiles, OpensSegment}
 use Rattle.lfs_staging.specs.Store.{AreFiles, IsFile, IsStore}
@@ -46,7 +46,7 @@ below_same : (old new : ℕ → Option File) → ((n : ℕ) → new n ≡ old n)
 unfolding content_below
 below_same old new same zero = refl
 below_same old new same (suc n) =
-    ap (λ f. with_file n f (content_below new n)) (same n) ∙ ap (with_file n (old n)) (below_same old new same n)
+    ap (λ f. content_with n f (content_below new n)) (same n) ∙ ap (content_with n (old n)) (below_same old new same n)
 
 module _ (old new : Parts) (records : (n : ℕ) → record_of new n ≡ record_of old n) (readings : (n : ℕ) → SameReadings (tree_of old n) (tree_of new n)) where
   pub blocks_alike : (n : ℕ) → data_block (tree_of new n) ≡ data_block (tree_of old n)

@@ -19,9 +19,9 @@ use Rattle.lfs_bmap.specs.declared.blocks.TheConstants.{BLOCK_CODES}
 use Rattle.lfs_bmap.specs.Counting.{placed, units}
 use Rattle.lfs_bmap.specs.Reading as ways
 use Rattle.lfs_bmap.specs.Ways.{code_at}
-use Rattle.lfs_bmap.specs.Log.{Assigns, IsLog, MayTake}
+use Rattle.lfs_bmap.specs.Log.{Assigns, IsLog}
 use Rattle.lfs_bmap.proofs.CountingLemmas.{placed-code, placed-here, placed-number}
-use Rattle.lfs_bmap.proofs.LogLemmas.{taken_log}
+use Rattle.lfs_bmap.proofs.LogLemmas.{taken_log, MayTake}
 use Rattle.lfs_bmap.proofs.ReadingLemmas.{kept_blocks}
 use Rattle.lfs_staging.specs.declared.parts.Parts.{Parts}
 use Rattle.lfs_segwrite.specs.Flushing.{Waits}

@@ -1,5 +1,5 @@
 -- What the parts contain at a number, and what a file shows.
-use Rattle.std.proofs.Common.{◌≡◌, ◌≢◌, ℕ, zero, suc, ◌<◌, ◌≤◌, [], length, Option, None, Some, option_map, is_some, IsSome, true, false, refl, sym, ap, ◌∙◌, inl, inr, arith}
+use Rattle.std.proofs.Common.{◌≡◌, ℕ, zero, suc, ◌<◌, ◌≤◌, [], length, Option, None, Some, option_map, is_some, IsSome, true, false, refl, sym, ap, ◌∙◌, inl, inr, arith}
 use Rattle.std.specs.Ordering.{nat_cmp}
 use Rattle.std.specs.FinMap as map
 use Rattle.std.specs.FinMap.{get-empty}
@@ -7,9 +7,9 @@ use Rattle.std.specs.Prelude.{IfSome, IfNone}
 use Rattle.std.proofs.lemmas.Bool.{cases_Bool, cases_lt, cond-false}
 use Rattle.std.proofs.lemmas.Option.{none-some}
 use Rattle.std.proofs.lemmas.List.{get_or_past}
-use Rattle.lfs_types.specs.Tree.{File, Content, attrs_of}
+use Rattle.lfs_types.specs.Tree.{File, attrs_of}
 use Rattle.lfs_types.specs.Stored.{IsLeastFree, shown_attrs, bytes_of, bytes_of_file}
-use Rattle.lfs_types.proofs.Maps.{get-insert_same, get-insert_other}
+use Rattle.lfs_types.proofs.Contents.{get-content_with, get-content_with_apart}
 use Rattle.lfs_ifile.specs.Inode.{fresh_row, place_in}
 use Rattle.lfs_ifile.specs.Tables.{place_of, row_of}
 use Rattle.lfs_ifile.specs.Tables as tables
@@ -21,35 +21,27 @@ use Rattle.lfs_bmap.specs.Pieces.{file_bytes}
 use Rattle.lfs_bmap.specs.Reading.{Tree, data_block}
 use Rattle.lfs_bmap.proofs.PieceLemmas.{file_bytes-length}
 use Rattle.lfs_staging.specs.declared.parts.Parts.{Parts}
-use Rattle.lfs_staging.specs.Files.{file_with, file_at, with_file, content_below, content_of}
+use Rattle.lfs_staging.specs.Files.{file_with, file_at, content_below, content_of}
 use Rattle.lfs_staging.specs.Store.{AreFiles, IsFile}
 use Rattle.lfs_staging.specs.View.{record_of, tree_from, tree_of, tree_with, root_in, version_of}
 use Rattle.lfs_staging.proofs.ViewLemmas.{record_of-unused}
 
 -- ---- the content at a number
-get-with_file : (k : ℕ) (o : Option File) (c : Content) → map.get c k ≡ None → map.get (with_file k o c) k ≡ o
-get-with_file k None c none = none
-get-with_file k (Some f) c none = get-insert_same c k f
-
-get-with_file_apart : (k q : ℕ) (o : Option File) (c : Content) → q ≢ k → map.get (with_file k o c) q ≡ map.get c q
-get-with_file_apart k q None c apart = refl
-get-with_file_apart k q (Some f) c apart = get-insert_other c k f q apart
-
 get_past : (files : ℕ → Option File) (n q : ℕ) → n ≤ q → map.get (content_below files n) q ≡ None
 unfolding content_below
 get_past files zero q h = get-empty nat_cmp q
 get_past files (suc n) q h =
-    get-with_file_apart n q (files n) (content_below files n) (λ e. omega arith) ∙ get_past files n q (omega arith)
+    get-content_with_apart n q (files n) (content_below files n) (λ e. omega arith) ∙ get_past files n q (omega arith)
 
 get_before : (files : ℕ → Option File) (n q : ℕ) → q < n → map.get (content_below files n) q ≡ files q
 unfolding content_below
 get_before files zero q h = absurd (omega arith)
 get_before files (suc n) q h =
     elim (cases_lt q n) [
-      | inl inside ↦ get-with_file_apart n q (files n) (content_below files n) (λ e. omega arith) ∙ get_before files n q inside
+      | inl inside ↦ get-content_with_apart n q (files n) (content_below files n) (λ e. omega arith) ∙ get_before files n q inside
       | inr past ↦
           let last : q ≡ n = omega arith in
-          rw last (get-with_file n (files n) (content_below files n) (get_past files n n (omega arith)))
+          rw last (get-content_with n (files n) (content_below files n) (get_past files n n (omega arith)))
     ]
 
 -- the file of a number, by its record

@@ -26,7 +26,7 @@ use Rattle.lfs_bmap.specs.Reading.{address, data_block}
 use Rattle.lfs_bmap.proofs.PieceLemmas.{put_splice}
 use Rattle.lfs_staging.specs.declared.parts.Parts.{Parts}
 use Rattle.lfs_staging.specs.Files.{content_of, file_at, file_with}
-use Rattle.lfs_staging.specs.Putting.{ChangesRecord, GrowsTo, MayChange, PutsBytes, with_attrs, with_put}
+use Rattle.lfs_staging.specs.Putting.{GrowsTo, MayChange, PutsBytes, with_attrs, with_put}
 use Rattle.lfs_staging.specs.Staging.{IsStaged, MayStage, StagesRecord}
 use Rattle.lfs_staging.specs.Store.{AreFiles, IsFile, IsPresent, IsWithin}
 use Rattle.lfs_staging.specs.View.{LiesIn, blocks_of, key_of, record_of, root_in, tree_of, version_of}
@@ -38,6 +38,17 @@ use Rattle.lfs_staging.proofs.KeptLemmas.{AllWithin, few_records, log_kept, may_
 use Rattle.lfs_staging.proofs.StagingLemmas.{version-same}
 use Rattle.lfs_staging.proofs.WaitingLemmas.{length-rest, length-without}
 use Rattle.lfs_staging.proofs.SettingLemmas.{present_kept}
+
+-- The record of a file waits with other attributes, and the file's blocks stay. Nothing else changed.
+pub record ChangesRecord (v w : Inode) (old new : Parts) : Type 0 where
+  pub log : new.log ≡ old.log
+  pub cache : new.cache ≡ old.cache
+  pub here : record_of new v.number ≡ Some (fields_of w)
+  pub others : (n : ℕ) → n ≢ v.number → record_of new n ≡ record_of old n
+  pub blocks : (n : ℕ) → tree_of new n ≡ tree_of old n
+  pub again : MayStage new w
+  pub kept : (spare : ℕ) → IsStaged old spare → IsStaged new spare
+  pub room : without v.number new.waiting ≡ without v.number old.waiting
 
 -- a block that lies within a size lies within a greater one
 pub within_more : (block : FileBlock) (size other : ℕ) → size ≤ other → IsWithin block size → IsWithin block other

@@ -21,6 +21,7 @@ pub mod MakingLemmas
 pub mod GivingLemmas
 pub mod TakingLemmas
 pub mod TableLemmas
+pub mod UnstagedLemmas
 pub mod ClearedLemmas
 pub mod FrameLemmas
 pub mod ClearingLemmas

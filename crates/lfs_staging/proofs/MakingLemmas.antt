@@ -1,6 +1,6 @@
 -- What stays where one number is given out or taken back.
 use Rattle.std.proofs.Common.{false, ◌≡◌, ◌≢◌, ℕ, ◌+◌, ◌*◌, ◌<◌, ◌≤◌, List, All, length, None, Some, IsSome, is_some, option_and_then, option_map, true, refl, sym, ap, ◌∙◌, subst, inl, inr, arith}
-use Rattle.std.specs.Prelude.{if◌then◌else◌, ◌==◌}
+use Rattle.std.specs.Prelude.{if◌then◌else◌, ◌==◌, slice_index}
 use Rattle.std.proofs.lemmas.Bool.{cases_eq}
 use Rattle.lfs_ifile.specs.declared.inode.InodePlace.{InodePlace}
 use Rattle.lfs_ifile.specs.declared.inode.InodeRow.{InodeRow}
@@ -27,7 +27,7 @@ use Rattle.lfs_staging.specs.declared.parts.Parts.{Parts}
 use Rattle.lfs_staging.specs.Changing.{StaysInLog}
 use Rattle.lfs_staging.specs.Files.{file_at, file_with}
 use Rattle.lfs_staging.specs.Keys.{log_state}
-use Rattle.lfs_staging.specs.Making.{HasNoBlock, KeepsOthers}
+use Rattle.lfs_staging.specs.Making.{KeepsOthers}
 use Rattle.lfs_staging.specs.Staging.{IsStaged}
 use Rattle.lfs_staging.specs.Store.{AreFiles, HolderWaits, IsFile, IsLogged, IsPresent, ParentsWait}
 use Rattle.lfs_staging.specs.View.{fields_at, key_of, record_of, root_in, tree_of, version_of, waiting_in, waiting_or}
@@ -36,6 +36,11 @@ use Rattle.lfs_staging.proofs.CleanLemmas.{logged_kept}
 use Rattle.lfs_staging.proofs.FileLemmas.{file_at-record}
 use Rattle.lfs_staging.proofs.KeyLemmas.{place-block, place-record, unplaced}
 use Rattle.lfs_staging.proofs.ViewLemmas.{not_locked, nowhere}
+
+-- A number has no block: none of it waits, and its record, if it has one, has no address.
+pub record HasNoBlock (p : Parts) (number : ℕ) : Type 0 where
+  pub no_frame : (key : Key) → IsLocked key p.cache → key.ino ≢ number
+  pub no_address : (i : ℕ) → slice_index (root_in (record_of p number)) i ≡ 0
 
 -- ---- the log, where only the way in which places are said changes
 pub log_at : (p : LogParts) (spare : ℕ) (was now : ℕ → ℕ → ℕ) → ((n c : ℕ) → n < length p.tables.rows → c < BLOCK_CODES → now n c ≡ was n c)

@@ -1,6 +1,6 @@
 -- A number that is given out to an empty file.
 use Rattle.std.proofs.Common.{◌≡◌, ◌≢◌, ℕ, ◌+◌, ◌/◌, ◌%◌, ◌<◌, ◌≤◌, List, [], ◌∷◌, All, length, Some, is_some, false, refl, sym, ap, ◌∙◌, subst, inl, inr, arith}
-use Rattle.std.specs.Prelude.{slice_index, if◌then◌else◌, ◌==◌}
+use Rattle.std.specs.Prelude.{slice_index, if◌then◌else◌, ◌==◌, replicate}
 use Rattle.std.specs.Cmp.{nat_cmp_total}
 use Rattle.std.specs.FinMap as map
 use Rattle.std.specs.FinMap.{same_map, nat_cmp-IsAntisymmetric}
@@ -15,15 +15,18 @@ use Rattle.lfs_types.specs.declared.limits.TheConstants.{FILE_BLOCKS, FIRST_INOD
 use Rattle.lfs_types.proofs.Maps.{get-insert_same, get-insert_other}
 use Rattle.lfs_ifile.specs.declared.inode.InodeRow.{InodeRow}
 use Rattle.lfs_ifile.specs.Inode.{fresh_row, given_row, raised_version}
-use Rattle.lfs_ifile.specs.Tables.{Tables, row_of}
+use Rattle.lfs_ifile.specs.Tables.{Tables, row_of, with_row}
 use Rattle.lfs_inodes.specs.declared.inode.Inode.{Inode}
-use Rattle.lfs_inodes.specs.Attributes.{Attributes, attributes_from, stat_of}
+use Rattle.lfs_inodes.specs.Attributes.{Attributes, attributes_from, stat_of, attributes}
 use Rattle.lfs_inodes.specs.Reading.{fields_of}
 use Rattle.lfs_inodes.proofs.FieldLemmas.{AreFields-fields_of}
 use Rattle.lfs_inodes.proofs.ZeroedLemmas.{slice_index-zeros}
+use Rattle.lfs_inodes.specs.Addresses.{addresses}
+use Rattle.lfs_inodes.specs.declared.inode.TheConstants.{ROOT_COUNT}
 use Rattle.lfs_cache.specs.declared.key.Key.{Key}
 use Rattle.lfs_cache.specs.Contents.{IsLocked}
 use Rattle.lfs_log.specs.Parts as log
+use Rattle.lfs_log.specs.Parts.{IsParts}
 use Rattle.lfs_bmap.specs.Log.{Renews}
 use Rattle.lfs_bmap.specs.Pieces.{IsPadded, file_bytes}
 use Rattle.lfs_bmap.specs.Reading.{data_block}
@@ -36,19 +39,31 @@ use Rattle.lfs_staging.specs.declared.records.TheConstants.{WAITING_LIMIT}
 use Rattle.lfs_staging.specs.Changing.{StaysInLog}
 use Rattle.lfs_staging.specs.Files.{content_of, file_at}
 use Rattle.lfs_staging.specs.Keys.{log_state}
-use Rattle.lfs_staging.specs.Making.{HasNoBlock, KeepsOthers, GivesOutFile}
+use Rattle.lfs_staging.specs.Making.{KeepsOthers}
 use Rattle.lfs_staging.specs.Staging.{IsStaged}
 use Rattle.lfs_staging.specs.Store.{AreFiles, IsFile, IsPresent}
 use Rattle.lfs_staging.specs.View.{record_of, root_in, tree_of, version_of, waiting_in}
 use Rattle.lfs_staging.specs.Waiting.{AreOnce, without}
 use Rattle.lfs_staging.proofs.FileLemmas.{file_at-some, free_place, get-content_of}
 use Rattle.lfs_staging.proofs.KeyLemmas.{unused_nowhere}
-use Rattle.lfs_staging.proofs.MakingLemmas.{all_nowhere, files_still, log_still, none_addressed, none_waits, other_file, other_present, other_version, staged_still, stays_in_log}
+use Rattle.lfs_staging.proofs.MakingLemmas.{all_nowhere, files_still, log_still, none_addressed, none_waits, other_file, other_present, other_version, staged_still, stays_in_log, HasNoBlock}
 use Rattle.lfs_staging.proofs.ReadLemmas.{data_block-read, no_bytes}
 use Rattle.lfs_staging.proofs.ViewLemmas.{all_zeros}
 use Rattle.lfs_staging.proofs.WaitingLemmas.{all_without, length-without, once_staged, waiting-staged}
 use Rattle.lfs_bmap.specs.Blocks.{way_to}
 use Rattle.lfs_segments.proofs.MemoryLemmas.{length-zero_block}
+
+-- A number that was free is given out at a version: an empty file's record waits for it, with these attributes.
+pub record GivesOutFile (number version : ℕ) (attrs : Attrs) (v : Inode) (old new : Parts) : Type 0 where
+  pub memory : new.log.memory ≡ old.log.memory
+  pub tables : new.log.tables ≡ with_row old.log.tables number (given_row version)
+  pub clean : new.log.clean ≡ old.log.clean
+  pub parts : IsParts new.log
+  pub cache : new.cache ≡ old.cache
+  pub waiting : new.waiting ≡ v ∷ without v.number old.waiting
+  pub here : record_of new v.number ≡ Some (fields_of v)
+  pub attributes : attributes v ≡ attributes_from number version attrs 0
+  pub addresses : addresses v ≡ replicate ROOT_COUNT 0
 
 module _ (number version : ℕ) (attrs : Attrs) (v : Inode) (old new : Parts) (h : GivesOutFile number version attrs v old new)
     (least : FIRST_INODE ≤ number) (low : number < length old.log.tables.rows) (free : (row_of old.log.tables number).used ≡ false) (files : AreFiles old) where

@@ -29,12 +29,12 @@ use Rattle.lfs_log.specs.Names.{record_in, record_key}
 use Rattle.lfs_log.specs.Parts.{IsParts, LogParts, live_of, record_place}
 use Rattle.lfs_log.proofs.NameLemmas.{named_at-record}
 use Rattle.lfs_bmap.specs.Counting.{placed, weight_of}
-use Rattle.lfs_bmap.specs.Log.{LogState, IsLog, IsEmptyLog, Assigns, MayTake}
+use Rattle.lfs_bmap.specs.Log.{LogState, IsLog, IsEmptyLog, Assigns}
 use Rattle.lfs_bmap.specs.Pieces.{IsPadded, file_bytes}
 use Rattle.lfs_bmap.specs.Reading.{address, data_block}
 use Rattle.lfs_bmap.specs.Ways.{code_at, data_way, way_of}
 use Rattle.lfs_bmap.proofs.CountingLemmas.{placed-cases, weight-none, weight-here, weight-elsewhere}
-use Rattle.lfs_bmap.proofs.LogLemmas.{taken_log}
+use Rattle.lfs_bmap.proofs.LogLemmas.{taken_log, MayTake}
 use Rattle.lfs_bmap.proofs.PieceLemmas.{zero_block-at}
 use Rattle.lfs_bmap.proofs.PlaceLemmas.{data_block-past}
 use Rattle.lfs_bmap.proofs.SegmentLemmas.{empty_log}

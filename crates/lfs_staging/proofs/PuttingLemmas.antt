@@ -1,6 +1,6 @@
 -- Bytes put into a file, block by block.
 use Rattle.std.proofs.Common.{◌≡◌, ℕ, zero, suc, ◌+◌, ◌*◌, ◌/◌, ◌%◌, ◌-◌, ◌<◌, ◌≤◌, List, [], ◌∷◌, ◌++◌, length, length-append, refl, sym, ap, ◌∙◌, subst, inl, inr, arith}
-use Rattle.std.specs.Prelude.{slice_index}
+use Rattle.std.specs.Prelude.{slice_index, ◌≢◌}
 use Rattle.std.specs.List.{Contains}
 use Rattle.std.proofs.lemmas.List.Elements.{Contains-append_left, Contains-append_right}
 use Rattle.std.proofs.lemmas.Bool.{cases_eq, cases_lt}
@@ -8,20 +8,37 @@ use Rattle.lfs_types.specs.declared.limits.TheConstants.{FILE_BLOCKS}
 use Rattle.lfs_inodes.specs.declared.inode.Inode.{Inode}
 use Rattle.lfs_inodes.specs.Reading.{fields_of}
 use Rattle.lfs_bmap.specs.Pieces.{IsPadded, IsPut, Touches}
-use Rattle.lfs_bmap.specs.Reading.{data_block}
+use Rattle.lfs_bmap.specs.Reading.{data_block, address}
 use Rattle.lfs_bmap.specs.declared.blocks.FileBlock.TheVariants.{Data}
 use Rattle.lfs_bmap.specs.Blocks.{code_of, table_of, way_to}
 use Rattle.lfs_bmap.specs.Tables.{tables_between}
-use Rattle.lfs_bmap.specs.Ways.{codes_on}
+use Rattle.lfs_bmap.specs.Ways.{codes_on, IsBlockWay}
 use Rattle.lfs_bmap.proofs.HolderLemmas.{code_cases, codes_on-block, table_of-code, table_of-is}
 use Rattle.lfs_bmap.proofs.TableLemmas.{codes_on-first, codes_on-long, codes_on-within, table_of-later}
 use Rattle.lfs_staging.proofs.TakenLemmas.{first_code, frames_after, frames_enough, frames_part, more_codes, taken_most, takes_both, takes_none, takes_part, takes_version}
 use Rattle.lfs_bmap.proofs.PieceLemmas.{byte_put-after, untouched_put}
 use Rattle.lfs_staging.specs.declared.parts.Parts.{Parts}
-use Rattle.lfs_staging.specs.Putting.{PutsBelow, PutsBlock, PutsBytes, TakesBelow, blocks_of_put, frames_of_put}
-use Rattle.lfs_staging.specs.Staging.{HasFrames, IsStaged, IsZeroPast, MayStage, StagesData, TakesFrames}
-use Rattle.lfs_staging.specs.View.{tree_of, version_of}
+use Rattle.lfs_staging.specs.Putting.{PutsBlock, PutsBytes, blocks_of_put, frames_of_put}
+use Rattle.lfs_staging.specs.Staging.{HasFrames, IsStaged, IsZeroPast, MayStage, StagesData, TakesFrames, TakesOnly}
+use Rattle.lfs_staging.specs.View.{tree_of, version_of, record_of}
 use Rattle.lfs_staging.proofs.StagingLemmas.{version-same}
+use Rattle.lfs_staging.specs.Waiting.{without}
+
+-- What waits more are blocks of a number that have one of some codes, and the record of the number.
+pub record TakesBelow (number : ℕ) (codes : List ℕ) (old new : Parts) : Type 0 where
+  pub takes : TakesOnly number (version_of old number) codes old.cache new.cache
+  pub records : without number new.waiting ≡ without number old.waiting
+
+-- What falls into the blocks below one of some bytes put at `start` of a file is there, and nothing else changed.
+pub record PutsBelow (v : Inode) (start : ℕ) (bytes : List ℕ) (before : ℕ) (old new : Parts) : Type 0 where
+  pub log : new.log ≡ old.log
+  pub records : (n : ℕ) → record_of new n ≡ record_of old n
+  pub put : (m : ℕ) → m < before → IsPut m start bytes (data_block (tree_of old v.number) m) (data_block (tree_of new v.number) m)
+  pub rest : (m : ℕ) → before ≤ m → data_block (tree_of new v.number) m ≡ data_block (tree_of old v.number) m
+  pub others : (n m : ℕ) → n ≢ v.number → data_block (tree_of new n) m ≡ data_block (tree_of old n) m
+  pub addresses : (n : ℕ) (way : List ℕ) → IsBlockWay way → address (tree_of new n) way ≡ address (tree_of old n) way
+  pub again : MayStage new v
+  pub kept : (spare : ℕ) → IsStaged old spare → IsStaged new spare
 
 -- a data block is zero past the size, and so it is with bytes put below it
 pub put_zeros : (blocks : ℕ → List ℕ) (index start size : ℕ) (bytes old new : List ℕ) → IsPadded blocks size → old ≡ blocks index → IsPut index start bytes old new

@@ -5,10 +5,14 @@ use Rattle.std.proofs.lemmas.Bool.{cases_eq, cond-true, cond-false, eq-eqb, ne_e
 use Rattle.std.proofs.lemmas.List.{length-take, length-drop, get_or-take, ext_get_or}
 use Rattle.lfs_types.specs.Stored.{Reads, slice_of}
 use Rattle.lfs_types.specs.declared.limits.TheConstants.{FILE_BLOCKS}
+use Rattle.lfs_types.specs.declared.block.TheConstants.{BLOCK_SIZE}
 use Rattle.lfs_bmap.specs.Pieces.{IsGot, Touches, byte_at}
 use Rattle.lfs_bmap.specs.Reading.{Tree, data_block, read}
 use Rattle.lfs_bmap.specs.Ways.{data_way}
-use Rattle.lfs_staging.specs.Filling.{IsFilledBefore}
+
+-- of the bytes from `start` on, those that stand in the blocks before one are in the buffer
+pub record IsFilledBefore (blocks : ℕ → List ℕ) (start before : ℕ) (buffer : List ℕ) : Type 0 where
+  pub each : (k : ℕ) → k < length buffer → (start + k) / BLOCK_SIZE < before → slice_index buffer k ≡ byte_at blocks (start + k)
 
 -- a data block that a file can have
 pub data_block-read : (t : Tree) (n : ℕ) → n < FILE_BLOCKS → data_block t n ≡ read t (data_way n)

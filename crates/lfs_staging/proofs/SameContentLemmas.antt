@@ -1,12 +1,12 @@
 -- Files that read alike make the same content.
 use Rattle.std.proofs.Common.{◌≡◌, ℕ, zero, suc, ◌+◌, ◌/◌, ◌<◌, List, ◌++◌, length, take, Option, None, Some, refl, sym, ap, ◌∙◌, arith}
-use Rattle.lfs_types.specs.Tree.{File, file_of}
+use Rattle.lfs_types.specs.Tree.{File, file_of, content_with}
 use Rattle.lfs_inodes.specs.Attributes.{Attributes, stat_of}
 use Rattle.lfs_inodes.specs.Reading.{Fields}
 use Rattle.lfs_bmap.specs.Pieces.{file_bytes, joined}
 use Rattle.lfs_bmap.specs.Reading.{Tree, data_block}
 use Rattle.lfs_staging.specs.declared.parts.Parts.{Parts}
-use Rattle.lfs_staging.specs.Files.{content_below, content_of, file_at, file_with, with_file}
+use Rattle.lfs_staging.specs.Files.{content_below, content_of, file_at, file_with}
 use Rattle.lfs_staging.specs.View.{record_of, tree_of}
 use Rattle.lfs_staging.proofs.FileLemmas.{file_at-none, file_at-some}
 
@@ -42,7 +42,7 @@ below_same : (old new : ℕ → Option File) (n : ℕ) → ((k : ℕ) → k < n 
 unfolding content_below
 below_same old new zero same = refl
 below_same old new (suc n) same =
-    ap (λ o. with_file n o (content_below new n)) (same n (omega arith)) ∙ ap (with_file n (old n)) (below_same old new n (λ k low. same k (omega arith)))
+    ap (λ o. content_with n o (content_below new n)) (same n (omega arith)) ∙ ap (content_with n (old n)) (below_same old new n (λ k low. same k (omega arith)))
 
 -- and the same files the same content
 pub content_of-same : (p q : Parts) → length q.log.tables.rows ≡ length p.log.tables.rows → ((number : ℕ) → number < length p.log.tables.rows → file_at q number ≡ file_at p number)

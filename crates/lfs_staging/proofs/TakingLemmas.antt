@@ -32,14 +32,14 @@ use Rattle.lfs_staging.specs.Changing.{StaysInLog}
 use Rattle.lfs_staging.specs.Cutting.{with_length}
 use Rattle.lfs_staging.specs.Files.{content_of}
 use Rattle.lfs_staging.specs.Keys.{log_state}
-use Rattle.lfs_staging.specs.Making.{Forgets, HasNoBlock, KeepsOthers}
+use Rattle.lfs_staging.specs.Making.{Forgets, KeepsOthers}
 use Rattle.lfs_staging.specs.Staging.{IsStaged}
 use Rattle.lfs_staging.specs.Store.{AreFiles, IsPresent}
 use Rattle.lfs_staging.specs.View.{key_of, record_of, root_in, tree_of, version_of, waiting_in}
 use Rattle.lfs_staging.specs.Waiting.{AreOnce, without}
 use Rattle.lfs_staging.proofs.FileLemmas.{file_at-none, free_place, get-content_of}
 use Rattle.lfs_staging.proofs.KeyLemmas.{place-record, placed_at}
-use Rattle.lfs_staging.proofs.MakingLemmas.{all_nowhere, block_nowhere, files_still, log_still, none_addressed, other_file, other_present, staged_still, stays_in_log}
+use Rattle.lfs_staging.proofs.MakingLemmas.{all_nowhere, block_nowhere, files_still, log_still, none_addressed, other_file, other_present, staged_still, stays_in_log, HasNoBlock}
 use Rattle.lfs_staging.proofs.ViewLemmas.{record_of-unused}
 use Rattle.lfs_staging.proofs.WaitingLemmas.{all_without, length-without, once_without, waiting-tail, waiting-head, waiting-without}
 use Rattle.lfs_bmap.specs.Blocks.{code_of}

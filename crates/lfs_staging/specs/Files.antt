@@ -1,7 +1,7 @@
 -- What a store contains, read off its parts.
-use Rattle.std.specs.Prelude.{ℕ, zero, suc, Option, Some, None, option_map, length}
+use Rattle.std.specs.Prelude.{ℕ, zero, suc, Option, option_map, length}
 use Rattle.std.specs.FinMap as map
-use Rattle.lfs_types.specs.Tree.{File, Content, file_of}
+use Rattle.lfs_types.specs.Tree.{File, Content, content_with, file_of}
 use Rattle.lfs_inodes.specs.Attributes.{stat_of}
 use Rattle.lfs_inodes.specs.Reading.{Fields}
 use Rattle.lfs_bmap.specs.Pieces.{file_bytes}
@@ -17,15 +17,10 @@ file_with t f = file_of (stat_of f.attributes) (file_bytes (data_block t) f.attr
 unfoldable pub file_at : Parts → ℕ → Option File
 file_at p number = option_map (file_with (tree_of p number)) (record_of p number)
 
--- a map with a file put at a number, if there is one
-abbrev pub with_file : ℕ → Option File → Content → Content
-with_file number None c = c
-with_file number (Some f) c = map.insert c number f
-
 -- the files of the numbers below n
 unfoldable pub content_below : (ℕ → Option File) → ℕ → Content
 content_below files zero = map.empty
-content_below files (suc n) = with_file n (files n) (content_below files n)
+content_below files (suc n) = content_with n (files n) (content_below files n)
 
 -- what the parts contain: the file of each number in use
 unfoldable pub content_of : Parts → Content

@@ -18,10 +18,10 @@ use Rattle.lfs_types.specs.declared.limits.TheConstants.{FILE_BYTES}
 use Rattle.lfs_ifile.specs.Tables.{row_of}
 use Rattle.lfs_inodes.specs.Facts.{IsSizeOf}
 use Rattle.lfs_staging.specs.declared.records.TheConstants.{WAITING_LIMIT}
-use Rattle.lfs_staging.specs.Staging.{IsStaged, MayStage, TakesFrames, TakesOnly}
+use Rattle.lfs_staging.specs.Staging.{IsStaged, MayStage, TakesFrames}
 use Rattle.lfs_staging.specs.Store.{AreFiles, ParentsWait}
 use Rattle.lfs_staging.specs.Waiting.{without}
-use Rattle.lfs_staging.specs.View.{LiesIn, blocks_of, record_of, tree_of, version_of}
+use Rattle.lfs_staging.specs.View.{LiesIn, blocks_of, record_of, tree_of}
 
 -- how many blocks some bytes at a place of a file fall into, at least one
 abbrev pub blocks_of_put : ℕ → ℕ → ℕ
@@ -42,22 +42,6 @@ pub record PutsBlock (v : Inode) (index start : ℕ) (bytes : List ℕ) (old new
   pub again : MayStage new v
   pub kept : (spare : ℕ) → IsStaged old spare → IsStaged new spare
   pub takes : TakesFrames v.number (Data index) old new
-
--- What waits more are blocks of a number that have one of some codes, and the record of the number.
-pub record TakesBelow (number : ℕ) (codes : List ℕ) (old new : Parts) : Type 0 where
-  pub takes : TakesOnly number (version_of old number) codes old.cache new.cache
-  pub records : without number new.waiting ≡ without number old.waiting
-
--- What falls into the blocks below one of some bytes put at `start` of a file is there, and nothing else changed.
-pub record PutsBelow (v : Inode) (start : ℕ) (bytes : List ℕ) (before : ℕ) (old new : Parts) : Type 0 where
-  pub log : new.log ≡ old.log
-  pub records : (n : ℕ) → record_of new n ≡ record_of old n
-  pub put : (m : ℕ) → m < before → IsPut m start bytes (data_block (tree_of old v.number) m) (data_block (tree_of new v.number) m)
-  pub rest : (m : ℕ) → before ≤ m → data_block (tree_of new v.number) m ≡ data_block (tree_of old v.number) m
-  pub others : (n m : ℕ) → n ≢ v.number → data_block (tree_of new n) m ≡ data_block (tree_of old n) m
-  pub addresses : (n : ℕ) (way : List ℕ) → IsBlockWay way → address (tree_of new n) way ≡ address (tree_of old n) way
-  pub again : MayStage new v
-  pub kept : (spare : ℕ) → IsStaged old spare → IsStaged new spare
 
 -- Bytes put at `start` of a file are there: what falls of them into each of its data blocks. Nothing else changed.
 pub record PutsBytes (v : Inode) (start : ℕ) (bytes : List ℕ) (old new : Parts) : Type 0 where
@@ -87,17 +71,6 @@ pub record GrowsTo (v w : Inode) (size : ℕ) (old new : Parts) : Type 0 where
 -- the content with bytes put at a place of a file
 abbrev pub with_put : ℕ → ℕ → List ℕ → Content → Content
 with_put number start bytes c = changed_at (map.get c number) number (λ f. record f { bytes = splice f.bytes start bytes }) c
-
--- The record of a file waits with other attributes, and the file's blocks stay. Nothing else changed.
-pub record ChangesRecord (v w : Inode) (old new : Parts) : Type 0 where
-  pub log : new.log ≡ old.log
-  pub cache : new.cache ≡ old.cache
-  pub here : record_of new v.number ≡ Some (fields_of w)
-  pub others : (n : ℕ) → n ≢ v.number → record_of new n ≡ record_of old n
-  pub blocks : (n : ℕ) → tree_of new n ≡ tree_of old n
-  pub again : MayStage new w
-  pub kept : (spare : ℕ) → IsStaged old spare → IsStaged new spare
-  pub room : without v.number new.waiting ≡ without v.number old.waiting
 
 -- the content with other attributes of a file, whose bytes stay
 abbrev pub with_attrs : ℕ → Attrs → Content → Content

@@ -1,3 +1,4 @@
+pub mod Contents
 pub mod Cuts
 pub mod Maps
 pub mod NameLemmas

@@ -30,6 +30,15 @@ pub there_of : {A : Type 0} (o : Option A) → IsSome o → There o
 there_of None h = absurd (cc)
 there_of (Some x) h = record { value = x; is = refl }
 
+-- a value isn't there and there
+pub none_there : {A : Type 0} {X : Type 0} (o : Option X) (x : X) → o ≡ None → o ≡ Some x → A
+none_there o x none there = absurd (cc)
+
+-- what something is known of is there
+pub some_from : {A : Type 0} (o : Option A) (P : A → Type 0) → IsSomeAnd o P → IsSome o
+some_from None P h = absurd h
+some_from (Some x) P h = refl
+
 -- a value that isn't there
 pub not_some : {A : Type 0} (o : Option A) → is_some o ≡ false → o ≡ None
 not_some None h = refl

@@ -1,6 +1,5 @@
 -- Absolute paths.
 use Rattle.std.specs.Prelude.{◌≡◌, ℕ, ◌+◌, ◌≤◌, ◌==◌, nat_lt, Bool, true, false, List, [], ◌∷◌, ◌++◌, length, drop, Option, None, Some, Result, Ok, Err, if◌then◌else◌}
-use Rattle.std.proofs.Common.{arith, length-append}
 use Rattle.std.specs.Global.{Vec}
 use Rattle.std.specs.List.{slice_split}
 use Rattle.lfs_types.specs.Naming.{name_fault}
@@ -79,8 +78,3 @@ IsCut text part (Some rest) = (parts text ≡ part ∷ parts rest) × (length pa
 abbrev pub items_of : {X E : Type 0} → Result (Vec X) E → Result (List X) E
 items_of (Ok v) = Ok v.items
 items_of (Err e) = Err e
-
--- a path has no more names than bytes
-pub length-slashed : (names : List (List ℕ)) → length names ≤ length (slashed names)
-length-slashed [] = omega arith
-length-slashed (name ∷ names) = simp length-append (omega (arith, length-slashed names))

@@ -1,5 +1,5 @@
 -- The tree of files, and what a store contains.
-use Rattle.std.specs.Prelude.{ℕ, List, [], length}
+use Rattle.std.specs.Prelude.{ℕ, List, [], length, Option, None, Some}
 use Rattle.std.specs.Ordering.{nat_cmp}
 use Rattle.std.specs.FinMap as map
 use Rattle.std.specs.FinMap.{FinMap}
@@ -21,6 +21,11 @@ pub record File : Type 0 where
 -- what a store contains: a file for each number in use
 abbrev pub Content : Type 0
 Content = FinMap nat_cmp File
+
+-- a content with a file at a number, if there is one
+abbrev pub content_with : ℕ → Option File → Content → Content
+content_with number None c = c
+content_with number (Some f) c = map.insert c number f
 
 -- the attributes that a file shows
 abbrev pub attrs_of : File → Attrs

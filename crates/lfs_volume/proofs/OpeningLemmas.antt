@@ -1,12 +1,12 @@
 -- Stores whose content is that of a fresh volume's show its world.
-use Rattle.std.proofs.Common.{◌≡◌, ℕ, [], length, None, sym, ap, subst, ◌∙◌, ⊎_elim, arith}
+use Rattle.std.proofs.Common.{◌≡◌, [], length, None, sym, ap, subst, ◌∙◌, ⊎_elim, arith}
 use Rattle.std.proofs.lemmas.Bool.{cases_eq}
 use Rattle.std.specs.Prelude.{option_map}
 use Rattle.std.specs.FinMap as map
 use Rattle.lfs_types.specs.Changes.{IsLength}
 use Rattle.lfs_types.specs.StoreStates.{StoreState}
 use Rattle.lfs_types.specs.Tree.{File, Row, root, fresh_root, opening_content, opening_world}
-use Rattle.lfs_dirs.specs.Changes.{number_in-nil}
+use Rattle.lfs_dirs.proofs.Changes.{number_in-nil}
 use Rattle.lfs_model.proofs.Children.{child-answer}
 use Rattle.lfs_model.proofs.RunLemmas.{root_row, only_fresh, no_child, opening_rows, opening_tree}
 use Rattle.lfs_types.proofs.Maps.{get-insert_same, get-insert_other}

@@ -1,5 +1,5 @@
 -- The groups of a word, of which seventeen are kept.
-use Rattle.std.proofs.Common.{◌≡◌, ℕ, ◌+◌, ◌<◌, ◌≤◌, Bool, true, false, List, [], ◌∷◌, ◌++◌, length, take, get_or, map, refl, sym, ◌∙◌, ap, subst, inl, inr, cond, arith, length-take, None, Some, Ok, Err, Result}
+use Rattle.std.proofs.Common.{◌≡◌, ℕ, ◌+◌, ◌<◌, ◌≤◌, Bool, true, false, List, [], ◌∷◌, ◌++◌, length, take, get_or, map, refl, sym, ◌∙◌, ap, subst, inl, inr, cond, arith, length-take, None, Some, Ok, Err}
 use Rattle.std.specs.Prelude.{◌&&◌}
 use Rattle.std.specs.List.{list_all}
 use Rattle.std.proofs.Math.ListN.{set}
@@ -11,14 +11,12 @@ use Rattle.lfs_types.specs.declared.cred.BadCred.TheVariants.{TooManyGroups}
 use Rattle.lfs_types.specs.declared.cred.BadCred.{BadCred}
 use Rattle.lfs_words.specs.declared.fault.FaultKind.{FaultKind}
 use Rattle.lfs_words.specs.declared.fault.FaultKind.TheVariants.{Number, Range, Cred}
+use Rattle.lfs_words.proofs.Parts.{the_number}
 use Rattle.lfs_words.proofs.WordLists.{passes_at}
 use Rattle.lfs_words.specs.Numbers.{number_of}
 use Rattle.lfs_words.specs.Callers.{is_decimal, is_short, decimal_value, decimals_fault, groups_of, caller_fault}
 
-abbrev answer : Bool → Bool → ℕ → Result ℕ FaultKind
-answer n s v = cond n (cond s (Ok v) (Err Range)) (Err Number)
-
-ok_parts : (n s : Bool) (v w : ℕ) → answer n s v ≡ Ok w → (n ≡ true) × (s ≡ true) × (w ≡ v)
+ok_parts : (n s : Bool) (v w : ℕ) → the_number n s v ≡ Ok w → (n ≡ true) × (s ≡ true) × (w ≡ v)
 ok_parts true true v w e = (refl, refl, cc)
 ok_parts true false v w e = absurd (cc)
 ok_parts false s v w e = absurd (cc)
@@ -27,7 +25,7 @@ ok_parts false s v w e = absurd (cc)
 pub short_read : (word : List ℕ) (v : ℕ) → number_of 10 20 4294967295 word ≡ Ok v → (is_decimal word ≡ true) × (is_short word ≡ true) × (v ≡ decimal_value word)
 short_read word v e = ok_parts (is_decimal word) (is_short word) (decimal_value word) v e
 
-one_fault : (n s : Bool) (v : ℕ) (kind : FaultKind) → answer n s v ≡ Err kind → cond (n && true) (cond (s && true) None (Some Range)) (Some Number) ≡ Some kind
+one_fault : (n s : Bool) (v : ℕ) (kind : FaultKind) → the_number n s v ≡ Err kind → cond (n && true) (cond (s && true) None (Some Range)) (Some Number) ≡ Some kind
 one_fault true true v kind e = absurd (cc)
 one_fault true false v kind e = cc
 one_fault false s v kind e = cc

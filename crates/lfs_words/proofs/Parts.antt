@@ -93,7 +93,8 @@ infos_many f words most lt =
 pub path_there : (word : List ℕ) (names : List (List ℕ)) → path_fault word ≡ None → names ≡ names_of_text word → path_of word ≡ Ok names
 path_there word names none e = rw none (ap Ok (sym e))
 
-abbrev the_number : Bool → Bool → ℕ → Result ℕ FaultKind
+-- what a word says whose value has been reckoned: is it a numeral, and is it in range
+abbrev pub the_number : Bool → Bool → ℕ → Result ℕ FaultKind
 the_number n s v = cond n (cond s (Ok v) (Err Range)) (Err Number)
 
 within : (n s : Bool) (v limit value : ℕ) → nat_le v limit ≡ s → the_number n s v ≡ Ok value → value ≤ limit

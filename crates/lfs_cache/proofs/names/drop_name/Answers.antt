@@ -1,7 +1,7 @@
 use Rattle.std.proofs.Common.{◌≡◌, ◌<◌, true, length, sym, ap, ◌∙◌, arith}
 use Rattle.lfs_cache.specs.Keys.{same_key}
-use Rattle.lfs_cache.specs.Frames.{names_without, key_in}
-use Rattle.lfs_cache.proofs.KeyLists.{names_dropped, names_absent, name_is}
+use Rattle.lfs_cache.specs.Frames.{names_without}
+use Rattle.lfs_cache.proofs.KeyLists.{names_dropped, names_absent, name_is, key_in}
 use Rattle.lfs_cache.proofs.names.drop_name.Goals as goal
 
 pub returns-then-same-clause-items : goal.returns-then-same-clause-items

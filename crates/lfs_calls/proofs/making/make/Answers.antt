@@ -10,7 +10,7 @@ use Rattle.lfs_types.specs.Tree.{World, Content}
 use Rattle.lfs_model.specs.World.{IsTree}
 use Rattle.lfs_model.specs.Rules.{Judges, first_failing, last, making}
 use Rattle.lfs_calls.specs.Content.{Shows, FitsNowhere}
-use Rattle.lfs_calls.specs.declared.making.Room.{Room}
+use Rattle.lfs_calls.specs.declared.directory.Room.{Room}
 use Rattle.lfs_calls.specs.Makes.{CanEnter, CanMake, IsParent, IsRoom}
 use Rattle.lfs_calls.specs.Names.{FindsNew}
 use Rattle.lfs_model.specs.Steps.{AllUsed}

@@ -1,5 +1,5 @@
 use Rattle.std.proofs.Common.{refl, arith}
-use Rattle.lfs_dirs.specs.Laws.{length-entries_of}
+use Rattle.lfs_dirs.proofs.Laws.{length-entries_of}
 use Rattle.lfs_dirs.proofs.reading.entries.Goals as goal
 
 pub returns-clause-value : goal.returns-clause-value

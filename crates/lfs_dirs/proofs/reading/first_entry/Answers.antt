@@ -1,7 +1,7 @@
 use Rattle.std.proofs.Common.{◌≡◌, false, length, arith}
 use Rattle.std.proofs.lemmas.Bool.{and_left, and_right, le-ltb, lt-leb}
 use Rattle.lfs_dirs.specs.Reading.{is_entry}
-use Rattle.lfs_dirs.specs.Laws.{entries_of-short}
+use Rattle.lfs_dirs.proofs.Laws.{entries_of-short}
 use Rattle.lfs_dirs.proofs.Front.{entry_at_front, none_at_front}
 use Rattle.lfs_dirs.proofs.reading.first_entry.Goals as goal
 use Rattle.lfs_dirs.proofs.reading.first_entry.Goals.{then-number-eq0-via-then-number-eq0, then-number-eq0-via-else-number-eq0+then-name_length-eq0, then-number-eq0-via-else-number-eq0+else-name_length-eq0+then-rest-name_length}

@@ -1,7 +1,7 @@
 use Rattle.std.proofs.Common.{◌≡◌, None, refl, sym, ◌∙◌}
 use Rattle.lfs_dirs.specs.Directory.{number_in}
 use Rattle.lfs_dirs.specs.Reading.{entries_of}
-use Rattle.lfs_dirs.specs.Laws.{entries_of-block, one_spelling}
+use Rattle.lfs_dirs.proofs.Laws.{entries_of-block, one_spelling}
 use Rattle.lfs_dirs.proofs.Testing.{lists_behind, lists_before, lists_end, zeros_at_end, none_from_is_some}
 use Rattle.lfs_dirs.proofs.reading.is_directory_block.Goals as goal
 

@@ -1,5 +1,5 @@
 use Rattle.lfs_dirs.specs.Reading.{entries_of}
-use Rattle.lfs_dirs.specs.Laws.{entries_of-block}
+use Rattle.lfs_dirs.proofs.Laws.{entries_of-block}
 use Rattle.lfs_dirs.proofs.Adding.{block_added}
 use Rattle.lfs_dirs.proofs.writing.push_entry.Goals as goal
 

@@ -2,7 +2,7 @@ use Rattle.std.proofs.Common.{◌≡◌, ◌++◌, ◌∷◌, List, [], ap, ◌�
 use Rattle.std.proofs.lemmas.Bool.{not-true, not-false}
 use Rattle.lfs_dirs.specs.Directory.{Entry, IsDirectoryBlock, used_of, without}
 use Rattle.lfs_dirs.specs.Reading.{entries_of}
-use Rattle.lfs_dirs.specs.Laws.{entries_of-zeros, used_of-append, zero_block_listed}
+use Rattle.lfs_dirs.proofs.Laws.{entries_of-zeros, used_of-append, zero_block_listed}
 use Rattle.lfs_dirs.proofs.Removing.{MayFollow, keeps_next, skips_next, may_follow, written_next, all_written}
 use Rattle.lfs_dirs.proofs.writing.removed.Goals as goal
 

@@ -1,7 +1,7 @@
 use Rattle.std.proofs.Common.{◌≡◌, ◌++◌, ◌∷◌, List, [], ap, ◌∙◌, sym, subst, arith}
 use Rattle.lfs_dirs.specs.Directory.{Entry, IsDirectoryBlock, renumbered, used_of}
 use Rattle.lfs_dirs.specs.Reading.{entries_of}
-use Rattle.lfs_dirs.specs.Laws.{entries_of-zeros, used_of-append, zero_block_listed}
+use Rattle.lfs_dirs.proofs.Laws.{entries_of-zeros, used_of-append, zero_block_listed}
 use Rattle.lfs_dirs.proofs.Removing.{written_next}
 use Rattle.lfs_dirs.proofs.Renumbering.{all_renumbered, given_next, may_be_next}
 use Rattle.lfs_dirs.proofs.writing.replaced.Goals as goal

@@ -1,7 +1,7 @@
 use Rattle.std.proofs.Common.{◌≡◌, ap, arith}
 use Rattle.lfs_dirs.specs.Directory.{used_of}
 use Rattle.lfs_dirs.specs.Reading.{entries_of}
-use Rattle.lfs_dirs.specs.Laws.{used_of-block}
+use Rattle.lfs_dirs.proofs.Laws.{used_of-block}
 use Rattle.lfs_dirs.proofs.writing.used.Goals as goal
 
 pub loop-name-init : goal.loop-name-init

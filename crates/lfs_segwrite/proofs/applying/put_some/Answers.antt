@@ -1,8 +1,9 @@
 use Rattle.std.proofs.Common.{◌≡◌, ◌≢◌, ℕ, ◌<◌, length, refl, sym, ◌∙◌, arith}
 use Rattle.std.proofs.lemmas.Bool.{cond-false, eqb-false, eqb-true}
+use Rattle.lfs_types.proofs.Somewhere.{some_from}
 use Rattle.lfs_staging.specs.Putting.{frames_of_put}
 use Rattle.lfs_staging.specs.Files.{content_of}
-use Rattle.lfs_segwrite.proofs.AskedLemmas.{may_change, put_nothing, put_sized, shown_used, some_from}
+use Rattle.lfs_segwrite.proofs.AskedLemmas.{may_change, put_nothing, put_sized, shown_used}
 use Rattle.lfs_staging.proofs.StagingLemmas.{version-same}
 use Rattle.lfs_staging.proofs.StagedLemmas.{stays-refl, stays_same}
 use Rattle.lfs_segwrite.proofs.applying.put_some.Goals as goal

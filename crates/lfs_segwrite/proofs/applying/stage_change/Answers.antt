@@ -1,9 +1,10 @@
 use Rattle.std.proofs.Common.{◌≡◌, List, length, sym, ap, subst, arith}
 use Rattle.lfs_cache.specs.Contents.{Contents}
 use Rattle.lfs_types.specs.declared.store.Change.{Change}
+use Rattle.lfs_types.proofs.Somewhere.{some_from}
 use Rattle.lfs_bmap.specs.Reading.{address}
 use Rattle.lfs_segwrite.specs.Applying.{StagesChange}
-use Rattle.lfs_segwrite.proofs.AskedLemmas.{kind_same, length_sized, may_change, none_free, shown_used, some_from}
+use Rattle.lfs_segwrite.proofs.AskedLemmas.{kind_same, length_sized, may_change, none_free, shown_used}
 use Rattle.lfs_ifile.specs.declared.inode.InodeRow.{InodeRow}
 use Rattle.lfs_ifile.specs.Tables.{row_at}
 use Rattle.lfs_staging.proofs.StagingLemmas.{version-same}

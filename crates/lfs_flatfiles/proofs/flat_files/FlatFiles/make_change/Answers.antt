@@ -1,6 +1,7 @@
 use Rattle.std.proofs.Common.{is_some, sym, ap, ◌∙◌, arith}
+use Rattle.lfs_types.proofs.Contents.{length_of_file}
 use Rattle.lfs_flatfiles.proofs.FlatFilesContent.{get-content_of}
-use Rattle.lfs_flatfiles.proofs.FlatFilesReach.{content_below, end_of_file, length_of_file, used_within, file_used}
+use Rattle.lfs_flatfiles.proofs.FlatFilesReach.{content_below, end_of_file, used_within, file_used}
 use Rattle.lfs_flatfiles.proofs.flat_files.FlatFiles.make_change.Goals as goal
 
 pub make-requires-clause-free : goal.make-requires-clause-free

@@ -7,11 +7,12 @@ use Rattle.lfs_staging.specs.View.{version_of}
 use Rattle.lfs_bmap.specs.Counting.{placed}
 use Rattle.lfs_log.specs.Parts.{record_place}
 use Rattle.lfs_staging.specs.Keys.{log_state}
-use Rattle.lfs_staging.specs.Making.{Forgets, HasNoBlock}
+use Rattle.lfs_staging.specs.Making.{Forgets}
 use Rattle.lfs_staging.specs.declared.parts.Parts.{Parts}
 use Rattle.lfs_staging.proofs.KeyLemmas.{place-record, unplaced}
 use Rattle.lfs_staging.proofs.TakingLemmas.{empty_no_block, last_log, last_none, last_others, may_give, released_at, released_other, taken_content, taken_log, taken_staged}
 use Rattle.lfs_staging.proofs.parts.Parts.give_back.Goals as goal
+use Rattle.lfs_staging.proofs.MakingLemmas.{HasNoBlock}
 
 pub place_record-requires-clause-moves : goal.place_record-requires-clause-moves
 place_record-requires-clause-moves c = may_give c.args.self.now c.args.ino c.requires.staged c.requires.in_range c.requires.in_use c.requires.empty

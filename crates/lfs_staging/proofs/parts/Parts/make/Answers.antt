@@ -3,8 +3,7 @@ use Rattle.lfs_log.specs.Parts.{IsParts, LogParts}
 use Rattle.lfs_log.specs.Parts as log
 use Rattle.lfs_bmap.specs.Log.{Renews}
 use Rattle.lfs_staging.specs.Keys.{log_state}
-use Rattle.lfs_staging.specs.Making.{GivesOutFile}
-use Rattle.lfs_staging.proofs.NewFileLemmas.{made_content, made_log, made_staged, made_versions, nothing_before, waiting_more}
+use Rattle.lfs_staging.proofs.NewFileLemmas.{made_content, made_log, made_staged, made_versions, nothing_before, waiting_more, GivesOutFile}
 use Rattle.lfs_staging.proofs.WaitingLemmas.{length-without}
 use Rattle.lfs_staging.proofs.parts.Parts.make.Goals as goal
 

@@ -1,6 +1,5 @@
 use Rattle.std.proofs.Common.{length}
-use Rattle.lfs_staging.specs.Putting.{PutsBelow, TakesBelow}
-use Rattle.lfs_staging.proofs.PuttingLemmas.{put_codes}
+use Rattle.lfs_staging.proofs.PuttingLemmas.{put_codes, PutsBelow, TakesBelow}
 use Rattle.lfs_staging.proofs.parts.Parts.put_blocks.Given as goal
 
 abbrev pub invariant-loop-index : goal.invariant-loop-index

@@ -1,8 +1,9 @@
 use Rattle.std.proofs.Common.{◌≡◌, length}
 use Rattle.lfs_bmap.specs.Reading.{data_block}
-use Rattle.lfs_staging.specs.Filling.{IsFilledBefore, SameButClean}
+use Rattle.lfs_staging.specs.Filling.{SameButClean}
 use Rattle.lfs_staging.specs.View.{tree_of}
 use Rattle.lfs_staging.proofs.parts.Parts.read_blocks.Given as goal
+use Rattle.lfs_staging.proofs.ReadLemmas.{IsFilledBefore}
 
 abbrev pub invariant-loop-index : goal.invariant-loop-index
 invariant-loop-index l = record {

@@ -1,7 +1,7 @@
 use Rattle.std.proofs.Common.{◌≡◌, []}
 use Rattle.lfs_types.specs.Stored.{bytes_of}
 use Rattle.lfs_calls.specs.Content.{entries_below}
-use Rattle.lfs_calls.proofs.removing.is_empty_directory.Given as goal
+use Rattle.lfs_calls.proofs.directory.is_empty_directory.Given as goal
 
 -- none of the blocks so far has an entry
 abbrev pub invariant-loop-k : goal.invariant-loop-k

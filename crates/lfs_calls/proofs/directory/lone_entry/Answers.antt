@@ -1,8 +1,8 @@
 use Rattle.std.proofs.Common.{◌≤◌, ◌+◌, [], ◌∷◌, ◌++◌, length, ap, subst, sym, ◌∙◌, arith}
-use Rattle.lfs_dirs.specs.Changes.{number_in-nil}
+use Rattle.lfs_dirs.proofs.Changes.{number_in-nil}
 use Rattle.lfs_dirs.specs.Directory.{IsDirectoryBlock, number_in, used_of}
-use Rattle.lfs_dirs.specs.Laws.{entries_of-zeros, zero_block_listed}
-use Rattle.lfs_calls.proofs.making.lone_entry.Goals as goal
+use Rattle.lfs_dirs.proofs.Laws.{entries_of-zeros, zero_block_listed}
+use Rattle.lfs_calls.proofs.directory.lone_entry.Goals as goal
 
 pub added-requires-clause-directory : goal.added-requires-clause-directory
 added-requires-clause-directory c = zero_block_listed

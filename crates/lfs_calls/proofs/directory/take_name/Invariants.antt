@@ -2,7 +2,7 @@ use Rattle.std.proofs.Common.{◌≡◌, None}
 use Rattle.lfs_types.specs.Stored.{bytes_of}
 use Rattle.lfs_dirs.specs.Directory.{number_in}
 use Rattle.lfs_calls.specs.Content.{entries_below}
-use Rattle.lfs_calls.proofs.removing.take_name.Given as goal
+use Rattle.lfs_calls.proofs.directory.take_name.Given as goal
 
 -- the name is in none of the blocks so far
 abbrev pub invariant-loop-k : goal.invariant-loop-k

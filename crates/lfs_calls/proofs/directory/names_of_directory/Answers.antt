@@ -5,7 +5,7 @@ use Rattle.lfs_dirs.specs.Directory.{Entry}
 use Rattle.lfs_dirs.specs.Reading.{entries_of}
 use Rattle.lfs_calls.specs.Content.{block_at}
 use Rattle.lfs_calls.proofs.ListLemmas.{names_further, no_names_at_first}
-use Rattle.lfs_calls.proofs.listing.names_of_directory.Goals as goal
+use Rattle.lfs_calls.proofs.directory.names_of_directory.Goals as goal
 
 pub loop-k-init : goal.loop-k-init
 loop-k-init g c = record { names = c.new-names.ensures.items ∙ sym (no_names_at_first _); state = refl }

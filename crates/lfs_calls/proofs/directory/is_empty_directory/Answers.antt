@@ -7,7 +7,7 @@ use Rattle.lfs_dirs.specs.Directory.{Entry}
 use Rattle.lfs_dirs.specs.Reading.{entries_of}
 use Rattle.lfs_calls.specs.Content.{block_at}
 use Rattle.lfs_calls.proofs.Listings.{nothing_at_first, nothing_further, nothing_in_block}
-use Rattle.lfs_calls.proofs.removing.is_empty_directory.Goals as goal
+use Rattle.lfs_calls.proofs.directory.is_empty_directory.Goals as goal
 
 -- the first of entries, if there is one
 abbrev IsFirst : Option (ℕ × Bor (List ℕ)) → List Entry → List Entry → Type 0

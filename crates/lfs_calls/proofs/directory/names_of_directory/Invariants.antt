@@ -2,7 +2,7 @@ use Rattle.std.proofs.Common.{◌≡◌, map}
 use Rattle.lfs_types.specs.Stored.{bytes_of}
 use Rattle.lfs_dirs.specs.Directory.{Entry}
 use Rattle.lfs_calls.specs.Content.{entries_below}
-use Rattle.lfs_calls.proofs.listing.names_of_directory.Given as goal
+use Rattle.lfs_calls.proofs.directory.names_of_directory.Given as goal
 
 abbrev pub invariant-loop-k : goal.invariant-loop-k
 invariant-loop-k g l = record {

@@ -5,7 +5,7 @@ use Rattle.lfs_dirs.specs.Directory.{number_in}
 use Rattle.lfs_dirs.specs.Reading.{entries_of}
 use Rattle.lfs_calls.specs.Content.{block_at}
 use Rattle.lfs_calls.specs.Removes.{IsTaking}
-use Rattle.lfs_calls.proofs.removing.take_name.Goals as goal
+use Rattle.lfs_calls.proofs.directory.take_name.Goals as goal
 use Rattle.lfs_calls.proofs.Listings.{absent_further, absent_at_first}
 
 pub loop-k-init : goal.loop-k-init

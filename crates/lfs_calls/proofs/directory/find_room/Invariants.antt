@@ -4,7 +4,7 @@ use Rattle.lfs_dirs.specs.Directory.{used_of}
 use Rattle.lfs_dirs.specs.Reading.{entries_of}
 use Rattle.lfs_calls.specs.Content.{block_at}
 use Rattle.lfs_calls.specs.Makes.{with_block}
-use Rattle.lfs_calls.proofs.making.find_room.Given as goal
+use Rattle.lfs_calls.proofs.directory.find_room.Given as goal
 
 -- the name fits in none of the blocks so far
 abbrev pub invariant-loop-k : goal.invariant-loop-k

@@ -2,8 +2,8 @@ use Rattle.std.proofs.Common.{take, drop, sym, ap, ◌∙◌}
 use Rattle.lfs_types.specs.Stored.{bytes_of}
 use Rattle.lfs_calls.specs.Makes.{with_block}
 use Rattle.lfs_calls.proofs.WithBlock.{with_block-here, with_block-other}
-use Rattle.lfs_calls.proofs.making.seen_block.Goals as goal
-use Rattle.lfs_calls.proofs.making.seen_block.Goals.{in_default-via-in-Some+else-room-off, in_default-via-in_default}
+use Rattle.lfs_calls.proofs.directory.seen_block.Goals as goal
+use Rattle.lfs_calls.proofs.directory.seen_block.Goals.{in_default-via-in-Some+else-room-off, in_default-via-in_default}
 
 pub returns-in-Some-clause-block : goal.returns-in-Some-clause-block
 returns-in-Some-clause-block g c = with_block-here (bytes_of (g.F.FileStore.state c.args.store.now).content c.args.dir) c.args.taken c.in-Some.room c.in-Some.is c.requires.taken c.args.off c.if-room-off.true

@@ -10,7 +10,7 @@ use Rattle.lfs_dirhints.specs.Full.{IsFullBefore}
 use Rattle.lfs_calls.proofs.HintLemmas.{full_before}
 use Rattle.lfs_calls.proofs.Listings.{absent_in_block, none_at_end}
 use Rattle.lfs_calls.proofs.WithBlock.{length-with_block}
-use Rattle.lfs_calls.proofs.making.find_room.Goals as goal
+use Rattle.lfs_calls.proofs.directory.find_room.Goals as goal
 
 pub loop-k-init : goal.loop-k-init
 loop-k-init g c = record { full = c.first_to_try-first.ensures.full; state = refl }

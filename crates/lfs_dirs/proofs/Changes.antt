@@ -47,23 +47,19 @@ number_in-append name (e ∷ es) fs h =
     let none = number_in-none name e es h in
     number_in-later name e (es ++ fs) none.0 ∙ number_in-append name es fs none.1
 
--- the other names are found as before
-pub number_in-added_other : (other : List ℕ) (e : Entry) (es : List Entry) → e.1 ≢ other
-    → number_in other (es ++ e ∷ []) ≡ number_in other es
-number_in-added_other other e [] h = number_in-later other e [] (has_name-other other e h)
-number_in-added_other other e (f ∷ es) h =
-    ⊎_elim
-    (λ t. number_in-here other f (es ++ e ∷ []) t ∙ sym (number_in-here other f es t))
-    (λ t. number_in-later other f (es ++ e ∷ []) t ∙ number_in-added_other other e es h ∙ sym (number_in-later other f es t))
-    (cases_Bool (has_name other f))
-
 -- where an entry stays at the front, what is found behind it is what counts
-number_in-after : (name : List ℕ) (e : Entry) (es fs : List Entry) → number_in name es ≡ number_in name fs → number_in name (e ∷ es) ≡ number_in name (e ∷ fs)
+pub number_in-after : (name : List ℕ) (e : Entry) (es fs : List Entry) → number_in name es ≡ number_in name fs → number_in name (e ∷ es) ≡ number_in name (e ∷ fs)
 number_in-after name e es fs same =
     ⊎_elim
     (λ t. number_in-here name e es t ∙ sym (number_in-here name e fs t))
     (λ t. number_in-later name e es t ∙ same ∙ sym (number_in-later name e fs t))
     (cases_Bool (has_name name e))
+
+-- the other names are found as before
+pub number_in-added_other : (other : List ℕ) (e : Entry) (es : List Entry) → e.1 ≢ other
+    → number_in other (es ++ e ∷ []) ≡ number_in other es
+number_in-added_other other e [] h = number_in-later other e [] (has_name-other other e h)
+number_in-added_other other e (f ∷ es) h = number_in-after other f (es ++ e ∷ []) es (number_in-added_other other e es h)
 
 -- what isn't in a list isn't in a part of it
 pub number_in-filter : (keeps : Entry → Bool) (name : List ℕ) (es : List Entry) → number_in name es ≡ None → number_in name (filter keeps es) ≡ None
