@@ -2,7 +2,9 @@
 use Rattle.std.proofs.Common.{◌≡◌, ℕ, ◌<◌, ◌≤◌, List, length, Option, None, Some, Result, Ok, Err, IfErr, IfSome, true, subst}
 use Rattle.std.specs.List.{list_any}
 use Rattle.lfs_types.specs.Caller.{Caller}
+use Rattle.lfs_types.specs.declared.fault.FormatFault.{FormatFault}
 use Rattle.lfs_types.specs.declared.request.Request.{Request}
+use Rattle.lfs_server.specs.Fresh.{IsFormatFault}
 use Rattle.lfs_server.specs.Serving.{IsInRange, IsServeFault}
 use Rattle.lfs_server.specs.declared.serving.ServeFault.{ServeFault}
 use Rattle.lfs_script.specs.Parsing.{ParsesScript}
@@ -11,7 +13,7 @@ use Rattle.lfs_script.specs.Plans.{plan_of}
 use Rattle.lfs_script.specs.Splitting.{is_of_cleaner}
 use Rattle.lfs_script.specs.declared.fault.ScriptFault.{ScriptFault}
 use Rattle.lfs_audit.specs.Faults.{HasPlan, IsFaultOf, IsRead, IsReadingFault, MayHaveWritten}
-use Rattle.lfs_audit.specs.Scripts.{IsLayoutFault, IsScriptFault}
+use Rattle.lfs_audit.specs.Scripts.{IsScriptFault}
 use Rattle.lfs_audit.specs.Threads.{HasCleanerLine, HasSessions, IsSplit, IsSplittingFault, IsThreadsFault, MayHaveWrittenThreads}
 use Rattle.lfs_audit.specs.declared.fault.RunFault.{RunFault}
 use Rattle.lfs_audit.specs.declared.fault.RunFault.TheVariants.{Read, TooLong, Script, Format, Memory, Write}
@@ -84,13 +86,9 @@ reading_script_fault known segments inodes frames (Format fault) p = absurd p
 reading_script_fault known segments inodes frames Memory p = tt
 reading_script_fault known segments inodes frames Write p = absurd p
 
-pub layout_fault : (known : Option (List ℕ)) (segments inodes frames : ℕ) (fault : RunFault) → HasPlan known → IsLayoutFault segments inodes frames fault → IsScriptFault known segments inodes frames fault
-layout_fault known segments inodes frames Read plan p = absurd p
-layout_fault known segments inodes frames TooLong plan p = absurd p
-layout_fault known segments inodes frames (Script fault) plan p = absurd p
-layout_fault known segments inodes frames (Format fault) plan p = (plan, p)
-layout_fault known segments inodes frames Memory plan p = tt
-layout_fault known segments inodes frames Write plan p = absurd p
+-- the fault of laying out its log, once the script was parsed
+pub layout_fault : (known : Option (List ℕ)) (segments inodes frames : ℕ) (fault : FormatFault) → HasPlan known → IsFormatFault segments inodes frames fault → IsScriptFault known segments inodes frames (Format fault)
+layout_fault known segments inodes frames fault plan p = (plan, p)
 
 late_script_fault : (known : Option (List ℕ)) (segments inodes frames : ℕ) (fault : RunFault) → HasPlan known → IsInRange segments inodes frames → MayHaveWritten fault → IsScriptFault known segments inodes frames fault
 late_script_fault known segments inodes frames Read plan ranges p = absurd p

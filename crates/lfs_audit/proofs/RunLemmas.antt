@@ -2,6 +2,7 @@
 use Rattle.std.proofs.Common.{◌≡◌, ℕ, suc, ◌+◌, ◌<◌, List, [], ◌∷◌, ◌++◌, length, Option, None, Some, Result, Ok, Err, OnOk, refl, sym, ap, subst, ◌∙◌, arith, append_assoc, append-nil, length-append}
 use Rattle.std.specs.Io.KnownBytes.{Appends, Keeps, append_known}
 use Rattle.std.proofs.KnownBytes.{Appends-kept, Appends-nil, Appends-trans}
+use Rattle.std.specs.Prelude.{◌≤◌}
 use Rattle.lfs_types.specs.Caller.{Caller}
 use Rattle.lfs_types.specs.StoreStates.{Shape}
 use Rattle.lfs_types.specs.Tree.{opening_world}
@@ -27,7 +28,17 @@ use Rattle.lfs_volume.specs.Cleanings.{Cleaner}
 use Rattle.lfs_volume.specs.Seen.{Seen}
 use Rattle.lfs_volume.specs.StepRuns.{AreSteps, IsActMade}
 use Rattle.lfs_audit.specs.Output.{IsRun}
-use Rattle.lfs_audit.specs.Runs.{AreAsked, TellsCleaning, IsAsked, IsPassing, Passes, Runs, TellsLine, WritesLines, call_line, call_step, cleaning_step, first_pass, lines_text}
+use Rattle.lfs_audit.specs.Runs.{AreAsked, TellsCleaning, IsAsked, Passes, Runs, TellsLine, WritesLines, call_line, call_step, cleaning_step, first_pass, lines_text}
+
+-- a volume became this one by the steps of a pass so far, which stands there, told this answer, and the lines were added
+-- to a text
+pub record IsPassing {F : Type 0} (r : Cleaner F) (old new : Seen F) (session : ℕ) (caller : Caller) (pass : Pass) (last : Option CleanerAnswer) (before after : List ℕ) : Type 0 where
+  pub made : List Made
+  pub answers : List StepAnswer
+  pub makes : Passes session caller first_pass None made answers pass last
+  pub ran : Runs r old new made answers
+  pub printed : after ≡ before ++ lines_text made answers
+  pub few : length made + calls_left pass ≤ 105
 
 -- ---- steps
 

@@ -1,19 +1,14 @@
 -- Runs of scripts on fresh volumes over the log store.
-use Rattle.std.proofs.Common.{◌≡◌, ℕ, List, Option, None, Some, Result, Ok, Err, IfErr, IfOk, IfSome, sym, subst}
+use Rattle.std.proofs.Common.{◌≡◌, ℕ, List, Option, None, Some, Result, Ok, Err, IfErr, IfSome, subst}
 use Rattle.std.specs.Io.KnownBytes.{Appends}
 use Rattle.lfs_staging.specs.declared.parts.Parts.{Parts}
-use Rattle.lfs_staging.specs.Opening.{IsOpening}
-use Rattle.lfs_logstore.specs.States.{opening_state, state_of}
 use Rattle.lfs_script.specs.PlanTypes.{Planned}
 use Rattle.lfs_script.specs.declared.plan.Step.{Step}
 use Rattle.lfs_audit.specs.Faults.{IsRead, MayHaveWritten}
 use Rattle.lfs_audit.specs.Output.{IsRun}
-use Rattle.lfs_audit.specs.Scripts.{IsFreshLog, IsLogOutput, log_cleaner}
+use Rattle.lfs_audit.specs.Scripts.{IsLogOutput, log_cleaner}
 use Rattle.lfs_audit.specs.declared.fault.RunFault.{RunFault}
-
--- a log that was just laid out is fresh
-pub fresh_log : (segments inodes frames : ℕ) (store : Parts) → state_of store ≡ opening_state segments inodes → IsOpening segments inodes frames store → IsFreshLog segments inodes frames store
-fresh_log segments inodes frames store opening laid_out = record { opening = opening; laid_out = laid_out }
+use Rattle.lfs_server.specs.Fresh.{IsFreshLog}
 
 -- what a run of the steps of a plan printed, a run of its script prints
 pub log_run : (script : Option (List ℕ)) (plan : Planned) (steps : List Step) (most : ℕ) (store : Parts) (segments inodes frames limit : ℕ) (old new : Option (List ℕ))

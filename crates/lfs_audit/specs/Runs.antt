@@ -11,7 +11,7 @@ use Rattle.lfs_model.specs.declared.steps.Step.{Step as Made}
 use Rattle.lfs_model.specs.declared.steps.StepAnswer.{StepAnswer}
 use Rattle.lfs_model.specs.declared.steps.StepAnswer.TheVariants as told
 use Rattle.lfs_model.specs.Runs.{kept_steps, kind_of}
-use Rattle.lfs_cleaner.specs.Passing.{Steps, calls_left}
+use Rattle.lfs_cleaner.specs.Passing.{Steps}
 use Rattle.lfs_cleaner.specs.declared.pass.Pass.{Pass}
 use Rattle.lfs_cleaner.specs.declared.pass.Stage.TheVariants.{Ready}
 use Rattle.lfs_print.specs.AnswerText.{answer_line}
@@ -111,16 +111,6 @@ pub record TellsLine {F : Type 0} (r : Cleaner F) (old new : Seen F) (session : 
   pub asked : IsAsked session caller act made answers
   pub ran : Runs r old new made answers
   pub printed : after ≡ before ++ lines_text made answers
-
--- a volume became this one by the steps of a pass so far, which stands there, told this answer, and the lines were added
--- to a text
-pub record IsPassing {F : Type 0} (r : Cleaner F) (old new : Seen F) (session : ℕ) (caller : Caller) (pass : Pass) (last : Option CleanerAnswer) (before after : List ℕ) : Type 0 where
-  pub made : List Made
-  pub answers : List StepAnswer
-  pub makes : Passes session caller first_pass None made answers pass last
-  pub ran : Runs r old new made answers
-  pub printed : after ≡ before ++ lines_text made answers
-  pub few : length made + calls_left pass ≤ 105
 
 -- a volume became this one by what the lines of a plan ask for, and what a writer is known to hold or to get became
 -- longer by the lines of the answers

@@ -51,6 +51,16 @@ impl<T: Drop> From<AllocFailed<T>> for RunFault {
     }
 }
 
+impl From<FormatFault> for RunFault {
+    ghost use Rattle.lfs_audit.specs.declared.fault.RunFault.TheVariants.{Format};
+
+    ghost from_gives = { λ fault run. run ≡ Format fault };
+
+    fn from(fault: FormatFault) -> RunFault {
+        RunFault::Format(fault)
+    }
+}
+
 impl From<ReadFault> for RunFault {
     ghost use Rattle.lfs_audit.specs.Faults.{read_fault};
 

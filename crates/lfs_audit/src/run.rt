@@ -10,16 +10,16 @@ ghost use Rattle.lfs_volume.specs.Cleanings.{cleaner_of};
 ghost use Rattle.lfs_audit.specs.Faults.{IsFaultOf, IsRead, IsReadingFault, MayHaveWritten};
 ghost use Rattle.lfs_audit.specs.Output.{IsOutput, IsRun};
 ghost use Rattle.lfs_audit.specs.Runs.{WritesLines};
-ghost use Rattle.lfs_audit.specs.Scripts.{IsFreshLog, IsLayoutFault, IsLogOutput, IsScriptFault};
+ghost use Rattle.lfs_audit.specs.Scripts.{IsLogOutput, IsScriptFault};
 
 use crate::fault::RunFault;
 use crate::passing::run_step;
 use lfs_io::output::{flush, write_full, write_text};
 use lfs_io::read::read_script;
-use lfs_logstore::LogStore;
 use lfs_print::report::append_counts;
 use lfs_script::plan::{Plan, Step};
 use lfs_script::script::parse_script;
+use lfs_server::fresh::fresh_volume;
 use lfs_types::cleaned::CleanedStore;
 use lfs_types::store::{FileStore, Params};
 use lfs_volume::volume::Volume;
@@ -47,20 +47,6 @@ pub fn run_script<R: Read, W: Write>(
     let plan = read_plan(alloc, reader)?;
     let mut volume = fresh_volume(alloc, params)?;
     run_plan(alloc, &mut volume, plan.into_steps(), writer)
-}
-
-/// A fresh volume over the log store.
-pub fn fresh_volume(alloc: Global, params: Params) -> Result<Volume<LogStore>, RunFault>
-    ensures fresh { IfOk result (λ volume. (volume.journal ≡ []) × (volume.limit ≡ params.journal)
-        × IsFreshLog params.segments params.inodes params.frames volume.store) }
-    ensures ranges { OnOk result (IsInRange params.segments params.inodes params.frames) }
-    ensures fault { IfErr result (IsLayoutFault params.segments params.inodes params.frames) }
-{
-    let store = match LogStore::format(alloc, params) {
-        Ok(store) => store,
-        Err(fault) => return Err(RunFault::Format(fault)),
-    };
-    Ok(Volume::new(alloc, store, params.journal)?)
 }
 
 /// Reads a script whole, parses it whole, runs its lines in order on a volume without entries, and writes the answer to

@@ -7,10 +7,18 @@ use Rattle.std.proofs.lemmas.Bool.{lt-ltb, ltb-false, ltb-true, ltb_from_iff}
 use Rattle.std.proofs.lemmas.List.{take_all}
 use Rattle.std.proofs.lemmas.List.Elements.{All-nil, All-push}
 use Rattle.lfs_live.specs.Hearing.{heard_of, is_long}
-use Rattle.lfs_live.specs.Pieces.{IsPart, IsPiece, IsUnended}
+use Rattle.lfs_live.specs.Pieces.{IsPiece, IsUnended}
 use Rattle.lfs_live.specs.Telling.{cut_text, fault_line}
 use Rattle.lfs_live.specs.declared.fault.LineFault.TheVariants.{TooLong, Kind}
 use Rattle.lfs_words.specs.declared.fault.FaultKind.TheVariants.{Cut}
+use Rattle.lfs_words.specs.Lines.{HasNoLineFeed}
+
+-- bytes without a line feed were read, and of them these are kept: the first 65,537
+pub record IsPart (known left : Option (List ℕ)) (kept : List ℕ) : Type 0 where
+  pub part : List ℕ
+  pub unended : HasNoLineFeed part
+  pub kept_of : kept ≡ take 65537 part
+  pub taken : Consumes known left part
 
 -- ---- the bytes that are kept
 

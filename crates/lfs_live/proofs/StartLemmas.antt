@@ -3,12 +3,12 @@ use Rattle.std.proofs.Common.{◌≡◌, ℕ, List, [], Option, Result, Ok, Err,
 use Rattle.std.specs.Prelude.{OnOk}
 use Rattle.lfs_staging.specs.declared.parts.Parts.{Parts}
 use Rattle.lfs_volume.specs.Seen.{Seen}
-use Rattle.lfs_audit.specs.Scripts.{IsFreshLog}
 use Rattle.lfs_audit.specs.declared.fault.RunFault.{RunFault}
 use Rattle.lfs_audit.specs.declared.fault.RunFault.TheVariants.{Read, TooLong, Script, Format, Memory, Write}
 use Rattle.lfs_live.specs.Faults.{IsTalkFault}
 use Rattle.lfs_live.specs.Scripts.{HasHeardOfLog, IsLogFault, IsLogTalk, log_talker}
 use Rattle.lfs_live.specs.Talking.{HasHeardSoFar, IsTalk}
+use Rattle.lfs_server.specs.Fresh.{IsFreshLog}
 
 -- a talk over a fresh volume, with its end
 pub log_talk : {A : Type 0} (segments inodes frames limit : ℕ) (old new : Seen Parts) (known left start out : Option (List ℕ)) (outcome : Result A RunFault)

@@ -9,7 +9,7 @@ use Rattle.lfs_words.specs.Lines.{HasNoLineFeed}
 use Rattle.lfs_live.specs.Hearing.{heard_of}
 use Rattle.lfs_live.specs.Steps.{FailsHere, HearsLast, HearsNext, IsTold}
 use Rattle.lfs_live.specs.Talkers.{Talker}
-use Rattle.lfs_live.specs.Talking.{HasHeard, HasHeardAll, HasHeardSoFar, Hears, HearsAll, ended, first_speaker}
+use Rattle.lfs_live.specs.Talking.{HasHeardAll, HasHeardSoFar, Hears, HearsAll, ended, first_speaker}
 use Rattle.lfs_live.specs.Telling.{cut_text, ended_line}
 use Rattle.lfs_live.specs.Pieces.{IsPiece, IsUnended}
 use Rattle.lfs_live.specs.declared.hearing.Dot.TheVariants.{Quit}
@@ -17,6 +17,15 @@ use Rattle.lfs_live.specs.declared.hearing.Heard.{Heard}
 use Rattle.lfs_live.specs.declared.hearing.Heard.TheVariants as heard
 use Rattle.lfs_live.proofs.LineLemmas.{cut_kept, heard_kept}
 use Rattle.lfs_live.specs.declared.telling.Speaker.{Speaker}
+
+-- A volume and who speaks became these by lines that were read, one after another, and what is told of them is written,
+-- and nothing else.
+pub record HasHeard {F : Type 0} (r : Talker F) (old new : Seen F) (then : Speaker) (known left start out : Option (List ℕ)) : Type 0 where
+  pub lines : List (List ℕ)
+  pub told : List ℕ
+  pub heard : HearsAll r old first_speaker lines told new then
+  pub taken : Consumes known left (ended lines)
+  pub printed : Appends start out told
 
 -- no line was heard
 pub heard_none : {F : Type 0} (r : Talker F) (v : Seen F) (speaker : Speaker) (known start : Option (List ℕ)) → speaker ≡ first_speaker → HasHeard r v v speaker known known start start

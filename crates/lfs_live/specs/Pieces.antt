@@ -3,13 +3,6 @@ use Rattle.std.specs.Prelude.{◌≡◌, ℕ, Bool, true, false, List, [], ◌�
 use Rattle.std.specs.Io.KnownBytes.{Consumes, IsAtEnd}
 use Rattle.lfs_words.specs.Lines.{HasNoLineFeed}
 
--- bytes without a line feed were read, and of them these are kept: the first 65,537
-pub record IsPart (known left : Option (List ℕ)) (kept : List ℕ) : Type 0 where
-  pub part : List ℕ
-  pub unended : HasNoLineFeed part
-  pub kept_of : kept ≡ take 65537 part
-  pub taken : Consumes known left part
-
 -- nothing but bytes without a line feed was read
 pub record IsUnended (known left : Option (List ℕ)) : Type 0 where
   pub part : List ℕ

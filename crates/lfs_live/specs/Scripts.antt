@@ -7,7 +7,7 @@ use Rattle.lfs_script.specs.PlanTypes.{Planned}
 use Rattle.lfs_script.specs.Plans.{lines_of, plan_of}
 use Rattle.lfs_volume.specs.Seen.{Seen}
 use Rattle.lfs_audit.specs.Output.{IsOutput}
-use Rattle.lfs_audit.specs.Scripts.{IsFormatFault, IsFreshLog, log_cleaner}
+use Rattle.lfs_audit.specs.Scripts.{log_cleaner}
 use Rattle.lfs_audit.specs.declared.fault.RunFault.{RunFault}
 use Rattle.lfs_audit.specs.declared.fault.RunFault.TheVariants.{Format}
 use Rattle.lfs_live.specs.Faults.{IsTalkFault}
@@ -15,6 +15,7 @@ use Rattle.lfs_live.specs.Talkers.{Talker, talker_of}
 use Rattle.lfs_live.specs.Talking.{HasHeardSoFar, IsTalk}
 use Rattle.lfs_view.specs.MapText.{map_text}
 use Rattle.lfs_view.specs.SegmentText.{segment_text}
+use Rattle.lfs_server.specs.Fresh.{IsFormatFault, IsFreshLog}
 
 -- the log store, as it is talked to
 abbrev pub log_talker : Talker Parts

@@ -63,15 +63,6 @@ HearsAll {F} r old speaker (line ∷ lines) told new then =
 abbrev pub ended : List (List ℕ) → List ℕ
 ended lines = flat_map ended_line lines
 
--- A volume and who speaks became these by lines that were read, one after another, and what is told of them is written,
--- and nothing else.
-pub record HasHeard {F : Type 0} (r : Talker F) (old new : Seen F) (then : Speaker) (known left start out : Option (List ℕ)) : Type 0 where
-  pub lines : List (List ℕ)
-  pub told : List ℕ
-  pub heard : HearsAll r old first_speaker lines told new then
-  pub taken : Consumes known left (ended lines)
-  pub printed : Appends start out told
-
 -- Lines were read, and what is told of them is written; and a part of a line was read, of which nothing is told.
 pub record HasHeardSoFar {F : Type 0} (r : Talker F) (old new : Seen F) (known left start out : Option (List ℕ)) : Type 0 where
   pub then : Speaker

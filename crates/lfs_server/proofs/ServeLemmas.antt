@@ -1,8 +1,15 @@
 -- Faults of a run on a volume that was laid out for it, and results that are Ok.
-use Rattle.std.proofs.Common.{◌≡◌, ℕ, Result, Ok, Err, IfErr, IfOk, OnOk, sym, subst}
-use Rattle.lfs_server.specs.Serving.{IsFaultOf, IsInRange, IsServeFault}
+use Rattle.std.proofs.Common.{◌≡◌, ℕ, ◌<◌, ◌≤◌, Result, Ok, Err, IfErr, IfOk, OnOk, sym, subst}
+use Rattle.lfs_types.specs.declared.fault.FormatFault.{FormatFault}
+use Rattle.lfs_types.specs.declared.fault.FormatFault.TheVariants.{TooFew, TooMany}
+use Rattle.lfs_types.specs.declared.fault.FormatFault.TheVariants as formats
+use Rattle.lfs_server.specs.Fresh.{IsFormatFault, IsFreshLog}
+use Rattle.lfs_server.specs.Serving.{IsFaultOf, IsInRange, IsServeFault, served_fault}
 use Rattle.lfs_server.specs.declared.serving.ServeFault.{ServeFault}
 use Rattle.lfs_server.specs.declared.serving.ServeFault.TheVariants.{Sessions, Format, Memory, Unsettled, Thread}
+use Rattle.lfs_staging.specs.Opening.{IsOpening}
+use Rattle.lfs_staging.specs.declared.parts.Parts.{Parts}
+use Rattle.lfs_logstore.specs.States.{opening_state, state_of}
 
 serve_fault : (sessions segments inodes frames : ℕ) (fault : ServeFault) → IsInRange segments inodes frames → IsFaultOf sessions fault → IsServeFault sessions segments inodes frames fault
 serve_fault sessions segments inodes frames Sessions ranges p = p
@@ -16,6 +23,13 @@ pub serve_faults : {A : Type 0} (sessions segments inodes frames : ℕ) (result 
 serve_faults sessions segments inodes frames (Ok a) ranges p = tt
 serve_faults sessions segments inodes frames (Err fault) ranges p = serve_fault sessions segments inodes frames fault ranges p
 
+-- a run is not made for a fault of laying out its volume
+pub layout_fault : (sessions segments inodes frames : ℕ) (fault : FormatFault) → (0 < sessions) × (sessions ≤ 8) → IsFormatFault segments inodes frames fault
+    → IsServeFault sessions segments inodes frames (served_fault fault)
+layout_fault sessions segments inodes frames TooFew few p = (p, few.0, few.1)
+layout_fault sessions segments inodes frames TooMany few p = (p, few.0, few.1)
+layout_fault sessions segments inodes frames formats.Memory few p = (few.0, few.1, p)
+
 -- what holds holds where a result is Ok
 pub on_ok : {A E P : Type 0} (result : Result A E) → P → OnOk result P
 on_ok (Ok a) p = p
@@ -24,3 +38,7 @@ on_ok (Err e) p = tt
 -- a result that is Ok is no fault
 pub no_fault : {A E : Type 0} (a : A) (e : E) → Ok a ≡ Err e → ⊥
 no_fault {A} {E} a e eq = subst (λ (r : Result A E). IfOk r (λ _. ⊥)) (sym eq) tt
+
+-- a log that was just laid out is fresh
+pub fresh_log : (segments inodes frames : ℕ) (store : Parts) → state_of store ≡ opening_state segments inodes → IsOpening segments inodes frames store → IsFreshLog segments inodes frames store
+fresh_log segments inodes frames store opening laid_out = record { opening = opening; laid_out = laid_out }

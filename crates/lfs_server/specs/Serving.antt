@@ -1,6 +1,8 @@
 -- Why a run is not handed out.
 use Rattle.std.specs.Prelude.{◌≡◌, ℕ, ◌<◌, ◌≤◌, ◌⊎◌}
+use Rattle.lfs_types.specs.declared.fault.FormatFault.{FormatFault}
 use Rattle.lfs_types.specs.declared.fault.FormatFault.TheVariants.{TooFew, TooMany}
+use Rattle.lfs_types.specs.declared.fault.FormatFault.TheVariants as formats
 use Rattle.lfs_settle.specs.Interleaving.{IsLowestToDiffer, Run}
 use Rattle.lfs_staging.specs.Opening.{IsTooFew, IsTooMany}
 use Rattle.lfs_server.specs.declared.serving.ServeFault.{ServeFault}
@@ -27,12 +29,11 @@ pub record IsInRange (segments inodes frames : ℕ) : Type 0 where
   pub enough : IsTooFew segments inodes frames → ⊥
   pub not_more : IsTooMany segments inodes frames → ⊥
 
--- the fault of laying out a volume with so many segments, inode numbers and frames: Format for numbers out of their ranges
-abbrev pub IsLayoutFault : ℕ → ℕ → ℕ → ServeFault → Type 0
-IsLayoutFault segments inodes frames (Format TooFew) = IsTooFew segments inodes frames
-IsLayoutFault segments inodes frames (Format TooMany) = IsTooMany segments inodes frames
-IsLayoutFault segments inodes frames Memory = IsInRange segments inodes frames
-IsLayoutFault segments inodes frames fault = ⊥
+-- the fault of a run whose volume could not be laid out: Format for numbers out of their ranges
+abbrev pub served_fault : FormatFault → ServeFault
+served_fault TooFew = Format TooFew
+served_fault TooMany = Format TooMany
+served_fault formats.Memory = Memory
 
 -- the fault of a run of so many sessions on a volume that is laid out for it: Sessions as above; else Format for numbers of
 -- segments, inode numbers and frames out of their ranges, and for these alone

@@ -3,6 +3,7 @@
 
 mod cleaner;
 mod doorbell;
+pub mod fresh;
 pub mod gate;
 mod kept;
 mod run;

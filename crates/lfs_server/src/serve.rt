@@ -3,16 +3,15 @@
 ghost use Rattle.std.specs.Prelude.{◌≡◌, ◌≤◌, ◌<◌, IfErr, IfOk, OnOk, vec_len};
 ghost use Rattle.lfs_logstore.specs.States.{shape_of, state_of};
 ghost use Rattle.lfs_settle.specs.Interleaving.{IsInterleaving, run_of};
-ghost use Rattle.lfs_server.specs.Serving.{IsInRange, IsLayoutFault, IsServeFault};
+ghost use Rattle.lfs_server.specs.Serving.{IsInRange, IsServeFault};
 ghost use Rattle.lfs_volume.specs.Journals.{IsJournal};
 
+use crate::fresh::fresh_volume;
 use crate::gate::Gate;
 use crate::serving::{Closed, ServeFault, check_sessions, serve_over};
 use lfs_logstore::LogStore;
-use lfs_types::fault::FormatFault;
 use lfs_types::script::Script;
 use lfs_types::store::Params;
-use lfs_volume::volume::Volume;
 use std::alloc::Global;
 use std::sync::Wait;
 use std::thread::Threads;
@@ -48,20 +47,4 @@ where
     check_sessions(sessions.len())?;
     let volume = fresh_volume(alloc, params)?;
     serve_over(rt, alloc, volume, setup, sessions, gate)
-}
-
-/// A fresh volume over the log store.
-fn fresh_volume(alloc: Global, params: Params) -> Result<Volume<LogStore>, ServeFault>
-    ensures limit { IfOk result (λ volume. volume.limit ≡ params.journal) }
-    ensures shape { IfOk result (λ volume. (state_of volume.store).shape
-        ≡ shape_of params.inodes params.segments) }
-    ensures ranges { OnOk result (IsInRange params.segments params.inodes params.frames) }
-    ensures fault { IfErr result (IsLayoutFault params.segments params.inodes params.frames) }
-{
-    let store = match LogStore::format(alloc, params) {
-        Ok(store) => store,
-        Err(FormatFault::Memory) => return Err(ServeFault::Memory),
-        Err(fault) => return Err(ServeFault::Format(fault)),
-    };
-    Ok(Volume::new(alloc, store, params.journal)?)
 }

@@ -71,6 +71,19 @@ impl<T: Drop> From<AllocFailed<T>> for ServeFault {
     }
 }
 
+impl From<FormatFault> for ServeFault {
+    ghost use Rattle.lfs_server.specs.Serving.{served_fault};
+
+    ghost from_gives = { λ fault served. served ≡ served_fault fault };
+
+    fn from(fault: FormatFault) -> ServeFault {
+        match fault {
+            FormatFault::TooFew | FormatFault::TooMany => ServeFault::Format(fault),
+            FormatFault::Memory => ServeFault::Memory,
+        }
+    }
+}
+
 impl From<AllocError> for ServeFault {
     ghost from_gives = { λ _ fault. fault ≡ Memory };
 

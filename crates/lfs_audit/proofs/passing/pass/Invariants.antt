@@ -1,7 +1,7 @@
 use Rattle.lfs_cleaner.specs.Passing.{calls_left}
 use Rattle.lfs_volume.specs.Cleanings.{cleaner_of}
-use Rattle.lfs_audit.specs.Runs.{IsPassing}
 use Rattle.lfs_audit.proofs.passing.pass.Given as goal
+use Rattle.lfs_audit.proofs.RunLemmas.{IsPassing}
 
 abbrev pub invariant-loop-call : goal.invariant-loop-call
 invariant-loop-call g l =

@@ -1,6 +1,6 @@
 use Rattle.std.proofs.Common.{◌≤◌, length}
-use Rattle.lfs_live.specs.Pieces.{IsPart}
 use Rattle.lfs_live.proofs.line.read_line.Given as goal
+use Rattle.lfs_live.proofs.LineLemmas.{IsPart}
 
 abbrev pub invariant-loop : goal.invariant-loop
 invariant-loop g l = record {

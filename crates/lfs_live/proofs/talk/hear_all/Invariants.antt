@@ -1,7 +1,7 @@
 use Rattle.lfs_volume.specs.Cleanings.{cleaner_of}
 use Rattle.lfs_live.specs.Talkers.{talker_of}
-use Rattle.lfs_live.specs.Talking.{HasHeard}
 use Rattle.lfs_live.proofs.talk.hear_all.Given as goal
+use Rattle.lfs_live.proofs.TalkLemmas.{HasHeard}
 
 abbrev pub invariant-loop : goal.invariant-loop
 invariant-loop g l =

@@ -1,14 +1,16 @@
-use Rattle.std.proofs.Common.{◌≡◌, ℕ, IfOk, rules, subst}
-use Rattle.lfs_types.specs.StoreStates.{Shape}
+use Rattle.std.proofs.Common.{◌≡◌, ℕ, IfOk, ap, rules, subst}
+use Rattle.lfs_types.specs.StoreStates.{Shape, StoreState}
 use Rattle.lfs_logstore.specs.States.{state_of}
-use Rattle.lfs_server.proofs.ServeLemmas.{on_ok, serve_faults}
+use Rattle.lfs_server.proofs.ServeLemmas.{on_ok, serve_faults, layout_fault}
 use Rattle.lfs_server.proofs.serve.serve.Goals as goal
 
 pub returns-in_err-check_sessions-clause-fault : goal.returns-in_err-check_sessions-clause-fault
 returns-in_err-check_sessions-clause-fault g c = search rules
 
 pub returns-in_err-volume-clause-fault : goal.returns-in_err-volume-clause-fault
-returns-in_err-volume-clause-fault g c = search rules
+returns-in_err-volume-clause-fault g c =
+    let p = c.args.params in
+    let fault = layout_fault _ p.segments p.inodes p.frames c.in_err-volume.field-0.0 c.in_ok-check_sessions.ensures.count c.in_err-volume.ensures.fault in search rules
 
 pub returns-clause-fault : goal.returns-clause-fault
 returns-clause-fault g c = serve_faults _ _ _ _ c.serve_over.result c.in_ok-volume.ensures.ranges c.serve_over.ensures.fault
@@ -21,11 +23,11 @@ returns-clause-legal g c = c.serve_over.ensures.legal
 
 pub returns-clause-limit : goal.returns-clause-limit
 returns-clause-limit g c =
-    subst (λ (limit : ℕ). IfOk c.serve_over.result (λ closed. closed.volume.limit ≡ limit)) c.in_ok-volume.ensures.limit c.serve_over.ensures.limit
+    subst (λ (limit : ℕ). IfOk c.serve_over.result (λ closed. closed.volume.limit ≡ limit)) c.in_ok-volume.ensures.fresh.1 c.serve_over.ensures.limit
 
 pub returns-clause-shape : goal.returns-clause-shape
 returns-clause-shape g c =
-    subst (λ (shape : Shape). IfOk c.serve_over.result (λ closed. (state_of closed.volume.store).shape ≡ shape)) c.in_ok-volume.ensures.shape c.serve_over.ensures.shape
+    subst (λ (shape : Shape). IfOk c.serve_over.result (λ closed. (state_of closed.volume.store).shape ≡ shape)) (ap (λ (s : StoreState). s.shape) c.in_ok-volume.ensures.fresh.2.opening) c.serve_over.ensures.shape
 
 pub returns-clause-ranges : goal.returns-clause-ranges
 returns-clause-ranges g c = on_ok c.serve_over.result c.in_ok-volume.ensures.ranges

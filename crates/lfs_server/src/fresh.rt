@@ -1,0 +1,26 @@
+//! A fresh volume over the log store.
+
+ghost use Rattle.std.specs.Prelude.{◌≡◌, [], IfErr, IfOk, OnOk};
+ghost use Rattle.lfs_server.specs.Fresh.{IsFormatFault, IsFreshLog};
+ghost use Rattle.lfs_server.specs.Serving.{IsInRange};
+
+use lfs_logstore::LogStore;
+use lfs_types::fault::FormatFault;
+use lfs_types::store::Params;
+use lfs_volume::volume::Volume;
+use std::alloc::Global;
+
+/// A fresh volume over the log store: the opening tree, and no entries.
+///
+/// # Errors
+///
+/// `TooFew` and `TooMany` for numbers out of their ranges; `Memory` where a growth was refused.
+pub fn fresh_volume(alloc: Global, params: Params) -> Result<Volume<LogStore>, FormatFault>
+    ensures fresh { IfOk result (λ volume. (volume.journal ≡ []) × (volume.limit ≡ params.journal)
+        × IsFreshLog params.segments params.inodes params.frames volume.store) }
+    ensures ranges { OnOk result (IsInRange params.segments params.inodes params.frames) }
+    ensures fault { IfErr result (IsFormatFault params.segments params.inodes params.frames) }
+{
+    let store = LogStore::format(alloc, params)?;
+    Ok(Volume::new(alloc, store, params.journal)?)
+}
