@@ -6,6 +6,7 @@ use crate::store::{SESSION, log_volume};
 use crate::timing::{make_tree, time_answers, time_calls};
 use anyhow::{Result, bail};
 use lfs_server::pass::Pass;
+use lfs_settle::entries::CLEANER;
 use lfs_types::answer::Answer;
 use lfs_types::cleaned::CleanedStore;
 use lfs_types::cred::Cred;
@@ -21,9 +22,6 @@ const FEW: u32 = 3;
 
 /// How many calls a pass may make.
 const PASS_CALLS: u32 = 105;
-
-/// The session by which the cleaner's calls are entered.
-const CLEANER: u8 = 9;
 
 /// How calls are timed.
 #[derive(Clone, Copy)]
