@@ -19,7 +19,7 @@ use std::io::{Read, Write};
 ///
 /// # Errors
 ///
-/// `Format` and `Memory` where the volume is not made; else those of `talk`.
+/// `Format` where the volume is not made; else those of `talk`.
 pub fn run_lines<R: Read, W: Write>(
     alloc: Global,
     reader: &mut R,
