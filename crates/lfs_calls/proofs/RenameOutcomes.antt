@@ -20,7 +20,7 @@ use Rattle.lfs_model.specs.Steps.{after_answer}
 use Rattle.lfs_model.proofs.Allowed.{may_go}
 use Rattle.lfs_model.proofs.Children.{child-answer}
 use Rattle.lfs_model.proofs.Deciding.{passes-append}
-use Rattle.lfs_model.proofs.LawTree.{childless, effect_tree}
+use Rattle.lfs_model.proofs.EffectTree.{childless, effect_tree}
 use Rattle.lfs_types.specs.Stored.{MayRefuse}
 use Rattle.lfs_types.specs.declared.store.StoreRefusal.{StoreRefusal}
 use Rattle.lfs_types.specs.declared.store.StoreRefusal.TheVariants.{NoSpace, NoMemory}

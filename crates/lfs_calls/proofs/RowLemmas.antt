@@ -28,7 +28,7 @@ use Rattle.lfs_model.proofs.Children.{child-is, child-none, child-answer}
 use Rattle.lfs_calls.proofs.Crowded.{listed-le-children}
 use Rattle.lfs_model.proofs.Deciding.{failing-front, failing-behind, met_first}
 use Rattle.lfs_calls.proofs.Directories.{bytes_listing}
-use Rattle.lfs_model.proofs.LawTree.{childless}
+use Rattle.lfs_model.proofs.EffectTree.{childless}
 use Rattle.lfs_model.proofs.Members.{children-hang}
 use Rattle.lfs_model.proofs.Shrunk.{IsTree-shrunk}
 use Rattle.lfs_calls.proofs.StepLemmas.{shown_file, attrs_reads, directory_reads, child_listed}

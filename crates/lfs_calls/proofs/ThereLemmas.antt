@@ -10,7 +10,7 @@ use Rattle.lfs_types.specs.declared.rule.Rule.TheVariants.{IsEmpty}
 use Rattle.lfs_model.specs.World.{children, IsTree}
 use Rattle.lfs_model.specs.Rules.{Check, asks, attrs_at, entering_tests, first_failing, judged, placing_tests, removing_tests, replaced_tests}
 use Rattle.lfs_model.proofs.Deciding.{failing-front, failing-behind, judged_all, judged_none}
-use Rattle.lfs_model.proofs.ServedLemmas.{childless}
+use Rattle.lfs_model.proofs.Members.{children-none}
 use Rattle.lfs_model.proofs.Trees.{no_parent}
 use Rattle.lfs_checks.specs.Parts.{kind_tests}
 use Rattle.lfs_calls.specs.Content.{Shows}
@@ -76,4 +76,4 @@ module _ (c : Content) (w : World) (shows : Shows c w) (tree : IsTree w.rows) (c
 
     -- a file has no children
     pub file_empty : is_directory_kind b.kind ≡ false → (length (children w.rows m) == 0) ≡ true
-    file_empty regular = childless w.rows caller tree m (no_parent w.rows tree m (directory_reads c w shows m b shown ∙ regular))
+    file_empty regular = children-none w.rows m (no_parent w.rows tree m (directory_reads c w shows m b shown ∙ regular))

@@ -10,8 +10,6 @@ use Rattle.lfs_types.specs.Tree.{Row, root, attrs_of}
 use Rattle.lfs_types.specs.declared.attrs.Attrs.{Attrs}
 use Rattle.lfs_types.specs.declared.attrs.Bit.{Bit}
 use Rattle.lfs_types.specs.declared.attrs.Bit.TheVariants as bits
-use Rattle.lfs_types.specs.declared.attrs.Kind.{Kind}
-use Rattle.lfs_types.specs.declared.attrs.Kind.TheVariants.{File as Regular, Directory}
 use Rattle.lfs_types.specs.declared.rule.Denial.{Denial}
 use Rattle.lfs_rules.specs.Grants.{grants_of}
 use Rattle.lfs_rules.specs.Locks.{is_immutable, is_append_only}
@@ -136,15 +134,6 @@ may_change rows caller path appends more h =
     let d = met_first _ _ _ c.1 in
     record { walks = walks.0; regular = not-true _ a.0; mutable = not-true _ b.0; granted = c.0; keeps = d.0 }
 
--- and none of the others fails
-pub fits_last : (rows : Rows) (caller : Caller) (path : List (List ℕ)) (appends : Bool) (more : Attrs → ℕ → List Check)
-    → first_failing (reaching rows caller path (λ attrs k. change_tests caller appends attrs k ++ more attrs k)) ≡ None
-    → first_failing (more (attrs_at rows (reached rows root path)) (length path)) ≡ None
-fits_last rows caller path appends more h =
-    let behind = (passes-append (walk rows caller 0 0 root path) _ h).1 in
-    let attrs = attrs_at rows (reached rows root path) in
-    (passes-append (change_tests caller appends attrs (length path)) (more attrs (length path)) behind).1
-
 -- a call may make a row
 pub record MayMake (rows : Rows) (caller : Caller) (names : List (List ℕ)) : Type 0 where
   pub filled : (length names == 0) ≡ false
@@ -240,15 +229,6 @@ may_arrive rows tree caller names h =
       searches = grants_attrs caller bits.Search _ there ∙ b.0;
     }
 
--- a walk whose tests are met is one of the other path too
-pub walk_of_path : (rows : Rows) (caller : Caller) (path other k at : ℕ) (names : List (List ℕ)) → first_failing (walk rows caller path k at names) ≡ None → first_failing (walk rows caller other k at names) ≡ None
-walk_of_path rows caller path other k at [] h = refl
-walk_of_path rows caller path other k at (name ∷ names) h =
-    let a = met_first (is_directory_row (map.get rows at)) _ _ h in
-    let b = met_first (row_grants caller bits.Search (map.get rows at)) _ _ a.1 in
-    let c = met_first (is_some (child rows at name)) _ _ b.1 in
-    cond-true _ _ _ a.0 ∙ cond-true _ _ _ b.0 ∙ cond-true _ _ _ c.0 ∙ walk_of_path rows caller path other (k + 1) (next rows at name) names c.1
-
 -- a directory may get a name
 pub record MayGetName (rows : Rows) (caller : Caller) (dir : ℕ) : Type 0 where
   pub mutable : is_immutable (attrs_at rows dir) ≡ false
@@ -320,31 +300,3 @@ may_go_unless rows caller from to there false e h = may_go_placed rows caller fr
 pub may_go : (rows : Rows) (caller : Caller) (from to : List (List ℕ)) (there : Option ℕ) → is_there (reached rows root from) there ≡ false
     → first_failing (moving_tests rows caller from to there) ≡ None → MayGo rows caller from to there
 may_go rows caller from to there other h = may_go_unless rows caller from to there (is_there (reached rows root from) there) other h
-
--- a row that is replaced may be taken away as by a call of its own
-pub may_be_replaced : (rows : Rows) → IsTree rows → (caller : Caller) (from to : List (List ℕ)) (m : ℕ) → MayArrive rows caller to → MayGo rows caller from to (Some m)
-    → child rows (reached rows root (front to)) (last to) ≡ Some m → (reached rows root to ≡ m) × MayRemove rows caller to
-may_be_replaced rows tree caller from to m arrives goes is =
-    let here : reached rows root to ≡ m = reached_last rows root to arrives.filled ∙ ap (λ o. unwrap_or o 0) is in
-    let way = goes.gives m refl in
-    let dir = directory_row_there _ arrives.directory in (
-      here,
-      record {
-        walks = walk_of_path rows caller 1 0 0 root (front to) arrives.walks;
-        searches = arrives.searches;
-        dir_mutable = goes.enters.mutable;
-        dir_rewritable = way.dir_rewritable;
-        hangs = child-is rows _ (last to) (reached rows root to) (is ∙ ap Some (sym here));
-        granted = grants_attrs caller bits.Write _ dir ∙ goes.enters.granted;
-        unbarred = subst (λ n. is_barred caller (attrs_at rows (reached rows root (front to))) (attrs_at rows n) ≡ false) (sym here) way.unbarred;
-        mutable = subst (λ n. is_immutable (attrs_at rows n) ≡ false) (sym here) way.mutable;
-        rewritable = subst (λ n. is_append_only (attrs_at rows n) ≡ false) (sym here) way.rewritable;
-      },
-    )
-
--- they are of one kind
-pub same_kinds : (k l : Kind) → (not (is_directory_kind k) || is_directory_kind l) ≡ true → (is_directory_kind k || not (is_directory_kind l)) ≡ true → k ≡ l
-same_kinds Regular Regular h g = refl
-same_kinds Regular Directory h g = absurd (cc)
-same_kinds Directory Regular h g = absurd (cc)
-same_kinds Directory Directory h g = refl

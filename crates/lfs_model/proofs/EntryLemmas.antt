@@ -7,7 +7,6 @@ use Rattle.lfs_types.specs.declared.request.Request.TheVariants.{Sync}
 use Rattle.lfs_model.specs.declared.journal.Entry.{Entry}
 use Rattle.lfs_model.specs.declared.journal.Event.{Event}
 use Rattle.lfs_model.specs.declared.journal.Event.TheVariants.{User, Cleaner}
-use Rattle.lfs_model.specs.LawsRuns.{UsersAlone}
 use Rattle.lfs_model.specs.Runs.{journaled, users_alone, users_event}
 use Rattle.lfs_model.specs.Steps.{IsEvent, IsLegal, after_event, world_after}
 
@@ -26,7 +25,8 @@ left_out numbers segments session caller (User request (Refused resource)) entri
 left_out numbers segments session caller (User request answer) entries w is rest = ((is, rest.0), rest.1)
 left_out numbers segments session caller (Cleaner kind outcome) entries w is rest = rest
 
-pub users_alone_law : UsersAlone
+pub users_alone_law : (numbers segments : ℕ) (entries : List Entry) (w : World) → IsLegal numbers segments entries w
+    → IsLegal numbers segments (users_alone entries) w × (world_after numbers (users_alone entries) w ≡ world_after numbers entries w)
 users_alone_law numbers segments [] w legal = (tt, refl)
 users_alone_law numbers segments (e ∷ entries) w legal =
     left_out numbers segments e.session e.cred e.event entries w legal.0

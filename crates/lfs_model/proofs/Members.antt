@@ -37,6 +37,11 @@ Contains-from_map f xs d y c =
     let within : c.0 < length xs = omega (arith, length-map xs f, c.1) in
     (get_or xs c.0 d, Contains-get_or xs c.0 d within, sym (get_or-map f xs c.0 d y within) ∙ c.2)
 
+-- a list that contains nothing has no elements
+no_element : (ns : List ℕ) → ((n : ℕ) → Contains ns n → ⊥) → length ns ≡ 0
+no_element [] none = refl
+no_element (n ∷ ns) none = absurd (none n (0, omega arith, refl))
+
 -- ---- the keys of a map rise
 
 true_from : (b : Bool) → T b → b ≡ true
@@ -82,6 +87,10 @@ module _ (rows : Rows) (parent : ℕ) where
   children-hang n c =
       let test = λ (m : ℕ). hangs_in parent m (map.get rows m) in
       hanging_in rows parent n (map.get rows n) refl (All-contains (λ m. test m ≡ true) (children rows parent) n (filter_passes test (map.keys rows)) c)
+
+  -- a row in which nothing hangs has no children
+  pub children-none : ((name : List ℕ) (n : ℕ) → IsChild rows parent name n → ⊥) → (length (children rows parent) == 0) ≡ true
+  children-none none = eq-eqb _ 0 (no_element (children rows parent) (λ n c. none _ n (children-hang n c)))
 
   -- its rows are listed by number
   pub children-sorted : IsStrictlySortedBy nat_cmp (children rows parent)

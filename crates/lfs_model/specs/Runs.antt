@@ -109,16 +109,6 @@ abbrev pub users_alone : List Entry → List Entry
 users_alone [] = []
 users_alone (entry ∷ entries) = journaled entry.session entry.cred (users_event entry.event) ++ users_alone entries
 
--- the user's call of an event of a session, if it is one
-abbrev pub call_of : ℕ → Caller → Event → List Call
-call_of session caller (User request answer) = record { session = session; cred = caller; request = request } ∷ []
-call_of session caller (Cleaner kind outcome) = []
-
--- the users' calls of entries, in order
-abbrev pub calls_of : List Entry → List Call
-calls_of [] = []
-calls_of (entry ∷ entries) = call_of entry.session entry.cred entry.event ++ calls_of entries
-
 -- ---- clean segments
 
 -- how many segments an event makes clean

@@ -1,8 +1,6 @@
-//! What a server may answer, what a call does to the tree, and the laws that hold of every run: definitions without a
-//! store.
+//! What a server may answer, and what a call does to the tree: definitions without a store, and the journal's entries.
 #![tactic(auto)]
 
 pub mod counts;
 pub mod journal;
-pub mod laws;
 pub mod steps;

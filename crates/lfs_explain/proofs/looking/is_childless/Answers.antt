@@ -1,18 +1,14 @@
-use Rattle.std.proofs.Common.{[], false, sym, ◌∙◌}
-use Rattle.lfs_types.specs.Caller.{Caller}
-use Rattle.lfs_model.proofs.ServedLemmas.{childless}
+use Rattle.std.proofs.Common.{false, sym, ◌∙◌}
+use Rattle.lfs_model.proofs.Members.{children-none}
 use Rattle.lfs_model.proofs.Trees.{no_parent}
 use Rattle.lfs_calls.proofs.Directories.{dir_stored}
 use Rattle.lfs_calls.proofs.RowLemmas.{directory_empty}
 use Rattle.lfs_calls.proofs.StepLemmas.{directory_reads}
 use Rattle.lfs_explain.proofs.looking.is_childless.Goals as goal
 
-anyone : Caller
-anyone = record { uid = 0; groups = []; init = false }
-
 pub returns-then-not-is_directory-clause-childless : goal.returns-then-not-is_directory-clause-childless
 returns-then-not-is_directory-clause-childless g c w v =
-    sym (childless w.rows anyone v.tree c.args.number
+    sym (children-none w.rows c.args.number
     (no_parent w.rows v.tree c.args.number
     (directory_reads (g.F.FileStore.state c.args.tree.now).content w v.shows c.args.number c.in-Some.attrs c.in-Some.ensures ∙ sym c.if-not-is_directory.ensures)))
 

@@ -1,0 +1,262 @@
+//! Laws of the rules: what holds of every call and of every list of calls, whatever the store. Each function does
+//! nothing, and its contract is a law.
+//!
+//! `served_exactly_where_he_may` says which calls are allowed, and `done` what a served call does. `gone` to `one_thing`
+//! say that nothing else comes of it: they begin with what changed, and say which call changed it and by what right. So
+//! only `new` says all of the row that a Create or a Mkdir makes, and only `rewritten` the bytes of a file that a Write or
+//! a SetLength doesn't bring.
+
+ghost use Rattle.lfs_laws.specs.LawBetween.{BytesBetween, PlaceBetween};
+ghost use Rattle.lfs_laws.specs.LawBrought.{DecidesAlike};
+ghost use Rattle.lfs_laws.specs.LawDenied.{TellsLittle};
+ghost use Rattle.lfs_laws.specs.LawDone.{Done};
+ghost use Rattle.lfs_laws.specs.LawDoor.{ClosedDoor};
+ghost use Rattle.lfs_laws.specs.LawEach.{EachEntry};
+ghost use Rattle.lfs_laws.specs.LawFlagged.{Reflagged};
+ghost use Rattle.lfs_laws.specs.LawGone.{Gone};
+ghost use Rattle.lfs_laws.specs.LawHidden.{HidesFromCall, HidesFromRun};
+ghost use Rattle.lfs_laws.specs.LawLevel.{Relevelled};
+ghost use Rattle.lfs_laws.specs.LawLocked.{NamesStay, NoNameComes};
+ghost use Rattle.lfs_laws.specs.LawMode.{Remoded};
+ghost use Rattle.lfs_laws.specs.LawMoved.{Moved};
+ghost use Rattle.lfs_laws.specs.LawNew.{New};
+ghost use Rattle.lfs_laws.specs.LawOneThing.{OneThing};
+ghost use Rattle.lfs_laws.specs.LawOwner.{Given};
+ghost use Rattle.lfs_laws.specs.LawPath.{GuardedIsLeft, PathStays};
+ghost use Rattle.lfs_laws.specs.LawRegranted.{RightBetween};
+ghost use Rattle.lfs_laws.specs.LawRewritten.{Rewritten};
+ghost use Rattle.lfs_laws.specs.LawServed.{ServedExactlyWhereMay};
+ghost use Rattle.lfs_laws.specs.LawShown.{Shown};
+ghost use Rattle.lfs_laws.specs.LawTrees.{LeavesTree};
+ghost use Rattle.lfs_laws.specs.LawUnread.{NobodyReads};
+ghost use Rattle.lfs_laws.specs.LawView.{View};
+ghost use Rattle.lfs_laws.specs.LawsBytes.{LastWritten};
+ghost use Rattle.lfs_laws.specs.LawsFlags.{ImmutableStays, AppendOnlyGrows, SystemImmutableStays, SystemAppendOnlyGrows};
+ghost use Rattle.lfs_laws.specs.LawsRuns.{SameAnswers, UsersAlone};
+ghost use Rattle.lfs_laws.specs.Rights.{EachCall};
+
+/// A call is allowed exactly where its caller may make it: each of its paths leads to a row, or to a place for a name, which
+/// he reaches and may read, write, own, take away or place as the call needs; what has the place that a Rename gives, and
+/// isn't the row itself, is of its kind, and he may take it away too; the bytes of a Write or the length of a SetLength are
+/// within the limit, a directory that is removed or replaced is empty, one that is moved goes neither into itself nor
+/// beneath, and only init lowers the level. Whoever may is denied by no rule; whoever may not, by one.
+pub fn served_exactly_where_he_may()
+    ensures { ServedExactlyWhereMay }
+{}
+
+/// A served call did what it asks: its bytes stand at their place, the file has its length, the new row hangs where the path
+/// leads, the removed one is gone, the moved one hangs at the second path and what else hung there is gone, mode, owner, group,
+/// flags and level are the call's; another than user 0 who writes, cuts or gives leaves no set-id bits, also where nothing
+/// else changes.
+pub fn done()
+    ensures { EachCall Done }
+{}
+
+/// A file or a directory is gone only by the Unlink of a file or the Rmdir of an empty directory, at the call's path, or
+/// by a Rename onto its path of another row of its kind, which then hangs in its place; of a directory only where it is
+/// empty. The caller may take it away: he reaches it and may write its parent, neither of them fixed by a flag, and is
+/// user 0 or the owner of one of the two where the parent is sticky.
+pub fn gone()
+    ensures { EachCall Gone }
+{}
+
+/// A new row is made by a Create or a Mkdir, at the call's path, of a caller who may place it there. Its number is the
+/// least from 4 up that no row has, its owner the caller, its group the parent's; it has the call's mode, no flags and no
+/// bytes.
+pub fn new()
+    ensures { EachCall New }
+{}
+
+/// A row gets another parent or another name only by a Rename from its path, of a caller who may take it away and may
+/// place it where the call says: what has the place, if anything, is of the row's kind, has nothing in it, and may be taken
+/// away by the caller. A directory that gets another parent grants the caller write.
+pub fn moved()
+    ensures { EachCall Moved }
+{}
+
+/// The bytes of a file change only by a Write or a SetLength at its path, of a caller who may write it. They are then as
+/// many as the call says, and no more than a file may have, if it didn't have more before; each is the one that the call
+/// brings there, else the old one, else 0. An append-only file changes only by a Write to its end, and keeps its bytes,
+/// followed by just those that the call brings.
+pub fn rewritten()
+    ensures { EachCall Rewritten }
+{}
+
+/// A mode changes only by a Chmod at the row's path, of its owner or user 0 who reaches it, where no flag fixes it; or it
+/// loses just its set-id bits by a call of another than user 0 at the row's path: a Chown of whoever owns the row so, or
+/// a Write or a SetLength of whoever may write the file; of an append-only file only a Write to its end.
+pub fn remoded()
+    ensures { EachCall Remoded }
+{}
+
+/// An owner or a group changes only by a Chown at the row's path, where no flag fixes it, of user 0 or of the owner, who
+/// keeps the owner and gives one of his groups.
+pub fn given()
+    ensures { EachCall Given }
+{}
+
+/// Flags change only by a Chflags at the row's path, of its owner or user 0 who reaches it. The system's flags, and all
+/// flags of what is locked by them, change only by user 0; above level 0 no lock of the system is turned off.
+pub fn reflagged()
+    ensures { EachCall Reflagged }
+{}
+
+/// The securelevel changes only by a SetLevel of user 0 to the call's level, and falls only by init.
+pub fn relevelled()
+    ensures { EachCall Relevelled }
+{}
+
+/// A call changes one thing at most: one row, or the securelevel; a Rename two rows where the one at its first path gets the
+/// place of the one at its second, which is gone. Of a row that stays a call changes only its bytes, or its parent and name,
+/// or its mode, or its owner and group, or its flags; set-id bits may go with bytes, owner or group. A Stat, a Read, a List,
+/// a Sync, and a call that isn't served change nothing.
+pub fn one_thing()
+    ensures { EachCall OneThing }
+{}
+
+/// A denial is true and tells little. Every row on the path before its component is a directory that grants the caller
+/// search, and of the row there it says that its rule is broken:
+///
+/// - N1: it is a file. S1: it is a directory that doesn't grant him search. N2: it isn't there.
+/// - N3: the path ends there. K3: so, at the root. K1: at a directory. K2: at one in which something hangs.
+/// - K4: it is the row that is moved, and the path goes on.
+/// - F1: it is immutable. F2: it is append-only. M1: it doesn't grant him read. M2: it doesn't grant him write.
+/// - Y1: its parent is sticky, and he is neither user 0 nor the owner of one of the two.
+/// - O1: he is neither user 0 nor its owner. O2: nor an owner who keeps the owner, and the group or gives one of his own.
+/// - L1: he isn't user 0, and the call changes system flags, or flags beside a system lock. L2: the level is above 0, and
+///   the call turns off a system lock. Z1: the file would pass its limit.
+///
+/// A denial of a SetLevel tells of no path: he isn't user 0 (U1), or isn't init and the level would fall (L3).
+pub fn tells_little()
+    ensures { TellsLittle }
+{}
+
+/// Two calls of a caller are decided alike that differ only in the mode; in bytes, places and lengths, both at the end or
+/// both at a place, both within or both past the limit; in a Read's offset and length; in user flags; or in the group of
+/// a Chown, both the caller's groups.
+pub fn decides_alike()
+    ensures { DecidesAlike }
+{}
+
+/// Two trees in which a caller has the same view of a call decide it alike, and where they allow it, answer it alike. The
+/// view is the level; along each path of the call what a Stat shows of each row, or that none is there, up to and
+/// including the first that is no directory which grants him search; and for a Read or a List of a row that he reaches
+/// and that grants him read, its bytes or its children's names. One thing more an Rmdir and a Rename tell: whether the
+/// directory that they would remove is empty. This says nothing of refusals for want of a resource, nor of the number of a
+/// new row.
+pub fn same_view()
+    ensures { View }
+{}
+
+/// Each call leaves a tree where it found one.
+pub fn leaves_tree()
+    ensures { EachCall LeavesTree }
+{}
+
+/// A Stat, a Read or a List shows the row at the call's path, which the caller reaches: a Stat its attributes, a Read
+/// bytes of a file that grants the caller read, a List exactly the names in a directory that grants him read, each once,
+/// in byte order. No other call shows anything.
+pub fn shown()
+    ensures { EachCall Shown }
+{}
+
+/// Through each legal list of entries from a fresh volume's tree each entry may happen where it stands; before and after
+/// it there is a tree in which no file is longer than a file may be. A user's call that was served, or refused for a
+/// resource, he might make, one that was denied he might not; it meets each of the laws of what one call does, changes and
+/// shows. A cleaner's call changes nothing.
+pub fn each_entry()
+    ensures { EachEntry }
+{}
+
+/// Where a row has other bytes, or hangs elsewhere or under another name, at a later point of a run, a call in between was
+/// served that changed its bytes, or its place, and whose caller might do so then; or one that removed the row, of a
+/// caller who might remove it.
+pub fn changed_between()
+    ensures bytes { BytesBetween }
+    ensures place { PlaceBetween }
+{}
+
+/// The users' entries alone, without the cleaner's, the Syncs and those refused for a resource, are a legal list of
+/// calls that leads to the same tree: neither the cleaner nor a refusal makes a difference to any answer.
+pub fn users_alone()
+    ensures { UsersAlone }
+{}
+
+/// Leaving out the cleaner's calls changes no answer. Two legal lists of entries from one tree whose users' entries alone
+/// make the same calls, by the same sessions and credentials and in the same order, have the same answers to them and lead
+/// to the same tree, whatever the cleaner did in between.
+pub fn same_answers()
+    ensures { SameAnswers }
+{}
+
+/// Whoever isn't granted to read a file learns nothing of its bytes but how many they are: with other bytes in it, each
+/// answer that a call of his may have it may have still, NoInodes, DirectoryFull and NoSpace among them.
+pub fn nobody_reads()
+    ensures { NobodyReads }
+{}
+
+/// Each byte of a file is what the last call that set it made of it: a Write that covers the byte puts its own there;
+/// a SetLength to at most the byte's place and the Create of the file make it 0.
+pub fn last_written()
+    ensures { LastWritten }
+{}
+
+/// An immutable file or directory stays in its directory with its name, its bytes and its attributes, whatever is
+/// called, until its flags are set.
+pub fn immutable_stays()
+    ensures { ImmutableStays }
+{}
+
+/// An append-only file stays in its directory with its name, its owner, its group and, but for the set-id bits, its mode;
+/// its bytes stay in front of those that it gets, and its size never falls, whatever is called, until its flags are set.
+pub fn append_only_grows()
+    ensures { AppendOnlyGrows }
+{}
+
+/// Above level 0 nothing turns SF_IMMUTABLE or SF_APPEND off: what has the one keeps it and all but its other flags,
+/// and what has the other keeps it and only grows, whatever is called, until init lets the level fall to 0 or below.
+pub fn system_locks_stay()
+    ensures immutable { SystemImmutableStays }
+    ensures append_only { SystemAppendOnlyGrows }
+{}
+
+/// Where a row grants a user something at a later point of a run that it didn't grant, or no longer what it did, its owner then
+/// or user 0 set its mode, or gave it, in between; or it was removed, by a caller who might.
+pub fn regranted_between()
+    ensures { RightBetween }
+{}
+
+/// What hangs in an immutable or an append-only directory hangs there under its name, and in an immutable one nothing else,
+/// whatever is called, until the directory's flags are set.
+pub fn locked_names_stay()
+    ensures stay { NamesStay }
+    ensures come { NoNameComes }
+{}
+
+/// What stands beneath a directory stays as it is through any calls of users whom the directory doesn't grant search and who
+/// don't own it, whatever they and the cleaner do.
+pub fn closed_door()
+    ensures { ClosedDoor }
+{}
+
+/// What stands beneath a directory makes no difference to users whom the directory doesn't grant search. Two trees that differ
+/// only there decide each call of theirs alike, but that a Rmdir of the directory itself and a Rename onto it tell whether it
+/// is empty; and where they allow it, they answer it alike. Where none of them owns the directory, this holds through each run:
+/// the answers that may come from the one tree may come from the other, refusals for a resource among them. If one of them lists
+/// the directory, which grants him read, the same names must hang in it. If one would take it away, and no rule before K2 denies
+/// that, it must be empty in both trees or in neither. If one is allowed to make a row, the same numbers must be in use: they are
+/// no secret, since a new row gets the least that no row has, wherever the others hang.
+pub fn closed_door_hides()
+    ensures call { HidesFromCall }
+    ensures run { HidesFromRun }
+{}
+
+/// A path stays as it is through any calls of users who own no row on it and may take none away, as the rows are before the
+/// first call: it leads through the same rows, in the same places and with the same kinds, owners, groups, modes and flags, and
+/// a walk along it asks the same of everybody. Only a file at its end may get other bytes, and lose its set-id bits with them.
+/// He may not take a row away whose directory grants him no write or no search, is immutable, append-only, or sticky and not
+/// his, nor one that is itself immutable or append-only. An owner is as harmless as others where the system locks his row.
+pub fn path_stays()
+    ensures stays { PathStays }
+    ensures guarded { GuardedIsLeft }
+{}

@@ -1,5 +1,0 @@
-use Rattle.lfs_model.proofs.DoorLemmas.{closed_door}
-use Rattle.lfs_model.proofs.laws.closed_door.Goals as goal
-
-pub returns : goal.returns
-returns c = closed_door

@@ -1,5 +1,0 @@
-use Rattle.lfs_model.proofs.EachLemmas.{each_entry}
-use Rattle.lfs_model.proofs.laws.each_entry.Goals as goal
-
-pub returns : goal.returns
-returns c = each_entry

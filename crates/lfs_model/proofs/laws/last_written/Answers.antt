@@ -1,6 +1,0 @@
--- Answers for the proof of last_written.
-use Rattle.lfs_model.proofs.LawBytes.{last_written}
-use Rattle.lfs_model.proofs.laws.last_written.Goals as goal
-
-pub returns : goal.returns
-returns c = last_written

@@ -1,5 +1,0 @@
-use Rattle.lfs_model.proofs.LockedLemmas.{names_stay, no_name_comes}
-use Rattle.lfs_model.proofs.laws.locked_names_stay.Goals as goal
-
-pub returns : goal.returns
-returns c = record { stay = names_stay; come = no_name_comes }

@@ -1,5 +1,0 @@
-use Rattle.lfs_model.proofs.RegrantLemmas.{right_between}
-use Rattle.lfs_model.proofs.laws.regranted_between.Goals as goal
-
-pub returns : goal.returns
-returns c = right_between

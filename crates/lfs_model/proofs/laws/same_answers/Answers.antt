@@ -1,5 +1,0 @@
-use Rattle.lfs_model.proofs.AnswerLemmas.{same_answers_law}
-use Rattle.lfs_model.proofs.laws.same_answers.Goals as goal
-
-pub returns : goal.returns
-returns c = same_answers_law

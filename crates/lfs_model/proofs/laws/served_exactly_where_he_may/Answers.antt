@@ -1,5 +1,0 @@
-use Rattle.lfs_model.proofs.MayLemmas.{served_exactly}
-use Rattle.lfs_model.proofs.laws.served_exactly_where_he_may.Goals as goal
-
-pub returns : goal.returns
-returns c = served_exactly

@@ -1,6 +1,0 @@
--- Answers for the proof of system_locks_stay.
-use Rattle.lfs_model.proofs.LawFlags.{system_immutable_stays, system_append_only_grows}
-use Rattle.lfs_model.proofs.laws.system_locks_stay.Goals as goal
-
-pub returns : goal.returns
-returns c = record { immutable = system_immutable_stays; append_only = system_append_only_grows }
