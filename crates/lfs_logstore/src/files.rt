@@ -52,6 +52,8 @@ impl FileStore for LogStore {
         requires { CanApply (state_of self.old).shape.numbers changes.now (state_of self.old).content }
         ensures applies { Applies (state_of self.old) changes.now result (state_of self.new) }
         ensures made { OnOk result (MakesChanges changes.now self.old self.new) }
+        // There was room, as the log stood.
+        ensures fits { OnOk result (HasRoomFor changes.now self.old) }
         ensures refused { OnErr result (self.new ≡ self.old) }
         // There is no room, as the log stands.
         ensures lacking { OnErr result (HasRoomFor changes.now self.old → ⊥) }

@@ -317,6 +317,9 @@ makes_changes changes old a b had has few most way stages =
             opened = omega arith;
             enough = λ _. clean;
             delayed = λ _. from.log;
+            between = a;
+            way = way;
+            stages = stages;
           }
       | inr written ↦
           let w = written.1 in
@@ -351,5 +354,8 @@ makes_changes changes old a b had has few most way stages =
               | inr opened ↦ let short = opened.2 in absurd (omega arith)
             ];
             delayed = λ no. absurd (false≢true (sym no ∙ written.0));
+            between = a;
+            way = way;
+            stages = stages;
           }
     ]

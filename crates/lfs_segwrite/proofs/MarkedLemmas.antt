@@ -1,6 +1,7 @@
 -- Blocks that were staged with what they had were written again.
-use Rattle.std.proofs.Common.{◌≡◌, ◌≢◌, ◌⊎◌, ℕ, ◌+◌, ◌*◌, ◌/◌, ◌<◌, ◌≤◌, List, All, get_or, length, refl, sym, ap, ◌∙◌, subst, inl, inr, arith}
-use Rattle.std.specs.Prelude.{if◌then◌else◌, ◌==◌, slice_index_or}
+use Rattle.std.proofs.Common.{◌≡◌, ◌≢◌, ◌⊎◌, ℕ, zero, suc, ◌+◌, ◌*◌, ◌/◌, ◌<◌, ◌≤◌, List, All, get_or, length, refl, sym, ap, ◌∙◌, subst, inl, inr, arith}
+use Rattle.std.specs.Prelude.{Contains, if◌then◌else◌, ◌==◌, slice_index_or}
+use Rattle.std.specs.List.{flat_map}
 use Rattle.std.proofs.lemmas.Bool.{cases_eq, cases_lt, cond-true, cond-false, eq-eqb, ne_eqb}
 use Rattle.lfs_types.specs.declared.cleaner.BlockInfo.{BlockInfo}
 use Rattle.lfs_ifile.specs.declared.inode.InodeRow.{InodeRow}
@@ -22,10 +23,10 @@ use Rattle.lfs_segwrite.specs.Collecting.{blocks_of_entries, entries_of}
 use Rattle.lfs_staging.specs.Files.{content_of}
 use Rattle.lfs_segwrite.specs.Flushing.{Flushes, Waits}
 use Rattle.lfs_staging.specs.Keys.{log_state}
-use Rattle.lfs_segwrite.specs.Marking.{AreNamed, HasRoomToMark, IsRewritten, MarksAgain, MarksSettled, SameShown, StagesNamed, blocks_to_mark, code_named}
+use Rattle.lfs_segwrite.specs.Marking.{AreNamed, HasRoomToMark, IsOnWay, IsRewritten, MarksAgain, MarksSettled, SameShown, StagesNamed, blocks_to_mark, code_named, keys_to_mark}
 use Rattle.lfs_segwrite.specs.Room.{KeepsFiles}
 use Rattle.lfs_staging.specs.Store.{IsSettled, IsStore}
-use Rattle.lfs_staging.specs.View.{version_of}
+use Rattle.lfs_staging.specs.View.{key_of, version_of}
 use Rattle.lfs_segwrite.proofs.CollectingLemmas.{entries_of-length}
 use Rattle.lfs_staging.proofs.KeptLemmas.{keys_kept}
 use Rattle.lfs_segwrite.proofs.PutLemmas.{next_some}
@@ -52,13 +53,18 @@ entries_most n = elim (cases_eq n 0) [
   | inr some ↦ let e : (if n == 0 then 0 else n + 1) ≡ n + 1 = cond-false _ _ _ (ne_eqb n 0 some) in omega arith
 ]
 
-pub staged_fits : (mid staged : Parts) (named : List BlockInfo) → StagesNamed named mid staged → blocks_to_mark named ≤ room_of mid.log.memory
-    → blocks_of_entries (entries_of staged) ≤ room_of staged.log.memory
-staged_fits mid staged named h room =
+staged_most : (mid staged : Parts) (named : List BlockInfo) → StagesNamed named mid staged → blocks_of_entries (entries_of staged) ≤ blocks_to_mark named
+staged_most mid staged named h =
     let most = entries_most (length (entries_of staged)) in
     let many = entries_of-length staged in
     let frames = h.frames in
     let records = h.records in
+    omega arith
+
+pub staged_fits : (mid staged : Parts) (named : List BlockInfo) → StagesNamed named mid staged → blocks_to_mark named ≤ room_of mid.log.memory
+    → blocks_of_entries (entries_of staged) ≤ room_of staged.log.memory
+staged_fits mid staged named h room =
+    let most = staged_most mid staged named h in
     let same : room_of staged.log.memory ≡ room_of mid.log.memory = ap (λ (l : LogParts). room_of l.memory) h.same.log in
     omega arith
 
@@ -175,9 +181,17 @@ module _ (old mid staged new : Parts) (marks named : List BlockInfo) (keeps : Ke
   blocks a used end =
       flushes.blocks a (not_end a used end) ∙ ap (λ (l : LogParts). block_at l.memory a) log ∙ keeps.blocks a used
 
-  pub marks_again : (blocks_to_mark named ≤ room_of old.log.memory → mid ≡ old)
-      → (room_of old.log.memory < blocks_to_mark named → mid.log.clean + 1 ≡ old.log.clean) → MarksSettled marks (length named) old new
-  marks_again enough opened = record {
+  -- what waited was on a way to a named block
+  on_way : (n c : ℕ) → Waits staged n c → IsOnWay named old n c
+  on_way n zero waits = stages.only_records n waits
+  on_way n (suc c) waits =
+      let version : version_of staged n ≡ version_of old n = ap (λ (rs : List InodeRow). (row_at rs n).version) rows in
+      subst (λ v. Contains (flat_map keys_to_mark named) (key_of n v (suc c))) version (stages.only_frames (key_of n (version_of staged n) (suc c)) waits)
+
+  pub marks_again : 0 < length named → (blocks_to_mark named ≤ room_of old.log.memory → mid ≡ old)
+      → (room_of old.log.memory < blocks_to_mark named → mid.log.clean + 1 ≡ old.log.clean)
+      → (room_of old.log.memory < blocks_to_mark named → 64 ≤ room_of mid.log.memory + 1) → MarksSettled marks (length named) old new
+  marks_again some enough opened fresh = record {
     named = named;
     are_named = are;
     counted = refl;
@@ -204,6 +218,28 @@ module _ (old mid staged new : Parts) (marks named : List BlockInfo) (keeps : Ke
       segments = flushes.segments ∙ ap (λ (l : LogParts). l.memory.segments) log;
       dirty = λ s low dirty. ap (λ (xs : List SegState). slice_index_or xs s Clean) (flushes.states ∙ ap (λ (l : LogParts). l.tables.states) log) ∙ dirty;
     });
+    none = λ is. absurd (omega arith);
+    still = λ n c low below other.
+        flushes.still n c (subst (λ m. n < m) (sym numbers) low) below (λ waits. other (on_way n c waits)) ∙ place_staged n c low below;
+    left =
+        let most = staged_most mid staged named stages in
+        let grown = flushes.grown in
+        let active = flushes.active in
+        let kept = flushes.clean in
+        let same : staged.log.clean ≡ mid.log.clean = ap (λ (l : LogParts). l.clean) log in
+        let room : room_of staged.log.memory ≡ room_of mid.log.memory = ap (λ (l : LogParts). room_of l.memory) log in
+        let within = stages.staged.whole.parts.laid_out.within in
+        elim (cases_lt (room_of old.log.memory) (blocks_to_mark named)) [
+          | inl short ↦
+              let one = opened short in
+              let whole = fresh short in
+              inr (omega arith, omega arith, short)
+          | inr fits ↦
+              let nothing = enough fits in
+              let first : room_of mid.log.memory ≡ room_of old.log.memory = ap (λ (p : Parts). room_of p.log.memory) nothing in
+              let clean : mid.log.clean ≡ old.log.clean = ap (λ (p : Parts). p.log.clean) nothing in
+              inl (active ∙ ap (λ (l : LogParts). l.memory.active) log ∙ ap (λ (p : Parts). p.log.memory.active) nothing, omega arith, omega arith)
+        ];
   }
 
   pub marked_content : content_of new ≡ content_of old
@@ -226,11 +262,14 @@ marks_none p marks named are none = record {
   opened = omega arith;
   enough = λ _. refl;
   dirty = StaysDirty-refl (log_state p);
+  none = λ _. refl;
+  still = λ n c low below other. refl;
+  left = inl (refl, omega arith, refl);
 }
 
 -- what waits was written, and then the blocks were
 pub marks_after : (marks : List BlockInfo) (count : ℕ) (old mid new : Parts) → IsStore old → IsStore mid → IsStore new → WritesWaiting old mid → MarksSettled marks count mid new
-    → (old.log.clean ≤ 1 → new.log.clean < mid.log.clean → HasRoomToMark marks mid) → MarksAgain marks count old new
+    → (old.log.clean ≤ 1 → 0 < count → 0 < mid.log.clean → HasRoomToMark marks mid) → MarksAgain marks count old new
 marks_after marks count old mid new first before store w m last =
     let still : (s : ℕ) → s < old.log.memory.segments → DirtyIn (log_state old) s → DirtyIn (log_state mid) s = w.log.dirty.dirty in
     let all : new.log.memory.segments ≡ old.log.memory.segments = m.segments ∙ w.log.segments in

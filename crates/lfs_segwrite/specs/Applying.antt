@@ -175,10 +175,10 @@ pub record MakesWay (changes : List Change) (old new : Parts) : Type 0 where
   pub records : length new.waiting + length changes ≤ WAITING_LIMIT
   pub either : ((passes_limits old changes ≡ false) × (new ≡ old)) ⊎ ((passes_limits old changes ≡ true) × WritesWaiting old new)
 
--- All the changes were made, in order, and wait, or what waited before them was written. A number that was made has the
--- version behind its last, each other one the version that it had. One segment was opened at most, and only where what
--- waited had no room and the changes had some; two stay clean where the changes give no blocks back. Nothing was written
--- where no more wait than may wait.
+-- What waited before them was written where with the changes more could wait than may, and nothing else was. Then all the
+-- changes were made, in order, and wait, with nothing beside them. A number that was made has the version behind its last,
+-- each other one the version that it had. One segment was opened at most, and only where what waited had no room and the
+-- changes had some; two stay clean where the changes give no blocks back.
 pub record MakesChanges (changes : List Change) (old new : Parts) : Type 0 where
   pub store : IsStore new
   pub room : HasRoom new
@@ -189,3 +189,6 @@ pub record MakesChanges (changes : List Change) (old new : Parts) : Type 0 where
   pub opened : old.log.clean ≤ new.log.clean + 1
   pub enough : waiting_blocks old ≤ room_of old.log.memory → new.log.clean ≡ old.log.clean
   pub delayed : passes_limits old changes ≡ false → StaysInLog old new
+  pub between : Parts
+  pub way : MakesWay changes old between
+  pub stages : StagesAll changes between new

@@ -1,5 +1,5 @@
 -- Blocks that are written again at the log's end, as a cleaner asks.
-use Rattle.std.specs.Prelude.{◌≡◌, ◌≢◌, ◌⊎◌, ℕ, ◌+◌, ◌/◌, ◌<◌, ◌≤◌, ◌==◌, false, List, [], ◌∷◌, ◌++◌, All, Contains, AllPairs, length, map, min, if◌then◌else◌, nat_lt, IsSome}
+use Rattle.std.specs.Prelude.{◌≡◌, ◌≢◌, ◌⊎◌, ℕ, zero, suc, ◌+◌, ◌/◌, ◌<◌, ◌≤◌, ◌==◌, false, List, [], ◌∷◌, ◌++◌, All, Contains, AllPairs, length, map, min, if◌then◌else◌, nat_lt, IsSome}
 use Rattle.std.specs.List.{flat_map}
 use Rattle.std.specs.Set.{distinct_count}
 use Rattle.lfs_types.specs.declared.cleaner.BlockInfo.{BlockInfo}
@@ -100,6 +100,12 @@ pub record StagesNamed (named : List BlockInfo) (old new : Parts) : Type 0 where
   pub frames : length new.cache.locked ≤ frames_to_mark named
   pub records : length new.waiting ≤ records_to_mark named
 
+-- a key is written again for some infos: the record of a number that one of them has, or a block on the way to the block
+-- of one
+abbrev pub IsOnWay : List BlockInfo → Parts → ℕ → ℕ → Type 0
+IsOnWay named p number zero = Contains (map number_named named) number
+IsOnWay named p number (suc code) = Contains (flat_map keys_to_mark named) (key_of number (version_of p number) (suc code))
+
 -- A block has another place, outside the segments that were dirty.
 pub record IsRewritten (old new : LogState) (info : BlockInfo) : Type 0 where
   pub somewhere : new.at info.ino (code_named info.lbn) ≢ 0
@@ -130,9 +136,10 @@ pub record LacksRoomFor (marks : List BlockInfo) (p : Parts) : Type 0 where
   pub are_named : AreNamed (log_state p) marks named
   pub lacks : LacksRoomToMark (blocks_to_mark named) p
 
--- The blocks that some infos name were written again, so many. What else moved went to segments that weren't dirty too. No
--- block changed that was written before, and no segment became clean. One segment was opened at most, and none where the
--- blocks had room.
+-- The blocks that some infos name were written again, so many, and nothing was done where none is named. Each key that is on
+-- no way to one of them has the place that it had, and the log grew by no more than the blocks that they take: where it
+-- ended, or from the start of a segment that was opened for them, where they had no room. What moved went to segments that
+-- weren't dirty. No block changed that was written before, and no segment became clean.
 pub record MarksSettled (marks : List BlockInfo) (count : ℕ) (old new : Parts) : Type 0 where
   pub named : List BlockInfo
   pub are_named : AreNamed (log_state old) marks named
@@ -150,16 +157,23 @@ pub record MarksSettled (marks : List BlockInfo) (count : ℕ) (old new : Parts)
   pub opened : old.log.clean ≤ new.log.clean + 1
   pub enough : blocks_to_mark named ≤ room_of old.log.memory → new.log.clean ≡ old.log.clean
   pub dirty : StaysDirty (log_state old) (log_state new)
+  pub none : count ≡ 0 → new ≡ old
+  pub still : (number code : ℕ) → number < length old.log.tables.rows → code < BLOCK_CODES → (IsOnWay named old number code → ⊥)
+      → (log_state new).at number code ≡ (log_state old).at number code
+  pub left : ((new.log.memory.active ≡ old.log.memory.active)
+      × (room_of old.log.memory ≤ room_of new.log.memory + blocks_to_mark named) × (new.log.clean ≡ old.log.clean))
+      ⊎ ((SEGMENT_BLOCKS ≤ room_of new.log.memory + blocks_to_mark named + 1) × (new.log.clean + 1 ≡ old.log.clean)
+      × (room_of old.log.memory < blocks_to_mark named))
 
 -- What waits was written first. Then the blocks that some infos name, as the map then stood, were written again, so many.
 -- What moved went to segments that weren't dirty, these are dirty still, and two segments were opened at most. Where one
--- was clean at most, another one was opened for the blocks only where a segment can be cleaned behind them.
+-- was clean at most, and is by then, blocks were written only where a segment can be cleaned behind them.
 pub record MarksAgain (marks : List BlockInfo) (count : ℕ) (old new : Parts) : Type 0 where
   pub between : Parts
   pub written : WritesWaiting old between
   pub again : MarksSettled marks count between new
   pub opened : old.log.clean ≤ new.log.clean + 2
-  pub last : old.log.clean ≤ 1 → new.log.clean < between.log.clean → HasRoomToMark marks between
+  pub last : old.log.clean ≤ 1 → 0 < count → 0 < between.log.clean → HasRoomToMark marks between
   pub moves : Moves (DirtyIn (log_state old)) (log_state old) (log_state new)
   pub dirty : StaysDirty (log_state old) (log_state new)
   pub blocks : (a : ℕ) → a / SEGMENT_BLOCKS < old.log.memory.segments → DirtyIn (log_state old) (a / SEGMENT_BLOCKS)

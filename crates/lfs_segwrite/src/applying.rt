@@ -340,6 +340,7 @@ pub fn apply(parts: &mut Parts, changes: &[Change<'_>]) -> Result<(), NoRoom>
     requires can { CanApply (length parts.old.log.tables.rows) changes.now
         (content_of parts.old) }
     ensures made { OnOk result (MakesChanges changes.now parts.old parts.new) }
+    ensures fits { OnOk result (HasRoomFor changes.now parts.old) }
     ensures refused { OnErr result (parts.new ≡ parts.old) }
     ensures lacking { OnErr result (HasRoomFor changes.now parts.old → ⊥) }
     // Which is never so with more than two clean segments.

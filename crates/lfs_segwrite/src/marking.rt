@@ -6,6 +6,7 @@ ghost use Rattle.lfs_log.specs.Parts.{state_of};
 ghost use Rattle.lfs_segments.specs.Memory.{room_of};
 ghost use Rattle.lfs_segwrite.specs.Room.{KeepsFiles};
 ghost use Rattle.lfs_types.specs.declared.cleaner.TheConstants.{MARK_LIMIT};
+ghost use Rattle.lfs_types.specs.declared.limits.TheConstants.{SEGMENT_BLOCKS};
 ghost use Rattle.lfs_cache.specs.declared.cache.TheConstants.{LOCKED_LIMIT};
 ghost use Rattle.lfs_bmap.specs.Blocks.{IsFileBlock, code_of, way_to};
 ghost use Rattle.lfs_bmap.specs.declared.tables.TheConstants.{MOST_DEPTH};
@@ -68,7 +69,8 @@ pub fn mark(parts: &mut Parts, marks: &[BlockInfo]) -> Result<u32, NoRoom>
 
 /// Writes again, at the log's end, each block that an info of a list of at most 8 names: its
 /// address is not 0, and is the block's present one. Says how many these are; an info that stands
-/// twice counts once. With care nothing is written where no segment could be cleaned behind it.
+/// twice counts once. With care nothing is written where a segment is clean and none could be cleaned
+/// behind it.
 fn mark_settled(parts: &mut Parts, marks: &[BlockInfo], careful: bool) -> Result<u32, NoRoom>
     requires store { IsStore parts.old }
     requires settled { IsSettled parts.old }
@@ -77,7 +79,7 @@ fn mark_settled(parts: &mut Parts, marks: &[BlockInfo], careful: bool) -> Result
     ensures settled { IsSettled parts.new }
     ensures content { content_of parts.new ≡ content_of parts.old }
     ensures marked { IfOk result (λ count. MarksSettled marks.now count parts.old parts.new) }
-    ensures last { OnOk result (careful ≡ true → parts.new.log.clean < parts.old.log.clean
+    ensures last { IfOk result (λ count. careful ≡ true → 0 < count → 0 < parts.old.log.clean
         → HasRoomToMark marks.now parts.old) }
     ensures few { IfOk result (λ count. count ≤ length marks.now) }
     ensures refused { OnErr result (parts.new ≡ parts.old) }
@@ -107,7 +109,7 @@ fn may_mark(parts: &Parts, blocks: u32) -> bool
 }
 
 /// Makes room for so many blocks that are written for the cleaner, in a segment that is opened where the active one has
-/// too little left. With care none is opened where no segment could be cleaned behind them.
+/// too little left. With care there is none where a segment is clean and none could be cleaned behind them.
 fn make_room_to_mark(parts: &mut Parts, blocks: u32, careful: bool) -> Result<(), NoRoom>
     requires store { IsStore parts.old }
     requires few { blocks ≤ 27 }
@@ -118,7 +120,9 @@ fn make_room_to_mark(parts: &mut Parts, blocks: u32, careful: bool) -> Result<()
     ensures opened { OnOk result (room_of parts.old.log.memory < blocks
         → (0 < parts.old.log.clean) × (parts.new.log.clean + 1 ≡ parts.old.log.clean)
         × (state_of parts.old.log.tables parts.new.log.memory.active ≡ Clean)) }
-    ensures last { OnOk result (careful ≡ true → parts.new.log.clean < parts.old.log.clean
+    ensures fresh { OnOk result (room_of parts.old.log.memory < blocks
+        → SEGMENT_BLOCKS ≤ room_of parts.new.log.memory + 1) }
+    ensures last { OnOk result (careful ≡ true → 0 < parts.old.log.clean
         → LeavesCleanable blocks parts.old) }
     ensures refused { OnErr result (parts.new ≡ parts.old) }
     ensures lacking { OnErr result (LacksRoomToMark blocks parts.old) }

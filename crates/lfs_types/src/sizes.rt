@@ -2,7 +2,7 @@
 
 ghost use Rattle.std.specs.Prelude.{◌≡◌};
 ghost use Rattle.lfs_types.specs.declared.block.TheConstants.{BLOCK_SIZE};
-ghost use Rattle.lfs_types.specs.declared.cleaner.TheConstants.{INFO_LIMIT, MARK_LIMIT};
+ghost use Rattle.lfs_types.specs.declared.cleaner.TheConstants.{INFO_LIMIT, INODE_BLOCK, MARK_LIMIT, SINGLE_BLOCK};
 ghost use Rattle.lfs_types.specs.declared.cred.TheConstants.{NGROUPS_MAX};
 ghost use Rattle.lfs_types.specs.declared.limits.TheConstants.{FILE_BLOCKS, FILE_BYTES, FIRST_INODE, LEAST_FRAMES, LEAST_INODES, LEAST_SEGMENTS, MOST_FRAMES, MOST_INODES, MOST_SEGMENTS, ROOT_INODE, SEGMENT_BLOCKS, TRANSFER_BYTES};
 ghost use Rattle.lfs_types.specs.declared.name.TheConstants.{NAME_MAX};
@@ -28,4 +28,6 @@ pub fn sizes()
     ensures bytes { FILE_BYTES ≡ 8460288 }
     ensures infos { INFO_LIMIT ≡ 248 }
     ensures marks { MARK_LIMIT ≡ 8 }
+    ensures inode_block { INODE_BLOCK ≡ 4294967295 }
+    ensures single_block { SINGLE_BLOCK ≡ 2147483648 }
 {}

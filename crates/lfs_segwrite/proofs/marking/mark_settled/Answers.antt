@@ -1,9 +1,8 @@
-use Rattle.std.proofs.Common.{Result, Ok, Err, OnErr, ◌≡◌, ◌+◌, ◌<◌, ◌≤◌, sym, ap, subst, inl, inr, arith}
-use Rattle.std.proofs.lemmas.Bool.{cases_lt}
+use Rattle.std.proofs.Common.{Result, Ok, Err, OnErr, ◌≡◌, ◌≢◌, ◌+◌, ◌<◌, ◌≤◌, length, sym, ap, ◌∙◌, subst, inl, inr, arith}
+use Rattle.std.proofs.lemmas.Bool.{cases_lt, eqb-false}
 use Rattle.lfs_segments.specs.Memory.{room_of}
 use Rattle.lfs_staging.specs.declared.parts.Parts.{Parts}
 use Rattle.lfs_staging.specs.Keys.{log_state}
-use Rattle.lfs_log.specs.Parts.{LogParts}
 use Rattle.lfs_segwrite.specs.Marking.{AreNamed, LacksRoomToMark, LeavesCleanable}
 use Rattle.lfs_staging.proofs.KeptLemmas.{store_staged}
 use Rattle.lfs_segwrite.proofs.MarkedLemmas.{marked_content, marks_again, settled_still, staged_fits}
@@ -38,6 +37,11 @@ fewer c = elim (cases_lt (room_of c.args.parts.now.log.memory) c.blocks_to_mark.
 are_last : (c : goal.After-flush) → AreNamed (log_state c.args.parts.now) c.args.marks.now c.items-infos.result.now
 are_last c = subst (AreNamed (log_state c.args.parts.now) c.args.marks.now) (sym c.items-infos.ensures.items) c.named-named.ensures.named
 
+some_named : (c : goal.After-flush) → 0 < length c.items-infos.result.now
+some_named c =
+    let some : length c.items-infos.result.now ≢ 0 = eqb-false _ _ (sym c.is_empty.ensures ∙ c.if-is_empty.false) in
+    omega arith
+
 pub returns-clause-content : goal.returns-clause-content
 returns-clause-content c =
     marked_content c.args.parts.now c.make_room_to_mark.new.parts c.stage_named.new.parts c.flush.new.parts c.args.marks.now c.items-infos.result.now
@@ -49,21 +53,19 @@ returns-clause-marked c =
     let mid = c.make_room_to_mark.new.parts in
     let room = c.in_ok-make_room_to_mark.ensures in
     marks_again old mid c.stage_named.new.parts c.flush.new.parts c.args.marks.now c.items-infos.result.now
-    room.files c.stage_named.ensures c.flush.ensures (are_last c) (fewer c)
+    room.files c.stage_named.ensures c.flush.ensures (are_last c) (fewer c) (some_named c)
     (subst (λ n. n ≤ room_of old.log.memory → mid ≡ old) c.blocks_to_mark.ensures.blocks room.enough)
     (subst (λ n. room_of old.log.memory < n → mid.log.clean + 1 ≡ old.log.clean) c.blocks_to_mark.ensures.blocks (λ short. (room.opened short).1))
+    (subst (λ n. room_of old.log.memory < n → 64 ≤ room_of mid.log.memory + 1) c.blocks_to_mark.ensures.blocks room.fresh)
 
 pub returns-clause-last : goal.returns-clause-last
-returns-clause-last c = λ care less.
+returns-clause-last c = λ care some free.
     record {
       named = c.items-infos.result.now;
       are_named = are_last c;
       leaves =
           subst (λ n. LeavesCleanable n c.args.parts.now) c.blocks_to_mark.ensures.blocks
-          (c.in_ok-make_room_to_mark.ensures.last care
-          (let flushed = c.flush.ensures.clean in
-          let staged : c.stage_named.new.parts.log.clean ≡ c.make_room_to_mark.new.parts.log.clean = ap (λ (l : LogParts). l.clean) c.stage_named.ensures.same.log in
-          omega arith));
+          (c.in_ok-make_room_to_mark.ensures.last care free);
     }
 
 on_err : {T E : Type 0} (r : Result T E) (P : Type 0) → P → OnErr r P
