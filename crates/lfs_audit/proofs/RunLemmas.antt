@@ -4,8 +4,8 @@ use Rattle.std.specs.Io.KnownBytes.{Appends, Keeps, append_known}
 use Rattle.std.proofs.KnownBytes.{Appends-kept, Appends-nil, Appends-trans}
 use Rattle.std.specs.Prelude.{◌≤◌}
 use Rattle.lfs_types.specs.Caller.{Caller}
-use Rattle.lfs_types.specs.StoreStates.{Shape}
-use Rattle.lfs_types.specs.Tree.{opening_world}
+use Rattle.lfs_types.specs.StoreStates.{Shape, StoreState}
+use Rattle.lfs_types.specs.Tree.{World}
 use Rattle.lfs_types.specs.declared.answer.Answer.{Answer}
 use Rattle.lfs_types.specs.declared.cleaner.CleanerCall.{CleanerCall}
 use Rattle.lfs_types.specs.declared.request.Request.{Request}
@@ -15,7 +15,7 @@ use Rattle.lfs_model.specs.declared.steps.Step.{Step as Made}
 use Rattle.lfs_model.specs.declared.steps.StepAnswer.{StepAnswer}
 use Rattle.lfs_model.specs.declared.steps.StepAnswer.TheVariants as told
 use Rattle.lfs_model.specs.Runs.{kept_step, kept_steps, kind_of}
-use Rattle.lfs_model.specs.Steps.{IsLegal, world_of}
+use Rattle.lfs_model.specs.Steps.{IsLegal}
 use Rattle.lfs_calls.specs.Volumes.{IsVolume}
 use Rattle.lfs_cleaner.specs.Passing.{Steps, calls_left}
 use Rattle.lfs_cleaner.specs.declared.pass.Pass.{Pass}
@@ -24,7 +24,9 @@ use Rattle.lfs_print.specs.CleanerText.{cleaner_line}
 use Rattle.lfs_print.specs.ReportText.{report_text}
 use Rattle.lfs_script.specs.declared.plan.Act.TheVariants as plan
 use Rattle.lfs_script.specs.declared.plan.Step.{Step}
+use Rattle.lfs_types.specs.declared.level.Level.{Level}
 use Rattle.lfs_volume.specs.Cleanings.{Cleaner}
+use Rattle.lfs_volume.specs.Journals.{AtPresent, Begins, Since}
 use Rattle.lfs_volume.specs.Seen.{Seen}
 use Rattle.lfs_volume.specs.StepRuns.{AreSteps, IsActMade}
 use Rattle.lfs_audit.specs.Output.{IsRun}
@@ -41,15 +43,6 @@ pub record IsPassing {F : Type 0} (r : Cleaner F) (old new : Seen F) (session : 
   pub few : length made + calls_left pass ≤ 105
 
 -- ---- steps
-
--- there are as many answers as steps
-steps_count : {F : Type 0} (r : Cleaner F) (limit : ℕ) (journal : List Entry) (old new : F) (made : List Made) (answers : List StepAnswer)
-    → AreSteps r limit journal old made answers new → length answers ≡ length made
-steps_count r limit journal old new [] [] are = refl
-steps_count r limit journal old new [] (a ∷ answers) are = absurd are
-steps_count r limit journal old new (s ∷ made) [] are = absurd are
-steps_count r limit journal old new (s ∷ made) (a ∷ answers) are =
-    ap suc (steps_count r limit (journal ++ kept_step s a) are.0 new made answers are.3)
 
 -- what further steps keep
 kept-joined : (made : List Made) (answers : List StepAnswer) (more : List Made) (others : List StepAnswer) → length answers ≡ length made
@@ -72,21 +65,21 @@ lines-joined (s ∷ made) (a ∷ answers) more others h =
     ∙ sym (append_assoc (call_line s.session s.act a) (lines_text made answers) (lines_text more others))
 
 -- further steps were answered
-steps-joined : {F : Type 0} (r : Cleaner F) (limit : ℕ) (journal : List Entry) (first middle last : F) (made : List Made) (answers : List StepAnswer)
-    (more : List Made) (others : List StepAnswer) → AreSteps r limit journal first made answers middle
-    → AreSteps r limit (journal ++ kept_steps made answers) middle more others last
-    → AreSteps r limit journal first (made ++ more) (answers ++ others) last
-steps-joined {F} r limit journal first middle last [] [] more others are then =
-    subst (λ (s : F). AreSteps r limit journal s more others last) are
-    (subst (λ (j : List Entry). AreSteps r limit j middle more others last) (append-nil journal) then)
-steps-joined r limit journal first middle last [] (a ∷ answers) more others are then = absurd are
-steps-joined r limit journal first middle last (s ∷ made) [] more others are then = absurd are
-steps-joined r limit journal first middle last (s ∷ made) (a ∷ answers) more others are then = (
+steps-joined : {F : Type 0} (r : Cleaner F) (limit : ℕ) (from : World) (journal : List Entry) (first middle last : F) (made : List Made) (answers : List StepAnswer)
+    (more : List Made) (others : List StepAnswer) → AreSteps r limit from journal first made answers middle
+    → AreSteps r limit from (journal ++ kept_steps made answers) middle more others last
+    → AreSteps r limit from journal first (made ++ more) (answers ++ others) last
+steps-joined {F} r limit from journal first middle last [] [] more others are then =
+    subst (λ (s : F). AreSteps r limit from journal s more others last) are
+    (subst (λ (j : List Entry). AreSteps r limit from j middle more others last) (append-nil journal) then)
+steps-joined r limit from journal first middle last [] (a ∷ answers) more others are then = absurd are
+steps-joined r limit from journal first middle last (s ∷ made) [] more others are then = absurd are
+steps-joined r limit from journal first middle last (s ∷ made) (a ∷ answers) more others are then = (
   are.0,
   are.1,
   are.2,
-  steps-joined r limit (journal ++ kept_step s a) are.0 middle last made answers more others are.3
-      (subst (λ (j : List Entry). AreSteps r limit j middle more others last) (sym (append_assoc journal (kept_step s a) (kept_steps made answers))) then),
+  steps-joined r limit from (journal ++ kept_step s a) are.0 middle last made answers more others are.3
+      (subst (λ (j : List Entry). AreSteps r limit from j middle more others last) (sym (append_assoc journal (kept_step s a) (kept_steps made answers))) then),
 )
 
 -- ---- a volume
@@ -94,47 +87,64 @@ steps-joined r limit journal first middle last (s ∷ made) (a ∷ answers) more
 -- a volume as it was
 pub runs_none : {F : Type 0} (r : Cleaner F) (v : Seen F) → Runs r v v [] []
 runs_none r v = record {
-  answered = refl;
+  count = refl;
+  answered = λ from begins. refl;
   entered = sym (append-nil v.journal);
   limit = refl;
   shape = refl;
+  since = refl;
+  since_level = refl;
 }
 
 -- a volume by one step
 pub runs_one : {F : Type 0} (r : Cleaner F) (old new : Seen F) (step : Made) (answer : StepAnswer)
-    → IsVolume (r.state old.store) (world_of (r.state old.store).shape.numbers old.journal)
-    → IsActMade r old.limit old.journal old.store step.cred step.act answer new.store
+    → AtPresent r.state old (IsVolume (r.state old.store))
+    → Since (r.state old.since) old.since_level (λ from. IsActMade r old.limit from old.journal old.store step.cred step.act answer new.store)
     → new.journal ≡ old.journal ++ kept_step step answer → new.limit ≡ old.limit
-    → (r.state new.store).shape ≡ (r.state old.store).shape → Runs r old new (step ∷ []) (answer ∷ [])
-runs_one r old new step answer shown made entered limit shape = record {
-  answered = (new.store, shown, made, refl);
+    → (r.state new.store).shape ≡ (r.state old.store).shape → new.since ≡ old.since → new.since_level ≡ old.since_level
+    → Runs r old new (step ∷ []) (answer ∷ [])
+runs_one r old new step answer shown made entered limit shape since since_level = record {
+  count = refl;
+  answered = λ from begins. (new.store, shown from begins, made from begins, refl);
   entered = entered ∙ ap (λ (l : List Entry). old.journal ++ l) (sym (append-nil (kept_step step answer)));
   limit = limit;
   shape = shape;
+  since = since;
+  since_level = since_level;
 }
+
+-- where a journal began is where it began before what did not move that
+still-begins : {F : Type 0} (state : F → StoreState) (from : World) (since then : F) (level after : Level) → then ≡ since → after ≡ level
+    → Begins (state since) level from → Begins (state then) after from
+still-begins state from since then level after same same_level begins =
+    subst (λ (l : Level). Begins (state then) l from) (sym same_level) (subst (λ s. Begins (state s) level from) (sym same) begins)
 
 -- a volume by further steps
 pub runs_joined : {F : Type 0} (r : Cleaner F) (old middle new : Seen F) (made : List Made) (answers : List StepAnswer) (more : List Made) (others : List StepAnswer)
     → Runs r old middle made answers → Runs r middle new more others → Runs r old new (made ++ more) (answers ++ others)
 runs_joined r old middle new made answers more others before then =
-    let count = steps_count r old.limit old.journal old.store middle.store made answers before.answered in
+    let count = before.count in
     record {
-      answered = steps-joined r old.limit old.journal old.store middle.store new.store made answers more others before.answered
-          (subst (λ (n : ℕ). AreSteps r n (old.journal ++ kept_steps made answers) middle.store more others new.store) before.limit
-          (subst (λ (j : List Entry). AreSteps r middle.limit j middle.store more others new.store) before.entered then.answered));
+      count = length-append answers others ∙ ap (λ (n : ℕ). n + length others) count ∙ ap (λ (n : ℕ). length made + n) then.count ∙ sym (length-append made more);
+      answered = λ from begins. steps-joined r old.limit from old.journal old.store middle.store new.store made answers more others (before.answered from begins)
+          (subst (λ (n : ℕ). AreSteps r n from (old.journal ++ kept_steps made answers) middle.store more others new.store) before.limit
+          (subst (λ (j : List Entry). AreSteps r middle.limit from j middle.store more others new.store) before.entered
+          (then.answered from (still-begins r.state from old.since middle.since old.since_level middle.since_level before.since before.since_level begins))));
       entered = then.entered
           ∙ ap (λ (j : List Entry). j ++ kept_steps more others) before.entered
           ∙ append_assoc old.journal (kept_steps made answers) (kept_steps more others)
           ∙ ap (λ (l : List Entry). old.journal ++ l) (sym (kept-joined made answers more others count));
       limit = then.limit ∙ before.limit;
       shape = then.shape ∙ before.shape;
+      since = then.since ∙ before.since;
+      since_level = then.since_level ∙ before.since_level;
     }
 
 -- the lines of what was done and of what was done then
 pub lines_of_runs : {F : Type 0} (r : Cleaner F) (old middle : Seen F) (made : List Made) (answers : List StepAnswer) (more : List Made) (others : List StepAnswer)
     → Runs r old middle made answers → lines_text (made ++ more) (answers ++ others) ≡ lines_text made answers ++ lines_text more others
 lines_of_runs r old middle made answers more others before =
-    lines-joined made answers more others (steps_count r old.limit old.journal old.store middle.store made answers before.answered)
+    lines-joined made answers more others before.count
 
 -- a text with lines at its end, and with further ones
 text-joined : (before middle after lines more all : List ℕ) → middle ≡ before ++ lines → after ≡ middle ++ more → all ≡ lines ++ more → after ≡ before ++ all
@@ -325,32 +335,59 @@ from_start None left text p = tt
 from_start (Some x) None text p = absurd p
 from_start (Some x) (Some v) text p = p ∙ ap (λ (xs : List ℕ). xs ++ text) (append-nil x)
 
+-- steps on a volume without entries were answered so, from wherever its journal began
+pub begun_answers : {F : Type 0} (r : Cleaner F) (old new : Seen F) (made : List Made) (answers : List StepAnswer) → old.journal ≡ [] → Runs r old new made answers
+    → Since (r.state old.since) old.since_level (λ from. AreSteps r old.limit from [] old.store made answers new.store)
+begun_answers r old new made answers none ran = λ from begins.
+    subst (λ (j : List Entry). AreSteps r old.limit from j old.store made answers new.store) none (ran.answered from begins)
+
+-- and what was entered is legal from there
+pub begun_legal : {F : Type 0} (r : Cleaner F) (old new : Seen F) (made : List Made) (answers : List StepAnswer) → old.journal ≡ [] → Runs r old new made answers
+    → Since (r.state new.since) new.since_level (λ from. IsLegal (r.state new.store).shape.numbers (r.state new.store).shape.segments new.journal from)
+    → Since (r.state old.since) old.since_level (λ from. IsLegal (r.state old.store).shape.numbers (r.state old.store).shape.segments (kept_steps made answers) from)
+begun_legal r old new made answers none ran lawful = λ from begins.
+    let entries : new.journal ≡ kept_steps made answers = ran.entered ∙ ap (λ (j : List Entry). j ++ kept_steps made answers) none in
+    let shape = (r.state old.store).shape in
+    subst (λ (j : List Entry). IsLegal shape.numbers shape.segments j from) entries
+    (subst (λ (s : Shape). IsLegal s.numbers s.segments new.journal from) ran.shape
+    (lawful from (still-begins r.state from old.since new.since old.since_level new.since_level ran.since ran.since_level begins)))
+
+-- a run that began in one of these worlds began in one of those
+pub run_begun : {F : Type 0} (r : Cleaner F) (these those : World → Type 0) (limit : ℕ) (store : F) (steps : List Step) (text : List ℕ)
+    → ((from : World) → those from → these from) → IsRun r these limit store steps text → IsRun r those limit store steps text
+run_begun r these those limit store steps text within run = record {
+  made = run.made;
+  answers = run.answers;
+  after = run.after;
+  asked = run.asked;
+  answered = λ from begins. run.answered from (within from begins);
+  legal = λ from begins. run.legal from (within from begins);
+  printed = run.printed;
+}
+
 -- the lines of a plan were done on a volume without entries, and all is written
 pub whole_run : {F : Type 0} (r : Cleaner F) (old new : Seen F) (steps : List Step) (empty text : List ℕ) (start known left : Option (List ℕ))
     → old.journal ≡ [] → WritesLines r old new steps (append_known start empty) (append_known known text) → empty ≡ []
-    → IsLegal (r.state new.store).shape.numbers (r.state new.store).shape.segments new.journal opening_world × Appends (append_known known text) left (report_text new.journal)
-    → (all : List ℕ) × IsRun r old.limit old.store steps all × Appends start left all
+    → Since (r.state new.since) new.since_level (λ from. IsLegal (r.state new.store).shape.numbers (r.state new.store).shape.segments new.journal from)
+    × Appends (append_known known text) left (report_text new.journal)
+    → (all : List ℕ) × IsRun r (Begins (r.state old.since) old.since_level) old.limit old.store steps all × Appends start left all
 whole_run {F} r old new steps empty text start known left none writes nothing (lawful, reported) =
     let made = writes.made in
     let answers = writes.answers in
     let lines = lines_text made answers in
-    let shape = (r.state old.store).shape in
     let entries : new.journal ≡ kept_steps made answers = writes.ran.entered ∙ ap (λ (j : List Entry). j ++ kept_steps made answers) none in
     let from_empty : Appends (append_known start []) (append_known known text) lines =
     subst (λ (e : List ℕ). Appends (append_known start e) (append_known known text) lines) nothing writes.printed in
     let report : Appends (append_known known text) left (report_text (kept_steps made answers)) =
-    subst (λ (j : List Entry). Appends (append_known known text) left (report_text j)) entries reported in
-    let legal : IsLegal shape.numbers shape.segments (kept_steps made answers) opening_world =
-    subst (λ (j : List Entry). IsLegal shape.numbers shape.segments j opening_world) entries
-    (subst (λ (s : Shape). IsLegal s.numbers s.segments new.journal opening_world) writes.ran.shape lawful) in (
+    subst (λ (j : List Entry). Appends (append_known known text) left (report_text j)) entries reported in (
       lines ++ report_text (kept_steps made answers),
       record {
         made = made;
         answers = answers;
         after = new.store;
         asked = writes.asked;
-        answered = subst (λ (j : List Entry). AreSteps r old.limit j old.store made answers new.store) none writes.ran.answered;
-        legal = legal;
+        answered = begun_answers r old new made answers none writes.ran;
+        legal = begun_legal r old new made answers none writes.ran lawful;
         printed = refl;
       },
       from_start start left (lines ++ report_text (kept_steps made answers))

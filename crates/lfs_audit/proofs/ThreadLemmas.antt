@@ -139,9 +139,10 @@ plan_split known plan setup scripts parsed users count sorted =
 pub threads_run : (known : Option (List ℕ)) (shape : Shape) (segments inodes : ℕ) (journal : List Entry) (limit after_limit : ℕ) (setup : List (Caller × Request)) (sessions : List (List (Caller × Request)))
     (answers : List Answer) (transcripts : List (Vec Answer)) (start left : Option (List ℕ))
     → IfSome known (λ script. IsSplit script setup sessions) → IsInterleaving (run_of journal after_limit setup answers sessions transcripts)
-    → after_limit ≡ limit → shape ≡ shape_of inodes segments → IsClosedText shape journal answers transcripts start left
+    → after_limit ≡ limit → shape ≡ shape_of inodes segments → IsLegal shape.numbers shape.segments journal opening_world
+    → IsClosedText journal answers transcripts start left
     → IfSome known (λ script. (text : List ℕ) × IsThreadsOutput script segments inodes limit text × Appends start left text)
-threads_run known shape segments inodes journal limit after_limit setup sessions answers transcripts start left split interleaved same shaped closed =
+threads_run known shape segments inodes journal limit after_limit setup sessions answers transcripts start left split interleaved same shaped legal closed =
     if_some known (λ script. IsSplit script setup sessions) (λ script. (text : List ℕ) × IsThreadsOutput script segments inodes limit text × Appends start left text) split
     (λ script is. (
       closed_text journal answers (map (λ (transcript : Vec Answer). transcript.items) transcripts),
@@ -149,11 +150,11 @@ threads_run known shape segments inodes journal limit after_limit setup sessions
         run = run_of journal after_limit setup answers sessions transcripts;
         split = is;
         limited = same;
-        legal = subst (λ (s : Shape). IsLegal s.numbers s.segments journal opening_world) shaped closed.legal;
+        legal = subst (λ (s : Shape). IsLegal s.numbers s.segments journal opening_world) shaped legal;
         interleaved = interleaved;
         printed = refl;
       },
-      closed.written,
+      closed,
     ))
 
 -- what follows from what a run left follows where the result is Ok

@@ -20,6 +20,7 @@ use Rattle.lfs_script.specs.declared.plan.Act.{Act}
 use Rattle.lfs_script.specs.declared.plan.Act.TheVariants as plan
 use Rattle.lfs_script.specs.declared.plan.Step.{Step}
 use Rattle.lfs_volume.specs.Cleanings.{Cleaner}
+use Rattle.lfs_volume.specs.Journals.{Since}
 use Rattle.lfs_volume.specs.Seen.{Seen}
 use Rattle.lfs_volume.specs.StepRuns.{AreSteps}
 
@@ -92,12 +93,15 @@ AreAsked (step ∷ steps) made answers =
 
 -- ---- what it does on a volume
 
--- a volume became this one by steps that were answered so
+-- a volume became this one by steps that were answered so, one each, from wherever its journal began
 pub record Runs {F : Type 0} (r : Cleaner F) (old new : Seen F) (made : List Made) (answers : List StepAnswer) : Type 0 where
-  pub answered : AreSteps r old.limit old.journal old.store made answers new.store
+  pub count : length answers ≡ length made
+  pub answered : Since (r.state old.since) old.since_level (λ from. AreSteps r old.limit from old.journal old.store made answers new.store)
   pub entered : new.journal ≡ old.journal ++ kept_steps made answers
   pub limit : new.limit ≡ old.limit
   pub shape : (r.state new.store).shape ≡ (r.state old.store).shape
+  pub since : new.since ≡ old.since
+  pub since_level : new.since_level ≡ old.since_level
 
 -- a volume became this one by a call of the cleaner, whose answer's line was added to a text
 pub record TellsCleaning {F : Type 0} (r : Cleaner F) (old new : Seen F) (session : ℕ) (caller : Caller) (call : CleanerCall) (answer : CleanerAnswer) (before after : List ℕ) : Type 0 where

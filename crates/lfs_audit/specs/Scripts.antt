@@ -1,5 +1,6 @@
 -- What a run of a script on a fresh volume over the log store prints, and how it may fail.
-use Rattle.std.specs.Prelude.{ℕ, List, Option}
+use Rattle.std.specs.Prelude.{◌≡◌, ℕ, List, Option}
+use Rattle.lfs_types.specs.Tree.{opening_world}
 use Rattle.lfs_staging.specs.Store.{IsSettled}
 use Rattle.lfs_staging.specs.declared.parts.Parts.{Parts}
 use Rattle.lfs_logstore.specs.CleanerCalls.{log_calls}
@@ -16,11 +17,12 @@ use Rattle.lfs_audit.specs.declared.fault.RunFault.TheVariants.{Format, Write}
 abbrev pub log_cleaner : Cleaner Parts
 log_cleaner = cleaner_of state_of IsSettled log_calls
 
--- a text is that of a run of the plan of a script, on a fresh volume over a log of so many segments, inode numbers and frames
+-- a text is that of a run of the plan of a script, on a fresh volume over a log of so many segments, inode numbers and
+-- frames, whose journal begins in the opening world
 pub record IsLogOutput (script : List ℕ) (segments inodes frames limit : ℕ) (text : List ℕ) : Type 0 where
   pub store : Parts
   pub fresh : IsFreshLog segments inodes frames store
-  pub output : IsOutput log_cleaner script limit store text
+  pub output : IsOutput log_cleaner (λ from. from ≡ opening_world) script limit store text
 
 -- a run of a script of these bytes, where they are known, on a fresh volume over such a log may end in this fault: the log is
 -- laid out only once the script is parsed, and something is written only once the log is laid out

@@ -4,7 +4,6 @@ use Rattle.std.specs.Global.{Vec}
 use Rattle.std.specs.Io.KnownBytes.{Appends}
 use Rattle.std.specs.List.{flat_map, list_any}
 use Rattle.lfs_types.specs.Caller.{Caller}
-use Rattle.lfs_types.specs.StoreStates.{Shape}
 use Rattle.lfs_types.specs.Tree.{opening_world}
 use Rattle.lfs_types.specs.declared.answer.Answer.{Answer}
 use Rattle.lfs_types.specs.declared.request.Request.{Request}
@@ -40,10 +39,10 @@ transcripts_text session (answers ∷ transcripts) = transcript_text session ans
 abbrev pub closed_text : List Entry → List Answer → List (List Answer) → List ℕ
 closed_text journal setup transcripts = transcript_text 0 setup ++ transcripts_text 1 transcripts ++ report_text journal
 
--- a writer got the text of a run whose journal is legal, over a store of this shape
-pub record IsClosedText (shape : Shape) (journal : List Entry) (setup : List Answer) (transcripts : List (Vec Answer)) (old new : Option (List ℕ)) : Type 0 where
-  pub legal : IsLegal shape.numbers shape.segments journal opening_world
-  pub written : Appends old new (closed_text journal setup (map (λ (transcript : Vec Answer). transcript.items) transcripts))
+-- a writer got the text of a run with this journal and these answers
+abbrev pub IsClosedText : List Entry → List Answer → List (Vec Answer) → Option (List ℕ) → Option (List ℕ) → Type 0
+IsClosedText journal setup transcripts old new =
+    Appends old new (closed_text journal setup (map (λ (transcript : Vec Answer). transcript.items) transcripts))
 
 -- calls are those of a script, split: no line is the cleaner's, the setup has those of session 0, and each script those of its
 -- session, from 1 to the highest that a line names

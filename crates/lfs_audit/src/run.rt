@@ -2,11 +2,11 @@
 
 ghost use Rattle.std.specs.Prelude.{◌≡◌, ◌<◌, ◌^◌, ℕ, List, [], length, IfErr, IfOk, IfSome, OnOk};
 ghost use Rattle.std.specs.Io.KnownBytes.{Appends, Keeps, append_known};
-ghost use Rattle.lfs_types.specs.Tree.{opening_world};
 ghost use Rattle.lfs_model.specs.Steps.{IsLegal};
 ghost use Rattle.lfs_server.specs.Serving.{IsInRange};
 ghost use Rattle.lfs_print.specs.ReportText.{report_text};
 ghost use Rattle.lfs_volume.specs.Cleanings.{cleaner_of};
+ghost use Rattle.lfs_volume.specs.Journals.{Begins, Since};
 ghost use Rattle.lfs_audit.specs.Faults.{IsFaultOf, IsRead, IsReadingFault, MayHaveWritten};
 ghost use Rattle.lfs_audit.specs.Output.{IsOutput, IsRun};
 ghost use Rattle.lfs_audit.specs.Runs.{WritesLines};
@@ -61,6 +61,7 @@ pub fn run_over<F: CleanedStore + Drop, R: Read, W: Write>(
     ensures written { OnOk result (IfSome (R.remaining reader.old) (λ script. (text : List ℕ)
         × IsOutput
         (cleaner_of F.state F.is_settled F.cleaner)
+        (Begins (F.state volume.old.since) volume.old.since_level)
         script volume.old.limit volume.old.store text
         × Appends (W.contents writer.old) (W.contents writer.new) text)) }
     ensures fault { IfErr result (IsFaultOf (R.remaining reader.old)) }
@@ -94,6 +95,7 @@ pub fn run_plan<F: CleanedStore + Drop, W: Write>(
     ensures written { OnOk result ((text : List ℕ)
         × IsRun
         (cleaner_of F.state F.is_settled F.cleaner)
+        (Begins (F.state volume.old.since) volume.old.since_level)
         volume.old.limit volume.old.store steps.items text
         × Appends (W.contents writer.old) (W.contents writer.new) text) }
     ensures fault { IfErr result MayHaveWritten }
@@ -132,7 +134,8 @@ pub fn print_report<F: FileStore + Drop, W: Write>(
 ) -> Result<(), RunFault>
     ensures written { OnOk result (
         let shape = (F.state volume.now.store).shape in
-        IsLegal shape.numbers shape.segments volume.now.journal opening_world
+        Since (F.state volume.now.since) volume.now.since_level
+        (λ from. IsLegal shape.numbers shape.segments volume.now.journal from)
         × Appends (append_known (W.contents writer.old) text.old.items)
         (W.contents writer.new) (report_text volume.now.journal)) }
     ensures fault { IfErr result MayHaveWritten }

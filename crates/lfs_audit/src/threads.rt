@@ -71,7 +71,7 @@ fn print_closed<F: CleanedStore + Drop, W: Write>(
 ) -> Result<(), ThreadsFault>
     requires { length closed.now.transcripts.items ≤ 8 }
     ensures written { OnOk result
-        (IsClosedText (F.state closed.now.volume.store).shape closed.now.volume.journal
+        (IsClosedText closed.now.volume.journal
         closed.now.setup.items closed.now.transcripts.items
         (W.contents writer.old) (W.contents writer.new)) }
     ensures fault { IfErr result MayHaveWrittenThreads }

@@ -5,3 +5,4 @@ pub mod LineLemmas
 pub mod SameLemmas
 pub mod StartLemmas
 pub mod TalkLemmas
+pub mod TellingLemmas

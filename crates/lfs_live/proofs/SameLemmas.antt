@@ -5,13 +5,10 @@ use Rattle.std.specs.List.{All, list_any, onto_first}
 use Rattle.std.proofs.KnownBytes.{Appends-trans}
 use Rattle.std.proofs.lemmas.Bool.{eqb-true, le-ltb}
 use Rattle.std.proofs.lemmas.List.Elements.{All-head, All-tail}
-use Rattle.lfs_types.specs.StoreStates.{Shape}
-use Rattle.lfs_types.specs.Tree.{opening_world}
 use Rattle.lfs_model.specs.declared.journal.Entry.{Entry}
 use Rattle.lfs_model.specs.declared.steps.Step.{Step as Made}
 use Rattle.lfs_model.specs.declared.steps.StepAnswer.{StepAnswer}
 use Rattle.lfs_model.specs.Runs.{kept_steps}
-use Rattle.lfs_model.specs.Steps.{IsLegal}
 use Rattle.lfs_print.specs.ReportText.{report_text}
 use Rattle.lfs_words.specs.Lines.{HasNoLineFeed, IsFirstLine, is_printable}
 use Rattle.lfs_words.specs.Wording.{is_bare, words_of}
@@ -26,13 +23,14 @@ use Rattle.lfs_script.specs.declared.plan.Line.TheVariants as says
 use Rattle.lfs_script.specs.declared.plan.Step.{Step}
 use Rattle.lfs_script.proofs.PlanLemmas.{lines_first, plan_cut, plan_end, plan_step}
 use Rattle.lfs_staging.specs.declared.parts.Parts.{Parts}
+use Rattle.lfs_logstore.specs.States.{state_of}
 use Rattle.lfs_volume.specs.Cleanings.{Cleaner}
+use Rattle.lfs_volume.specs.Journals.{Begins}
 use Rattle.lfs_volume.specs.Seen.{Seen}
-use Rattle.lfs_volume.specs.StepRuns.{AreSteps}
 use Rattle.lfs_audit.specs.Output.{IsOutput}
 use Rattle.lfs_audit.specs.Runs.{AreAsked, Runs, lines_text}
 use Rattle.lfs_audit.specs.Scripts.{log_cleaner}
-use Rattle.lfs_audit.proofs.RunLemmas.{lines_of_runs, runs_joined, runs_none}
+use Rattle.lfs_audit.proofs.RunLemmas.{begun_answers, begun_legal, lines_of_runs, runs_joined, runs_none}
 use Rattle.lfs_live.specs.Hearing.{heard_of, is_dotted}
 use Rattle.lfs_live.specs.Scripts.{WritesAsScript, log_talker}
 use Rattle.lfs_live.specs.Talkers.{Talker}
@@ -263,7 +261,7 @@ told-whole told told_last lines report all none is same =
 
 script-written : (old new : Seen Parts) (script behind : List ℕ) (start out : Option (List ℕ)) (plan : Planned)
     → old.journal ≡ [] → plan_of script ≡ Ok plan → All IsShort (lines_of script) → IsTalk log_talker old new (Some script) (Some behind) start out
-    → (text : List ℕ) × IsOutput log_cleaner script old.limit old.store text × Appends start out text
+    → (text : List ℕ) × IsOutput log_cleaner (Begins (state_of old.since) old.since_level) script old.limit old.store text × Appends start out text
 script-written old new script behind start out plan empty parsed short talk =
     let all = talk.heard in
     let rest = all.last ++ behind in
@@ -274,12 +272,8 @@ script-written old new script behind start out plan empty parsed short talk =
     let ran = goes.followed.ran in
     let made = goes.followed.made in
     let answers = goes.followed.answers in
-    let shape = (log_cleaner.state old.store).shape in
     let steps : goes.followed.steps ≡ plan.steps = sym goes.followed.grown ∙ ap (λ (p : Planned). p.steps) fin.1 in
     let entries : new.journal ≡ kept_steps made answers = ran.entered ∙ ap (λ (j : List Entry). j ++ kept_steps made answers) empty in
-    let legal : IsLegal shape.numbers shape.segments (kept_steps made answers) opening_world =
-    subst (λ (j : List Entry). IsLegal shape.numbers shape.segments j opening_world) entries
-    (subst (λ (s : Shape). IsLegal s.numbers s.segments new.journal opening_world) ran.shape talk.legal) in
     let text = lines_text made answers ++ report_text (kept_steps made answers) in
     let written : Appends start out ((all.told ++ all.told_last) ++ report_text new.journal) =
     Appends-trans start talk.before out (all.told ++ all.told_last) (report_text new.journal) all.printed talk.reported in (
@@ -292,8 +286,8 @@ script-written old new script behind start out plan empty parsed short talk =
           answers = answers;
           after = new.store;
           asked = subst (λ (s : List Step). AreAsked s made answers) steps goes.followed.asked;
-          answered = subst (λ (j : List Entry). AreSteps log_cleaner old.limit j old.store made answers new.store) empty ran.answered;
-          legal = legal;
+          answered = begun_answers log_cleaner old new made answers empty ran;
+          legal = begun_legal log_cleaner old new made answers empty ran talk.legal;
           printed = refl;
         };
       },

@@ -2,9 +2,12 @@
 use Rattle.std.specs.Prelude.{◌≡◌, ℕ, ◌≤◌, List, [], length, Option, Some, Ok}
 use Rattle.std.specs.Io.KnownBytes.{Appends}
 use Rattle.std.specs.List.{All}
+use Rattle.lfs_types.specs.Tree.{opening_world}
+use Rattle.lfs_logstore.specs.States.{state_of}
 use Rattle.lfs_staging.specs.declared.parts.Parts.{Parts}
 use Rattle.lfs_script.specs.PlanTypes.{Planned}
 use Rattle.lfs_script.specs.Plans.{lines_of, plan_of}
+use Rattle.lfs_volume.specs.Journals.{Begins}
 use Rattle.lfs_volume.specs.Seen.{Seen}
 use Rattle.lfs_audit.specs.Output.{IsOutput}
 use Rattle.lfs_audit.specs.Scripts.{log_cleaner}
@@ -21,10 +24,12 @@ use Rattle.lfs_server.specs.Fresh.{IsFormatFault, IsFreshLog}
 abbrev pub log_talker : Talker Parts
 log_talker = talker_of log_cleaner map_text segment_text
 
--- a fresh volume over a log of so many segments, inode numbers and frames, with room for so many entries
+-- a fresh volume over a log of so many segments, inode numbers and frames, with room for so many entries, whose journal
+-- begins in the opening world
 pub record IsFresh (segments inodes frames limit : ℕ) (volume : Seen Parts) : Type 0 where
   pub log : IsFreshLog segments inodes frames volume.store
   pub empty : volume.journal ≡ []
+  pub begins : Begins (state_of volume.since) volume.since_level opening_world
   pub room : volume.limit ≡ limit
 
 -- a talk over a fresh volume
@@ -47,10 +52,10 @@ IsLogFault segments inodes frames (Format fault) = IsFormatFault segments inodes
 IsLogFault segments inodes frames fault = IsTalkFault fault
 
 -- What a talk writes whose lines are a script without a fault, in which no line has more than 65,536 bytes, a run of that
--- script writes.
+-- script writes, from wherever the journal began.
 abbrev pub WritesAsScript : Type 0
 WritesAsScript =
     (old new : Seen Parts) (script : List ℕ) (left start out : Option (List ℕ)) (plan : Planned)
     → old.journal ≡ [] → plan_of script ≡ Ok plan → All (λ line. length line ≤ 65536) (lines_of script)
     → IsTalk log_talker old new (Some script) left start out
-    → (text : List ℕ) × IsOutput log_cleaner script old.limit old.store text × Appends start out text
+    → (text : List ℕ) × IsOutput log_cleaner (Begins (state_of old.since) old.since_level) script old.limit old.store text × Appends start out text

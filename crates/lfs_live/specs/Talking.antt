@@ -3,13 +3,13 @@ use Rattle.std.specs.Prelude.{◌≡◌, ℕ, ◌⊎◌, false, List, [], ◌∷
 use Rattle.std.specs.Io.KnownBytes.{Appends, Consumes, IsAtEnd}
 use Rattle.std.specs.List.{flat_map}
 use Rattle.lfs_types.specs.StoreStates.{StoreState}
-use Rattle.lfs_types.specs.Tree.{opening_world}
-use Rattle.lfs_model.specs.Steps.{IsLegal, world_of}
+use Rattle.lfs_model.specs.Steps.{IsLegal}
 use Rattle.lfs_print.specs.ReportText.{report_text}
 use Rattle.lfs_script.specs.declared.plan.Line.{Line}
 use Rattle.lfs_script.specs.declared.plan.Line.TheVariants.{Nothing, Session, Caller, Act}
 use Rattle.lfs_words.specs.Lines.{HasNoLineFeed}
 use Rattle.lfs_volume.specs.Cleanings.{Cleaner}
+use Rattle.lfs_volume.specs.Journals.{AtPresent, Since}
 use Rattle.lfs_volume.specs.Seen.{Seen}
 use Rattle.lfs_audit.specs.Runs.{TellsLine}
 use Rattle.lfs_explain.specs.WhyText.{why_text}
@@ -40,13 +40,15 @@ pub record LooksOn {F : Type 0} (before after : StoreState) (old new : Seen F) :
   pub level : new.level ≡ old.level
   pub journal : new.journal ≡ old.journal
   pub limit : new.limit ≡ old.limit
+  pub since : new.since ≡ old.since
+  pub since_level : new.since_level ≡ old.since_level
 
 -- the same of each line: a call that is explained is not made, and a word of the server's own and a fault change nothing
 abbrev pub Hears : {F : Type 0} → Talker F → Seen F → Speaker → Heard → List ℕ → Seen F → Speaker → Type 0
 Hears r old speaker (heard.Line line) told new then = Does r.cleaner old speaker line told new then
 Hears r old speaker (heard.Why request) told new then =
     LooksOn (r.cleaner.state old.store) (r.cleaner.state new.store) old new × (then ≡ speaker)
-    × (told ≡ why_text (world_of (r.cleaner.state old.store).shape.numbers old.journal) speaker.cred request)
+    × AtPresent r.cleaner.state old (λ w. told ≡ why_text w speaker.cred request)
 Hears r old speaker (heard.Dot dot) told new then =
     (new ≡ old) × (then ≡ speaker) × (dot_text r.map_text r.segment_text dot old ≡ Some told)
 Hears r old speaker (heard.Fault fault) told new then = (new ≡ old) × (then ≡ speaker) × (told ≡ fault_line fault)
@@ -93,9 +95,10 @@ pub record HasHeardAll {F : Type 0} (r : Talker F) (old new : Seen F) (known lef
   pub taken : Consumes known left (ended lines ++ last)
   pub printed : Appends start out (told ++ told_last)
 
--- the same, and then the report of the journal, which is legal from the opening tree
+-- the same, and then the report of the journal, which is legal from the tree where it began
 pub record IsTalk {F : Type 0} (r : Talker F) (old new : Seen F) (known left start out : Option (List ℕ)) : Type 0 where
   pub before : Option (List ℕ)
   pub heard : HasHeardAll r old new known left start before
-  pub legal : IsLegal (r.cleaner.state new.store).shape.numbers (r.cleaner.state new.store).shape.segments new.journal opening_world
+  pub legal : Since (r.cleaner.state new.since) new.since_level
+      (λ from. IsLegal (r.cleaner.state new.store).shape.numbers (r.cleaner.state new.store).shape.segments new.journal from)
   pub reported : Appends before out (report_text new.journal)

@@ -2,9 +2,9 @@
 
 ghost use Rattle.std.specs.Prelude.{◌≡◌, [], Some, IfOk, MatchOption};
 ghost use Rattle.lfs_volume.specs.Cleanings.{cleaner_of};
+ghost use Rattle.lfs_volume.specs.Journals.{AtPresent};
 ghost use Rattle.lfs_audit.specs.Runs.{TellsLine};
 ghost use Rattle.lfs_explain.specs.WhyText.{why_text};
-ghost use Rattle.lfs_model.specs.Steps.{world_of};
 ghost use Rattle.lfs_live.specs.Hearing.{heard_of};
 ghost use Rattle.lfs_live.specs.Talkers.{talker_of};
 ghost use Rattle.lfs_live.specs.Talking.{Does, Hears, LooksOn, first_speaker};
@@ -126,8 +126,8 @@ fn tell_why<F: FileStore + Drop>(
     cred: &Cred,
     request: &Request,
 ) -> Result<Vec<u8>, AllocError>
-    ensures text { let w = world_of (F.state volume.old.store).shape.numbers volume.old.journal in
-        IfOk result (λ text. text.items ≡ why_text w cred.now request.now) }
+    ensures text { IfOk result (λ text. AtPresent F.state volume.old
+        (λ w. text.items ≡ why_text w cred.now request.now)) }
     ensures looks { LooksOn (F.state volume.old.store) (F.state volume.new.store)
         volume.old volume.new }
 {

@@ -1,5 +1,7 @@
 -- Faults of a run on a volume that was laid out for it, and results that are Ok.
 use Rattle.std.proofs.Common.{◌≡◌, ℕ, ◌<◌, ◌≤◌, Result, Ok, Err, IfErr, IfOk, OnOk, sym, subst}
+use Rattle.lfs_types.specs.StoreStates.{StoreState}
+use Rattle.lfs_types.specs.Tree.{opening_world}
 use Rattle.lfs_types.specs.declared.fault.FormatFault.{FormatFault}
 use Rattle.lfs_types.specs.declared.fault.FormatFault.TheVariants.{TooFew, TooMany}
 use Rattle.lfs_types.specs.declared.fault.FormatFault.TheVariants as formats
@@ -9,6 +11,8 @@ use Rattle.lfs_server.specs.declared.serving.ServeFault.{ServeFault}
 use Rattle.lfs_server.specs.declared.serving.ServeFault.TheVariants.{Sessions, Format, Memory, Unsettled, Thread}
 use Rattle.lfs_staging.specs.Opening.{IsOpening}
 use Rattle.lfs_staging.specs.declared.parts.Parts.{Parts}
+use Rattle.lfs_volume.specs.Journals.{Begins, IsJournal, Since}
+use Rattle.lfs_volume.specs.Seen.{Seen}
 use Rattle.lfs_logstore.specs.States.{opening_state, state_of}
 
 serve_fault : (sessions segments inodes frames : ℕ) (fault : ServeFault) → IsInRange segments inodes frames → IsFaultOf sessions fault → IsServeFault sessions segments inodes frames fault
@@ -42,3 +46,13 @@ no_fault {A} {E} a e eq = subst (λ (r : Result A E). IfOk r (λ _. ⊥)) (sym e
 -- a log that was just laid out is fresh
 pub fresh_log : (segments inodes frames : ℕ) (store : Parts) → state_of store ≡ opening_state segments inodes → IsOpening segments inodes frames store → IsFreshLog segments inodes frames store
 fresh_log segments inodes frames store opening laid_out = record { opening = opening; laid_out = laid_out }
+
+-- where a run began on a volume that shows the opening tree, its journal is legal from there
+pub legal_from_opening : {F C E : Type 0} (state : F → StoreState) (volume : C → Seen F) (result : Result C E) (old : Seen F) → Begins (state old.since) old.since_level opening_world
+    → IfOk result (λ c. state (volume c).since ≡ state old.since) → IfOk result (λ c. (volume c).since_level ≡ old.since_level)
+    → IfOk result (λ c. Since (state (volume c).since) (volume c).since_level (λ from. IsJournal from (state (volume c).store) (volume c).level (volume c).journal (volume c).limit))
+    → IfOk result (λ c. IsJournal opening_world (state (volume c).store) (volume c).level (volume c).journal (volume c).limit)
+legal_from_opening state volume (Ok c) old begins since since_level legal =
+    legal opening_world
+    (subst (λ l. Begins (state (volume c).since) l opening_world) (sym since_level) (subst (λ s. Begins s old.since_level opening_world) (sym since) begins))
+legal_from_opening state volume (Err e) old begins since since_level legal = tt

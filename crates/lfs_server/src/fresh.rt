@@ -1,6 +1,9 @@
 //! A fresh volume over the log store.
 
 ghost use Rattle.std.specs.Prelude.{◌≡◌, [], IfErr, IfOk, OnOk};
+ghost use Rattle.lfs_types.specs.Tree.{opening_world};
+ghost use Rattle.lfs_logstore.specs.States.{state_of};
+ghost use Rattle.lfs_volume.specs.Journals.{Begins};
 ghost use Rattle.lfs_server.specs.Fresh.{IsFormatFault, IsFreshLog};
 ghost use Rattle.lfs_server.specs.Serving.{IsInRange};
 
@@ -18,6 +21,8 @@ use std::alloc::Global;
 pub fn fresh_volume(alloc: Global, params: Params) -> Result<Volume<LogStore>, FormatFault>
     ensures fresh { IfOk result (λ volume. (volume.journal ≡ []) × (volume.limit ≡ params.journal)
         × IsFreshLog params.segments params.inodes params.frames volume.store) }
+    ensures begins { IfOk result (λ volume.
+        Begins (state_of volume.since) volume.since_level opening_world) }
     ensures ranges { OnOk result (IsInRange params.segments params.inodes params.frames) }
     ensures fault { IfErr result (IsFormatFault params.segments params.inodes params.frames) }
 {

@@ -13,34 +13,59 @@ use lfs_types::cred::Cred;
 use lfs_types::request::Request;
 use lfs_types::store::FileStore;
 use lfs_volume::volume::Volume;
-use std::marker::{Brand, PhantomData};
+use std::marker::{Brand, Model, PhantomData};
 
 /// What no call changes of a volume, as a type.
 pub trait Sizes {
     ghost use Rattle.std.specs.Prelude.{ℕ};
-    ghost use Rattle.lfs_types.specs.StoreStates.{Shape};
+    ghost use Rattle.lfs_types.specs.StoreStates.{Shape, StoreState};
+    ghost use Rattle.lfs_types.specs.declared.level.Level.{Level};
 
     /// How many inode numbers and segments its store has, and whether changes of it take memory.
     ghost shape: { Shape };
     /// How many entries its journal may have.
     ghost limit: { ℕ };
+    /// What its store showed when its journal began.
+    ghost since: { StoreState };
+    /// The securelevel when its journal began.
+    ghost since_level: { Level };
 }
 
 impl Sizes for Brand {
     ghost use Rattle.std.specs.Prelude.{false};
+    ghost use Rattle.std.specs.FinMap.{empty};
+    ghost use Rattle.lfs_types.specs.declared.level.Level.TheVariants.{Insecure};
 
     ghost shape = { record { numbers = 0; segments = 0; can_lack_memory = false } };
 
     ghost limit = { 0 };
+
+    ghost since = { record {
+      content = empty;
+      shape = record { numbers = 0; segments = 0; can_lack_memory = false };
+      clean = 0;
+    } };
+
+    ghost since_level = { Insecure };
 }
 
-/// A volume of these sizes.
+/// A volume of these sizes. Contracts see the volume alone.
 #[derive(Drop)]
 pub struct Kept<S: Sizes, F: FileStore + Drop> {
     volume: Volume<F>,
     sizes: PhantomData<S>,
-    ghost shaped: { (F.state volume.store).shape ≡ S.shape },
-    ghost limited: { volume.limit ≡ S.limit },
+}
+
+impl<S: Sizes, F: FileStore + Drop> Model for Kept<S, F> {
+    ghost use Rattle.std.specs.Prelude.{◌≡◌};
+    ghost use Rattle.lfs_volume.specs.Seen.{Seen};
+
+    ghost Value = { Seen F };
+
+    ghost view = { λ k. k.volume };
+
+    ghost invariant = { λ k. ((F.state k.volume.store).shape ≡ S.shape) × (k.volume.limit ≡ S.limit)
+        × (F.state k.volume.since ≡ S.since) × (k.volume.since_level ≡ S.since_level) };
 }
 
 impl<S: Sizes, F: FileStore + Drop> Kept<S, F> {
@@ -48,7 +73,9 @@ impl<S: Sizes, F: FileStore + Drop> Kept<S, F> {
     pub fn new(volume: Volume<F>) -> Kept<S, F>
         requires shaped { (F.state volume.store).shape ≡ S.shape }
         requires limited { volume.limit ≡ S.limit }
-        ensures { result.volume ≡ volume }
+        requires begun { F.state volume.since ≡ S.since }
+        requires begun_level { volume.since_level ≡ S.since_level }
+        ensures { result ≡ volume }
     {
         let sizes = PhantomData;
         Kept { volume, sizes }
@@ -56,9 +83,11 @@ impl<S: Sizes, F: FileStore + Drop> Kept<S, F> {
 
     /// The volume.
     pub fn into_volume(self) -> Volume<F>
-        ensures volume { result ≡ self.volume }
+        ensures volume { result ≡ self }
         ensures shaped { (F.state result.store).shape ≡ S.shape }
         ensures limited { result.limit ≡ S.limit }
+        ensures begun { F.state result.since ≡ S.since }
+        ensures begun_level { result.since_level ≡ S.since_level }
     {
         let Kept { volume, sizes: _ } = self;
         volume
@@ -67,11 +96,11 @@ impl<S: Sizes, F: FileStore + Drop> Kept<S, F> {
     /// Makes a user's call, and says whether the cleaner is wanted after it: it was refused for want of space, or it
     /// lowered the clean segments to three or fewer.
     pub fn call(&mut self, session: u8, cred: &Cred, request: Request) -> (Answer, bool)
-        ensures entered { self.new.volume.journal ≡ self.old.volume.journal
+        ensures entered { self.new.journal ≡ self.old.journal
             ++ kept_entry session cred.now request result.0 }
         ensures wanted { IsTrue result.1 ↔ ((result.0 ≡ Answer.Refused Resource.NoSpace)
-            ⊎ (((F.state self.new.volume.store).clean < (F.state self.old.volume.store).clean)
-            × ((F.state self.new.volume.store).clean ≤ 3))) }
+            ⊎ (((F.state self.new.store).clean < (F.state self.old.store).clean)
+            × ((F.state self.new.store).clean ≤ 3))) }
     {
         let before = self.volume.clean_segments();
         let answer = self.volume.call(session, cred, request);
@@ -83,7 +112,7 @@ impl<S: Sizes, F: FileStore + Drop> Kept<S, F> {
 impl<S: Sizes, F: CleanedStore + Drop> Kept<S, F> {
     /// Makes a call of the cleaner, in its session.
     pub fn clean(&mut self, cred: &Cred, call: CleanerCall) -> CleanerAnswer
-        ensures { self.new.volume.journal ≡ self.old.volume.journal
+        ensures { self.new.journal ≡ self.old.journal
             ++ kept_cleaning 255 cred.now call result }
     {
         self.volume.clean(CLEANER, cred, call)

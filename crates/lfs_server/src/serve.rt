@@ -1,6 +1,7 @@
 //! A run over a fresh volume on the log store.
 
 ghost use Rattle.std.specs.Prelude.{◌≡◌, ◌≤◌, ◌<◌, IfErr, IfOk, OnOk, vec_len};
+ghost use Rattle.lfs_types.specs.Tree.{opening_world};
 ghost use Rattle.lfs_logstore.specs.States.{shape_of, state_of};
 ghost use Rattle.lfs_settle.specs.Interleaving.{IsInterleaving, run_of};
 ghost use Rattle.lfs_server.specs.Serving.{IsInRange, IsServeFault};
@@ -37,7 +38,7 @@ where
     ensures shape { IfOk result (λ closed. (state_of closed.volume.store).shape
         ≡ shape_of params.inodes params.segments) }
     ensures ranges { OnOk result (IsInRange params.segments params.inodes params.frames) }
-    ensures legal { IfOk result (λ closed. IsJournal
+    ensures legal { IfOk result (λ closed. IsJournal opening_world
         (state_of closed.volume.store) closed.volume.level
         closed.volume.journal closed.volume.limit) }
     ensures sessions { OnOk result ((0 < vec_len sessions) × (vec_len sessions ≤ 8)) }

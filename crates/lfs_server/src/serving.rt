@@ -2,7 +2,7 @@
 
 ghost use Rattle.std.specs.Prelude.{◌≡◌, ◌⊎◌, ◌<◌, ◌≤◌, ◌+◌, IfErr, IfOk, OnOk, vec_len, length};
 ghost use Rattle.lfs_settle.specs.Interleaving.{IsInterleaving, run_of};
-ghost use Rattle.lfs_volume.specs.Journals.{IsJournal};
+ghost use Rattle.lfs_volume.specs.Journals.{IsJournal, Since};
 ghost use Rattle.lfs_server.specs.Serving.{IsClosingFault, IsFaultOf, IsRunFault};
 ghost use Rattle.lfs_server.specs.declared.serving.ServeFault.TheVariants.{Memory, Sessions};
 
@@ -113,9 +113,13 @@ where
     ensures limit { IfOk result (λ closed. closed.volume.limit ≡ volume.limit) }
     ensures shape { IfOk result (λ closed.
         (F.state closed.volume.store).shape ≡ (F.state volume.store).shape) }
-    ensures legal { IfOk result (λ closed. IsJournal
+    ensures since { IfOk result (λ closed. F.state closed.volume.since ≡ F.state volume.since) }
+    ensures since_level { IfOk result (λ closed.
+        closed.volume.since_level ≡ volume.since_level) }
+    ensures legal { IfOk result (λ closed.
+        Since (F.state closed.volume.since) closed.volume.since_level (λ from. IsJournal from
         (F.state closed.volume.store) closed.volume.level
-        closed.volume.journal closed.volume.limit) }
+        closed.volume.journal closed.volume.limit)) }
     ensures sessions { OnOk result ((0 < vec_len sessions) × (vec_len sessions ≤ 8)) }
     ensures fault { IfErr result (IsFaultOf (vec_len sessions)) }
 {
@@ -151,14 +155,19 @@ where
     requires few { length sessions.now ≤ 8 }
     requires shape { (F.state volume.store).shape ≡ S.shape }
     requires limit { volume.limit ≡ S.limit }
+    requires since { F.state volume.since ≡ S.since }
+    requires since_level { volume.since_level ≡ S.since_level }
     ensures settled { IfOk result (λ closed. IsInterleaving
         (run_of closed.volume.journal closed.volume.limit
         setup.now closed.setup.items sessions.now closed.transcripts.items)) }
     ensures limit { IfOk result (λ closed. closed.volume.limit ≡ S.limit) }
     ensures shape { IfOk result (λ closed. (F.state closed.volume.store).shape ≡ S.shape) }
-    ensures legal { IfOk result (λ closed. IsJournal
+    ensures since { IfOk result (λ closed. F.state closed.volume.since ≡ S.since) }
+    ensures since_level { IfOk result (λ closed. closed.volume.since_level ≡ S.since_level) }
+    ensures legal { IfOk result (λ closed.
+        Since (F.state closed.volume.since) closed.volume.since_level (λ from. IsJournal from
         (F.state closed.volume.store) closed.volume.level
-        closed.volume.journal closed.volume.limit) }
+        closed.volume.journal closed.volume.limit)) }
     ensures fault { IfErr result IsRunFault }
 {
     let mut kept = Kept::<S, F>::new(volume);
@@ -257,16 +266,31 @@ where
             ensures fault { IfErr result IsRunFault }
         {
             let threads = Vec::with_capacity(run.alloc, jobs.len())?;
-            if scope
-                .spawn(move || run_cleaner(run, volume, rings))
-                .is_err()
-            {
-                return Err(ServeFault::Thread);
-            }
+            start_cleaner(scope, run, volume, rings)?;
             let threads = start(scope, run, volume, jobs, threads)?;
             joined(run, threads)
         },
     )
+}
+
+/// Starts the cleaner on a thread of its own.
+fn start_cleaner<'s, E, S, R, F, G>(
+    scope: &Scope<'s, E>,
+    run: &'s Run<'s, R, G>,
+    volume: &'s Mutex<Kept<S, F>>,
+    rings: &'s Rings,
+) -> Result<(), ServeFault>
+where
+    S: Sizes + Send,
+    R: Threads + Wait + Sync,
+    F: CleanedStore + Send + Drop,
+    G: Gate,
+    ensures { IfErr result IsRunFault }
+{
+    match scope.spawn(move || run_cleaner(run, volume, rings)) {
+        Ok(_) => Ok(()),
+        Err(_) => Err(ServeFault::Thread),
+    }
 }
 
 /// Starts each session on a thread of its own, and puts the threads behind the others.
@@ -330,9 +354,10 @@ fn close<F: FileStore + Drop>(
     ensures settled { IfOk result (λ closed. IsInterleaving
         (run_of closed.volume.journal closed.volume.limit
         setup.now closed.setup.items sessions.now closed.transcripts.items)) }
-    ensures legal { IfOk result (λ closed. IsJournal
+    ensures legal { IfOk result (λ closed.
+        Since (F.state closed.volume.since) closed.volume.since_level (λ from. IsJournal from
         (F.state closed.volume.store) closed.volume.level
-        closed.volume.journal closed.volume.limit) }
+        closed.volume.journal closed.volume.limit)) }
     ensures fault { IfErr result (IsClosingFault (run_of volume.journal volume.limit
         setup.now answers.items sessions.now transcripts.items)) }
 {

@@ -2,6 +2,7 @@
 use Rattle.std.proofs.Common.{◌≡◌, ◌↔◌, ℕ, ◌<◌, List, [], ◌∷◌, ◌++◌, length, refl, sym, ap, subst, append_assoc, append-nil}
 use Rattle.lfs_types.specs.Caller.{Caller}
 use Rattle.lfs_types.specs.StoreStates.{Follows, StoreState}
+use Rattle.lfs_types.specs.Tree.{World}
 use Rattle.lfs_types.specs.declared.answer.Answer.{Answer}
 use Rattle.lfs_types.specs.declared.answer.Answer.TheVariants.{Served, Refused}
 use Rattle.lfs_types.specs.declared.answer.Resource.TheVariants.{JournalFull}
@@ -11,7 +12,7 @@ use Rattle.lfs_types.specs.declared.request.Request.TheVariants.{Sync}
 use Rattle.lfs_model.specs.declared.journal.Call.{Call}
 use Rattle.lfs_model.specs.declared.journal.Entry.{Entry}
 use Rattle.lfs_model.specs.Runs.{IsUnserved, kept, kept_entry}
-use Rattle.lfs_model.specs.Steps.{world_of}
+use Rattle.lfs_model.specs.Steps.{world_after}
 use Rattle.lfs_calls.specs.Entries.{LeavesEntries, OnServed}
 use Rattle.lfs_calls.specs.Outcomes.{IsOutcome}
 use Rattle.lfs_calls.specs.Volumes.{IsVolume}
@@ -20,17 +21,17 @@ use Rattle.lfs_volume.specs.Journals.{Stays}
 use Rattle.lfs_volume.specs.Seen.{Seen}
 
 -- a call of a volume, as it was made on its store
-pub call_made : {F : Type 0} (state : F → StoreState) (is_settled : F → Type 0) (old new : Seen F) (caller : Caller) (request : Request) (answer : Answer)
+pub call_made : {F : Type 0} (state : F → StoreState) (is_settled : F → Type 0) (from : World) (old new : Seen F) (caller : Caller) (request : Request) (answer : Answer)
     → ((answer ≡ Refused JournalFull) ↔ (length old.journal ≡ old.limit))
     → (length old.journal ≡ old.limit → new ≡ old)
-    → IsVolume (state old.store) (world_of (state old.store).shape.numbers old.journal)
-    → (length old.journal < old.limit → IsOutcome (state old.store) (world_of (state old.store).shape.numbers old.journal) caller request answer)
-    → OnServed answer (LeavesEntries request (state old.store).content (state new.store).content (world_of (state old.store).shape.numbers old.journal).rows)
+    → IsVolume (state old.store) (world_after (state old.store).shape.numbers old.journal from)
+    → (length old.journal < old.limit → IsOutcome (state old.store) (world_after (state old.store).shape.numbers old.journal from) caller request answer)
+    → OnServed answer (LeavesEntries request (state old.store).content (state new.store).content (world_after (state old.store).shape.numbers old.journal from).rows)
     → (IsUnserved answer → Stays (state old.store) (state new.store) old.level new.level)
     → (request ≡ Sync → answer ≡ Served Done → is_settled new.store)
     → Follows (state old.store) (state new.store)
-    → IsCallMade state is_settled old.limit old.journal old.store caller request answer new.store
-call_made {F} state is_settled old new caller request answer full at_limit shown outcome entries unserved synced follows = record {
+    → IsCallMade state is_settled old.limit from old.journal old.store caller request answer new.store
+call_made {F} state is_settled from old new caller request answer full at_limit shown outcome entries unserved synced follows = record {
   full = full;
   at_limit = λ h. ap (λ (v : Seen F). v.store) (at_limit h);
   shown = shown;
@@ -42,22 +43,22 @@ call_made {F} state is_settled old new caller request answer full at_limit shown
 }
 
 -- one more call was answered
-pub AreAnswers-append : {F : Type 0} (state : F → StoreState) (is_settled : F → Type 0) (limit : ℕ) (journal : List Entry) (first last next : F) (calls : List Call)
-    (answers : List Answer) (call : Call) (answer : Answer) → AreAnswers state is_settled limit journal first calls answers last
-    → IsCallMade state is_settled limit (journal ++ kept calls answers) last call.cred call.request answer next
-    → AreAnswers state is_settled limit journal first (calls ++ call ∷ []) (answers ++ answer ∷ []) next
-AreAnswers-append {F} state is_settled limit journal first last next [] [] call answer are made = (
+pub AreAnswers-append : {F : Type 0} (state : F → StoreState) (is_settled : F → Type 0) (limit : ℕ) (from : World) (journal : List Entry) (first last next : F) (calls : List Call)
+    (answers : List Answer) (call : Call) (answer : Answer) → AreAnswers state is_settled limit from journal first calls answers last
+    → IsCallMade state is_settled limit from (journal ++ kept calls answers) last call.cred call.request answer next
+    → AreAnswers state is_settled limit from journal first (calls ++ call ∷ []) (answers ++ answer ∷ []) next
+AreAnswers-append {F} state is_settled limit from journal first last next [] [] call answer are made = (
   next,
-  subst (λ (s : F). IsCallMade state is_settled limit journal s call.cred call.request answer next) are
-      (subst (λ j. IsCallMade state is_settled limit j last call.cred call.request answer next) (append-nil journal) made),
+  subst (λ (s : F). IsCallMade state is_settled limit from journal s call.cred call.request answer next) are
+      (subst (λ j. IsCallMade state is_settled limit from j last call.cred call.request answer next) (append-nil journal) made),
   refl,
 )
-AreAnswers-append state is_settled limit journal first last next [] (a ∷ answers) call answer are made = absurd are
-AreAnswers-append state is_settled limit journal first last next (c ∷ calls) [] call answer are made = absurd are
-AreAnswers-append state is_settled limit journal first last next (c ∷ calls) (a ∷ answers) call answer are made =
+AreAnswers-append state is_settled limit from journal first last next [] (a ∷ answers) call answer are made = absurd are
+AreAnswers-append state is_settled limit from journal first last next (c ∷ calls) [] call answer are made = absurd are
+AreAnswers-append state is_settled limit from journal first last next (c ∷ calls) (a ∷ answers) call answer are made =
     let entry = kept_entry c.session c.cred c.request a in (
       are.0,
       are.1,
-      AreAnswers-append state is_settled limit (journal ++ entry) are.0 last next calls answers call answer are.2
-          (subst (λ j. IsCallMade state is_settled limit j last call.cred call.request answer next) (sym (append_assoc journal entry (kept calls answers))) made),
+      AreAnswers-append state is_settled limit from (journal ++ entry) are.0 last next calls answers call answer are.2
+          (subst (λ j. IsCallMade state is_settled limit from j last call.cred call.request answer next) (sym (append_assoc journal entry (kept calls answers))) made),
     )

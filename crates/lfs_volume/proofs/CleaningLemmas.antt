@@ -3,6 +3,7 @@ use Rattle.std.proofs.Common.{◌≡◌, ℕ, ◌+◌, ◌≤◌, List, Some, sy
 use Rattle.std.specs.Prelude.{IfSome}
 use Rattle.lfs_types.specs.Caller.{Caller}
 use Rattle.lfs_types.specs.StoreStates.{StoreState}
+use Rattle.lfs_types.specs.Tree.{World}
 use Rattle.lfs_types.specs.declared.cleaner.CleanerCall.{CleanerCall}
 use Rattle.lfs_types.specs.declared.cleaner.CleanerCall.TheVariants as calls
 use Rattle.lfs_types.specs.declared.level.Level.{Level}
@@ -14,7 +15,7 @@ use Rattle.lfs_model.specs.declared.journal.Entry.{Entry}
 use Rattle.lfs_model.specs.declared.journal.Event.TheVariants.{Cleaner}
 use Rattle.lfs_model.specs.Cleaning.{IsCleaning}
 use Rattle.lfs_model.specs.Runs.{cleans, kind_of, outcome_of}
-use Rattle.lfs_model.specs.Steps.{world_of}
+use Rattle.lfs_model.specs.Steps.{world_after}
 use Rattle.lfs_calls.specs.Content.{Shows}
 use Rattle.lfs_volume.specs.Cleanings.{Cleaner as Store, CleansOnly, IsCleaned, IsCleanerAnswer, IsDone}
 use Rattle.lfs_volume.specs.Journals.{IsJournal, IsStep}
@@ -50,12 +51,12 @@ answered_done r old caller call (Bmapv infos) new is h = (is, h)
 answered_done r old caller call (Marked count) new is h = (is, h)
 answered_done r old caller call Cleaned new is h = (is, h)
 
-pub IsStep-cleaned : (old new : StoreState) (level : Level) (es : List Entry) (limit : ℕ) (caller : Caller) (call : CleanerCall) (answer : CleanerAnswer)
-    (outcome : CleanerOutcome) → IsJournal old level es limit → IsCleaned old new caller call answer → outcome_of answer ≡ Some outcome
-    → IsStep old new level (world_of old.shape.numbers es) caller (Cleaner (kind_of call) outcome)
-IsStep-cleaned old new level es limit caller call answer outcome j is comes = record {
+pub IsStep-cleaned : (from : World) (old new : StoreState) (level : Level) (es : List Entry) (limit : ℕ) (caller : Caller) (call : CleanerCall) (answer : CleanerAnswer)
+    (outcome : CleanerOutcome) → IsJournal from old level es limit → IsCleaned old new caller call answer → outcome_of answer ≡ Some outcome
+    → IsStep old new level (world_after old.shape.numbers es from) caller (Cleaner (kind_of call) outcome)
+IsStep-cleaned from old new level es limit caller call answer outcome j is comes = record {
   happens = subst (λ o. IfSome o (IsCleaning old.shape.numbers old.shape.segments caller (kind_of call))) comes is.outcome;
-  leaves = record { shows = subst (λ c. Shows c (world_of old.shape.numbers es)) (sym is.content) j.shown.shows; tree = j.shown.tree };
+  leaves = record { shows = subst (λ c. Shows c (world_after old.shape.numbers es from)) (sym is.content) j.shown.shows; tree = j.shown.tree };
   leveled = j.at_level;
   space = λ no. absurd no;
   clean = subst (λ o. IfSome o (λ (x : CleanerOutcome). new.clean ≤ old.clean + cleans (Cleaner (kind_of call) x))) comes is.told;

@@ -1,7 +1,6 @@
 -- Journals: the opening one, and one with an entry more.
-use Rattle.std.proofs.Common.{◌≡◌, ℕ, ◌+◌, ◌<◌, ◌≤◌, List, [], ◌∷◌, ◌++◌, length, inr, true, false, refl, sym, ap, subst, ◌∙◌, arith, length-append}
+use Rattle.std.proofs.Common.{◌≡◌, ℕ, ◌+◌, ◌<◌, ◌≤◌, List, [], ◌∷◌, ◌++◌, length, Some, inr, true, false, refl, sym, ap, subst, ◌∙◌, arith, length-append}
 use Rattle.std.specs.Prelude.{Result, Ok, Err, OnErr, OnOk}
-use Rattle.std.specs.FinMap as map
 use Rattle.lfs_types.specs.Caller.{Caller}
 use Rattle.lfs_types.specs.Shown.{IsList, ServesList}
 use Rattle.lfs_types.specs.StoreStates.{Follows, Shape, StoreState}
@@ -18,8 +17,8 @@ use Rattle.lfs_types.specs.declared.request.Request.TheVariants.{Stat, Read, Wri
 use Rattle.lfs_model.specs.declared.journal.Entry.{Entry}
 use Rattle.lfs_model.specs.declared.journal.Event.{Event}
 use Rattle.lfs_model.specs.declared.journal.Event.TheVariants.{User, Cleaner}
-use Rattle.lfs_model.specs.Runs.{IsNoSpace, IsShort, IsUnserved, cleaned, cleans}
-use Rattle.lfs_model.specs.Steps.{IsAnswer, IsLegal, after_answer, world_of}
+use Rattle.lfs_model.specs.Runs.{IsNoSpace, IsShort, IsUnserved, cleaned, cleans, user_event}
+use Rattle.lfs_model.specs.Steps.{IsAnswer, IsLegal, after_answer, world_after}
 use Rattle.lfs_model.proofs.LevelLemmas.{level_after}
 use Rattle.lfs_model.proofs.RunLemmas.{opening_tree, world_after-append, IsLegal-append, list_copies}
 use Rattle.lfs_calls.specs.Content.{Shows}
@@ -30,17 +29,36 @@ use Rattle.lfs_calls.specs.Calls.{IsCallAt, answered}
 use Rattle.lfs_calls.specs.declared.not_served.NotServed.{NotServed}
 use Rattle.lfs_calls.specs.declared.not_served.NotServed.TheVariants as reasons
 use Rattle.lfs_volume.specs.Copies.{is_lack_of_memory}
-use Rattle.lfs_volume.specs.Journals.{IsAnswered, IsJournal, IsStep, Stays, level_left, level_set}
+use Rattle.lfs_volume.specs.Journals.{Begins, HasBegun, IsAnswered, IsJournal, IsStep, Stays, level_left, level_set}
 
--- the empty journal is that of the opening
-pub opening_journal : (s : StoreState) (limit : ℕ) → Shows s.content opening_world → IsJournal s Insecure [] limit
-opening_journal s limit shown = record {
+-- a store that shows a world shows it at each level
+pub begun : (s : StoreState) (level : Level) → HasWorld s → HasBegun s level
+begun s level has = (
+  record has.0 { level = level },
+  record {
+    shown = record { shows = record { files = has.1.shows.files; sizes = has.1.shows.sizes; listings = has.1.shows.listings }; tree = has.1.tree };
+    at_level = refl;
+  },
+)
+
+-- the tree of a fresh volume is one where a journal may begin
+pub opening_begins : (s : StoreState) → Shows s.content opening_world → Begins s Insecure opening_world
+opening_begins s shown = record { shown = record { shows = shown; tree = opening_tree }; at_level = refl }
+
+-- the empty journal is one of the world in which it begins
+pub beginning_journal : (from : World) (s : StoreState) (level : Level) (limit : ℕ) → Begins s level from → IsJournal from s level [] limit
+beginning_journal from s level limit begins = record {
   legal = tt;
-  shown = record { shows = shown; tree = opening_tree };
-  at_level = refl;
+  shown = begins.shown;
+  at_level = begins.at_level;
   within = omega arith;
   space = tt;
 }
+
+-- where a journal leads to, the next one may begin
+pub journal_begins : (from : World) (s : StoreState) (level : Level) (es : List Entry) (limit : ℕ)
+    → IsJournal from s level es limit → Begins s level (world_after s.shape.numbers es from)
+journal_begins from s level es limit j = record { shown = j.shown; at_level = j.at_level }
 
 -- fewer clean segments are no more than before
 IsShort-fewer : (clean fewer : ℕ) (es : List Entry) → fewer ≤ clean → IsShort clean es → IsShort fewer es
@@ -65,13 +83,13 @@ IsShort-append clean (x ∷ es) e short few =
     ((λ no. let old = short.0 no in let more = cleaned-append es e in omega (arith, old, more)), IsShort-append clean es e short.1 few)
 
 -- the journal of a store that changed nothing but the count of its clean segments
-pub IsJournal-same : (old new : StoreState) (level level_after : Level) (es : List Entry) (limit : ℕ)
-    → IsJournal old level es limit → Stays old new level level_after → Follows old new → IsJournal new level_after es limit
-IsJournal-same old new level level_after es limit j stays follows = record {
-  legal = subst (λ (s : Shape). IsLegal s.numbers s.segments es opening_world) (sym follows.shape) j.legal;
-  shown = subst (λ (s : Shape). IsVolume new (world_of s.numbers es)) (sym follows.shape)
-      (record { shows = subst (λ c. Shows c (world_of old.shape.numbers es)) (sym stays.content) j.shown.shows; tree = j.shown.tree });
-  at_level = subst (λ (s : Shape). (world_of s.numbers es).level ≡ level_after) (sym follows.shape) (j.at_level ∙ sym stays.at_level);
+pub IsJournal-same : (from : World) (old new : StoreState) (level level_after : Level) (es : List Entry) (limit : ℕ)
+    → IsJournal from old level es limit → Stays old new level level_after → Follows old new → IsJournal from new level_after es limit
+IsJournal-same from old new level level_after es limit j stays follows = record {
+  legal = subst (λ (s : Shape). IsLegal s.numbers s.segments es from) (sym follows.shape) j.legal;
+  shown = subst (λ (s : Shape). IsVolume new (world_after s.numbers es from)) (sym follows.shape)
+      (record { shows = subst (λ c. Shows c (world_after old.shape.numbers es from)) (sym stays.content) j.shown.shows; tree = j.shown.tree });
+  at_level = subst (λ (s : Shape). (world_after s.numbers es from).level ≡ level_after) (sym follows.shape) (j.at_level ∙ sym stays.at_level);
   within = j.within;
   space = IsShort-fewer old.clean new.clean es follows.clean j.space;
 }
@@ -87,25 +105,36 @@ entered_answer s w caller request (Refused NoInodes) o h = o
 entered_answer s w caller request (Refused DirectoryFull) o h = o.0
 entered_answer s w caller request (Refused JournalFull) o h = absurd o
 
+-- an answer that may be is entered, where memory was not wanting
+pub entered_event : (s : StoreState) (w : World) (caller : Caller) (request : Request) (answer : Answer)
+    → IsOutcome s w caller request answer → is_lack_of_memory answer ≡ false → user_event request answer ≡ Some (User request answer)
+entered_event s w caller request (Served shown) o h = refl
+entered_event s w caller request (Denied denial) o h = refl
+entered_event s w caller request (Refused NoMemory) o h = absurd (cc)
+entered_event s w caller request (Refused NoSpace) o h = refl
+entered_event s w caller request (Refused NoInodes) o h = refl
+entered_event s w caller request (Refused DirectoryFull) o h = refl
+entered_event s w caller request (Refused JournalFull) o h = absurd o
+
 -- NoSpace comes with few clean segments
 entered_space : (s : StoreState) (w : World) (caller : Caller) (request : Request) (answer : Answer)
     → IsOutcome s w caller request answer → answer ≡ Refused NoSpace → s.clean ≤ 2
 entered_space s w caller request answer o e = (subst (IsOutcome s w caller request) e o).2
 
 -- the journal with an entry more
-pub IsJournal-entered : (old new : StoreState) (level level_after : Level) (es : List Entry) (limit session : ℕ) (caller : Caller) (event : Event)
-    → IsJournal old level es limit → length es < limit → IsStep old new level_after (world_of old.shape.numbers es) caller event
-    → IsJournal new level_after (es ++ record { session = session; cred = caller; event = event } ∷ []) limit
-IsJournal-entered old new level level_after es limit session caller event j room step =
+pub IsJournal-entered : (from : World) (old new : StoreState) (level level_after : Level) (es : List Entry) (limit session : ℕ) (caller : Caller) (event : Event)
+    → IsJournal from old level es limit → length es < limit → IsStep old new level_after (world_after old.shape.numbers es from) caller event
+    → IsJournal from new level_after (es ++ record { session = session; cred = caller; event = event } ∷ []) limit
+IsJournal-entered from old new level level_after es limit session caller event j room step =
     let entry : Entry = record { session = session; cred = caller; event = event } in
     let numbers = old.shape.numbers in
-    let leads = world_after-append numbers es (entry ∷ []) opening_world in
+    let leads = world_after-append numbers es (entry ∷ []) from in
     record {
-      legal = subst (λ (s : Shape). IsLegal s.numbers s.segments (es ++ entry ∷ []) opening_world) (sym step.shape)
-          (IsLegal-append numbers old.shape.segments es entry opening_world j.legal step.happens);
-      shown = subst (λ (s : Shape). IsVolume new (world_of s.numbers (es ++ entry ∷ []))) (sym step.shape)
+      legal = subst (λ (s : Shape). IsLegal s.numbers s.segments (es ++ entry ∷ []) from) (sym step.shape)
+          (IsLegal-append numbers old.shape.segments es entry from j.legal step.happens);
+      shown = subst (λ (s : Shape). IsVolume new (world_after s.numbers (es ++ entry ∷ []) from)) (sym step.shape)
           (subst (IsVolume new) (sym leads) step.leaves);
-      at_level = subst (λ (s : Shape). (world_of s.numbers (es ++ entry ∷ [])).level ≡ level_after) (sym step.shape)
+      at_level = subst (λ (s : Shape). (world_after s.numbers (es ++ entry ∷ []) from).level ≡ level_after) (sym step.shape)
           (ap (λ (v : World). v.level) leads ∙ step.leveled);
       within = simp length-append (omega arith);
       space = IsShort-fewer (old.clean + cleans event) new.clean (es ++ entry ∷ []) step.clean
@@ -113,11 +142,11 @@ IsJournal-entered old new level level_after es limit session caller event j room
     }
 
 -- an answered call is a step, where memory was not wanting
-pub IsStep-answered : (old new : StoreState) (level level_after : Level) (es : List Entry) (limit : ℕ) (caller : Caller) (request : Request) (answer : Answer)
-    → IsJournal old level es limit → IsAnswered old new level level_after caller request answer → is_lack_of_memory answer ≡ false
-    → IsStep old new level_after (world_of old.shape.numbers es) caller (User request answer)
-IsStep-answered old new level level_after es limit caller request answer j a entered =
-    let w = world_of old.shape.numbers es in
+pub IsStep-answered : (from : World) (old new : StoreState) (level level_after : Level) (es : List Entry) (limit : ℕ) (caller : Caller) (request : Request) (answer : Answer)
+    → IsJournal from old level es limit → IsAnswered old new level level_after caller request answer → is_lack_of_memory answer ≡ false
+    → IsStep old new level_after (world_after old.shape.numbers es from) caller (User request answer)
+IsStep-answered from old new level level_after es limit caller request answer j a entered =
+    let w = world_after old.shape.numbers es from in
     let o = a.outcome w j.shown j.at_level in
     record {
       happens = entered_answer old w caller request answer o entered;

@@ -1,5 +1,6 @@
 pub mod CallLemmas
 pub mod CleaningLemmas
+pub mod Crossing
 pub mod JournalLemmas
 pub mod OpeningLemmas
 pub mod StepLemmas

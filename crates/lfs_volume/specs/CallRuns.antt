@@ -2,6 +2,7 @@
 use Rattle.std.specs.Prelude.{◌≡◌, ◌↔◌, ℕ, ◌<◌, List, [], ◌∷◌, ◌++◌, length}
 use Rattle.lfs_types.specs.Caller.{Caller}
 use Rattle.lfs_types.specs.StoreStates.{Follows, StoreState}
+use Rattle.lfs_types.specs.Tree.{World}
 use Rattle.lfs_types.specs.declared.answer.Answer.{Answer}
 use Rattle.lfs_types.specs.declared.answer.Answer.TheVariants.{Served, Refused}
 use Rattle.lfs_types.specs.declared.answer.Resource.TheVariants.{JournalFull}
@@ -11,32 +12,32 @@ use Rattle.lfs_types.specs.declared.request.Request.TheVariants.{Sync}
 use Rattle.lfs_model.specs.declared.journal.Call.{Call}
 use Rattle.lfs_model.specs.declared.journal.Entry.{Entry}
 use Rattle.lfs_model.specs.Runs.{IsUnserved, kept_entry}
-use Rattle.lfs_model.specs.Steps.{world_of}
+use Rattle.lfs_model.specs.Steps.{world_after}
 use Rattle.lfs_calls.specs.Entries.{LeavesEntries, OnServed}
 use Rattle.lfs_calls.specs.Outcomes.{IsOutcome}
 use Rattle.lfs_calls.specs.Volumes.{IsVolume}
 
--- A user's call was answered so behind a journal, and led from one store to another: JournalFull exactly where the journal
+-- A user's call was answered so behind a journal that began in this world, and led from one store to another: JournalFull exactly where the journal
 -- has its limit, and then the store is as before; else the answer has its cause over the store as it was, which shows the
 -- journal's world. A call that is served leaves the entries of directories in their places, and a Sync nothing waiting;
 -- one that isn't leaves the content; and no more segments are clean.
-pub record IsCallMade {F : Type 0} (state : F → StoreState) (is_settled : F → Type 0) (limit : ℕ) (journal : List Entry) (old : F) (caller : Caller) (request : Request) (answer : Answer) (new : F) : Type 0 where
+pub record IsCallMade {F : Type 0} (state : F → StoreState) (is_settled : F → Type 0) (limit : ℕ) (from : World) (journal : List Entry) (old : F) (caller : Caller) (request : Request) (answer : Answer) (new : F) : Type 0 where
   pub full : (answer ≡ Refused JournalFull) ↔ (length journal ≡ limit)
   pub at_limit : length journal ≡ limit → new ≡ old
-  pub shown : IsVolume (state old) (world_of (state old).shape.numbers journal)
-  pub outcome : length journal < limit → IsOutcome (state old) (world_of (state old).shape.numbers journal) caller request answer
-  pub entries : OnServed answer (LeavesEntries request (state old).content (state new).content (world_of (state old).shape.numbers journal).rows)
+  pub shown : IsVolume (state old) (world_after (state old).shape.numbers journal from)
+  pub outcome : length journal < limit → IsOutcome (state old) (world_after (state old).shape.numbers journal from) caller request answer
+  pub entries : OnServed answer (LeavesEntries request (state old).content (state new).content (world_after (state old).shape.numbers journal from).rows)
   pub unserved : IsUnserved answer → (state new).content ≡ (state old).content
   pub synced : request ≡ Sync → answer ≡ Served Done → is_settled new
   pub follows : Follows (state old) (state new)
 
 -- Calls were answered so behind a journal, one after another, and led from one store to another: each is made on the store
 -- that the one before it left.
-abbrev pub AreAnswers : {F : Type 0} → (F → StoreState) → (F → Type 0) → ℕ → List Entry → F → List Call → List Answer → F → Type 0
-AreAnswers state is_settled limit journal old [] [] new = new ≡ old
-AreAnswers state is_settled limit journal old [] (answer ∷ answers) new = ⊥
-AreAnswers state is_settled limit journal old (call ∷ calls) [] new = ⊥
-AreAnswers {F} state is_settled limit journal old (call ∷ calls) (answer ∷ answers) new =
+abbrev pub AreAnswers : {F : Type 0} → (F → StoreState) → (F → Type 0) → ℕ → World → List Entry → F → List Call → List Answer → F → Type 0
+AreAnswers state is_settled limit from journal old [] [] new = new ≡ old
+AreAnswers state is_settled limit from journal old [] (answer ∷ answers) new = ⊥
+AreAnswers state is_settled limit from journal old (call ∷ calls) [] new = ⊥
+AreAnswers {F} state is_settled limit from journal old (call ∷ calls) (answer ∷ answers) new =
     (next : F)
-    × IsCallMade state is_settled limit journal old call.cred call.request answer next
-    × AreAnswers state is_settled limit (journal ++ kept_entry call.session call.cred call.request answer) next calls answers new
+    × IsCallMade state is_settled limit from journal old call.cred call.request answer next
+    × AreAnswers state is_settled limit from (journal ++ kept_entry call.session call.cred call.request answer) next calls answers new

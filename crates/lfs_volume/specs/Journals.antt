@@ -3,7 +3,7 @@ use Rattle.std.specs.Prelude.{◌≡◌, ℕ, ◌+◌, ◌<◌, ◌≤◌, List,
 use Rattle.lfs_types.specs.Caller.{Caller}
 use Rattle.lfs_types.specs.Shown.{ServesList}
 use Rattle.lfs_types.specs.StoreStates.{Follows, StoreState}
-use Rattle.lfs_types.specs.Tree.{World, opening_world}
+use Rattle.lfs_types.specs.Tree.{World}
 use Rattle.lfs_types.specs.declared.answer.Answer.{Answer}
 use Rattle.lfs_types.specs.declared.answer.Answer.TheVariants.{Served, Denied, Refused}
 use Rattle.lfs_types.specs.declared.level.Level.{Level}
@@ -12,18 +12,37 @@ use Rattle.lfs_types.specs.declared.request.Request.TheVariants.{SetLevel}
 use Rattle.lfs_model.specs.declared.journal.Entry.{Entry}
 use Rattle.lfs_model.specs.declared.journal.Event.{Event}
 use Rattle.lfs_model.specs.Runs.{IsNoSpace, IsShort, IsUnserved, cleans}
-use Rattle.lfs_model.specs.Steps.{IsEvent, IsLegal, after_answer, after_event, world_of}
+use Rattle.lfs_model.specs.Steps.{IsEvent, IsLegal, after_answer, after_event, world_after}
 use Rattle.lfs_calls.specs.Entries.{LeavesEntries, OnServed}
 use Rattle.lfs_calls.specs.Outcomes.{IsOutcome}
 use Rattle.lfs_calls.specs.Volumes.{InWorld, IsVolume}
+use Rattle.lfs_volume.specs.Seen.{Seen}
 
--- The journal of a volume over a store in this state, at this level: it is a legal run from the world of a fresh volume
--- to the one that store and level show, which is a tree; it is no longer than its limit; and a call refused for want of
+-- a store in this state and a level show this world, which is a tree: a journal may begin there
+pub record Begins (s : StoreState) (level : Level) (from : World) : Type 0 where
+  pub shown : IsVolume s from
+  pub at_level : from.level ≡ level
+
+-- there is a world that a store and a level show
+abbrev pub HasBegun : StoreState → Level → Type 0
+HasBegun s level = (from : World) × Begins s level from
+
+-- what holds from each world that a store and a level show, as they were when a journal began
+abbrev pub Since : StoreState → Level → (World → Type 0) → Type 0
+Since s level P = (from : World) → Begins s level from → P from
+
+-- what holds in each world that the journal of a volume leads to
+abbrev pub AtPresent : {F : Type 0} → (F → StoreState) → Seen F → (World → Type 0) → Type 0
+AtPresent state v P =
+    Since (state v.since) v.since_level (λ from. P (world_after (state v.store).shape.numbers v.journal from))
+
+-- The journal of a volume over a store in this state, at this level, that began in this world: it is a legal run from there
+-- to the world that store and level show, which is a tree; it is no longer than its limit; and a call refused for want of
 -- space stands in it only where at most two of the segments that are clean now weren't made clean after it.
-pub record IsJournal (s : StoreState) (level : Level) (entries : List Entry) (limit : ℕ) : Type 0 where
-  pub legal : IsLegal s.shape.numbers s.shape.segments entries opening_world
-  pub shown : IsVolume s (world_of s.shape.numbers entries)
-  pub at_level : (world_of s.shape.numbers entries).level ≡ level
+pub record IsJournal (from : World) (s : StoreState) (level : Level) (entries : List Entry) (limit : ℕ) : Type 0 where
+  pub legal : IsLegal s.shape.numbers s.shape.segments entries from
+  pub shown : IsVolume s (world_after s.shape.numbers entries from)
+  pub at_level : (world_after s.shape.numbers entries from).level ≡ level
   pub within : length entries ≤ limit
   pub space : IsShort s.clean entries
 
@@ -37,12 +56,12 @@ pub record IsStep (old new : StoreState) (level_after : Level) (w : World) (call
   pub clean : new.clean ≤ old.clean + cleans event
   pub shape : new.shape ≡ old.shape
 
--- A journal became this one by an entry of this event: over each store and level whose journal it was, with room for one
--- more, it is the journal of those that the step leaves.
+-- A journal became this one by an entry of this event: from wherever it began, over each store and level whose journal it
+-- was, with room for one more, it is the journal of those that the step leaves.
 abbrev pub StaysJournal : List Entry → List Entry → Caller → Event → Type 0
 StaysJournal before after caller event =
-    (old new : StoreState) (level level_after : Level) (limit : ℕ) → IsJournal old level before limit → length before < limit
-    → IsStep old new level_after (world_of old.shape.numbers before) caller event → IsJournal new level_after after limit
+    (from : World) (old new : StoreState) (level level_after : Level) (limit : ℕ) → IsJournal from old level before limit → length before < limit
+    → IsStep old new level_after (world_after old.shape.numbers before from) caller event → IsJournal from new level_after after limit
 
 -- content and level are as before
 pub record Stays (old new : StoreState) (level level_after : Level) : Type 0 where

@@ -8,7 +8,7 @@ ghost use Rattle.lfs_types.specs.declared.level.Level.TheVariants.{Insecure};
 ghost use Rattle.lfs_model.specs.Counts.{counts_of};
 ghost use Rattle.lfs_model.specs.Rules.{rule_table};
 ghost use Rattle.lfs_model.specs.Runs.{IsUnserved, kept, kept_cleaning, kept_entry, kept_step, kept_steps};
-ghost use Rattle.lfs_model.specs.Steps.{world_of};
+ghost use Rattle.lfs_model.specs.Steps.{world_after};
 ghost use Rattle.lfs_calls.specs.Content.{Shows};
 ghost use Rattle.lfs_calls.specs.Entries.{LeavesEntries, OnServed};
 ghost use Rattle.lfs_calls.specs.Outcomes.{IsOutcome};
@@ -18,7 +18,7 @@ ghost use Rattle.lfs_explain.specs.Trails.{IsTrail, first_names, second_names};
 ghost use Rattle.lfs_volume.specs.CallRuns.{AreAnswers};
 ghost use Rattle.lfs_volume.specs.Cleanings.{CleansOnly, IsCleanerAnswer, cleaner_of};
 ghost use Rattle.lfs_volume.specs.Copies.{is_lack_of_memory};
-ghost use Rattle.lfs_volume.specs.Journals.{IsAnswered, IsJournal, Stays, StaysJournal, level_left, level_set};
+ghost use Rattle.lfs_volume.specs.Journals.{AtPresent, Begins, IsAnswered, IsJournal, Since, Stays, StaysJournal, level_left, level_set};
 ghost use Rattle.lfs_volume.specs.StepRuns.{AreLegalAlone, AreSteps, IsActMade};
 
 use crate::cleaning::{cleaned, outcome};
@@ -38,14 +38,18 @@ use lfs_types::request::Request;
 use lfs_types::store::FileStore;
 use std::alloc::{AllocError, Global};
 use std::marker::Model;
+use std::snapshot::Snapshot;
 use thiserror::Error;
 
-/// A volume over a file store. Its type keeps that its journal is a legal run from the tree of a fresh volume to
-/// the tree that its store and its level show, and that its counts are those over its journal.
+/// A volume over a file store. It remembers the store and the level as they were when its journal began. Its type keeps
+/// that they showed a tree, that its journal is a legal run from there to the tree that its store and its level show, and
+/// that its counts are those over its journal.
 #[derive(Drop)]
 pub struct Volume<F: FileStore + Drop> {
     store: Tree<F>,
     level: Level,
+    since: Snapshot<F>,
+    since_level: Level,
     journal: Vec<Entry>,
     counts: Counts,
     limit: u32,
@@ -60,12 +64,20 @@ impl<F: FileStore + Drop> Model for Volume<F> {
 
     ghost use Rattle.std.specs.Prelude.{◌≡◌};
     ghost use Rattle.lfs_model.specs.Counts.{counts_of};
-    ghost use Rattle.lfs_volume.specs.Journals.{IsJournal};
+    ghost use Rattle.lfs_volume.specs.Journals.{HasBegun, IsJournal, Since};
 
-    ghost view = { λ v. record
-        { store = v.store; level = v.level; journal = v.journal.items; limit = v.limit } };
+    ghost view = { λ v. record {
+      store = v.store;
+      level = v.level;
+      since = v.since.value;
+      since_level = v.since_level;
+      journal = v.journal.items;
+      limit = v.limit;
+    } };
 
-    ghost invariant = { λ v. IsJournal (F.state v.store) v.level v.journal.items v.limit
+    ghost invariant = { λ v. HasBegun (F.state v.since.value) v.since_level
+        × Since (F.state v.since.value) v.since_level
+        (λ from. IsJournal from (F.state v.store) v.level v.journal.items v.limit)
         × (v.limit ≤ vec_capacity v.journal) × (v.counts ≡ counts_of v.journal.items) };
 }
 
@@ -74,14 +86,44 @@ impl<F: FileStore + Drop> Volume<F> {
     /// and for the names and the attributes that it will know.
     pub fn new(alloc: Global, store: F, journal_limit: u32) -> Result<Volume<F>, AllocError>
         requires { Shows (F.state store).content opening_world }
-        ensures { IfOk result (λ v. v ≡ record
-            { store = store; level = Insecure; journal = []; limit = journal_limit }) }
+        ensures fresh { IfOk result (λ v. v ≡ record {
+          store = store;
+          level = Insecure;
+          since = store;
+          since_level = Insecure;
+          journal = [];
+          limit = journal_limit;
+        }) }
+        ensures opening { IfOk result (λ v. Begins (F.state v.since) v.since_level opening_world) }
     {
+        Volume::over(alloc, store, Level::Insecure, journal_limit)
+    }
+
+    /// A volume over a store that shows a tree, at a securelevel: its journal begins there.
+    pub fn over(
+        alloc: Global,
+        store: F,
+        level: Level,
+        journal_limit: u32,
+    ) -> Result<Volume<F>, AllocError>
+        requires { HasWorld (F.state store) }
+        ensures { IfOk result (λ v. v ≡ record {
+          store = store;
+          level = level;
+          since = store;
+          since_level = level;
+          journal = [];
+          limit = journal_limit;
+        }) }
+    {
+        let since = Snapshot::of(&store);
         let store = Tree::new(alloc, store)?;
         let journal = Vec::with_capacity(alloc, journal_limit as usize)?;
         Ok(Volume {
             store,
-            level: Level::Insecure,
+            level,
+            since,
+            since_level: level,
             journal,
             counts: Counts::none(),
             limit: journal_limit,
@@ -94,23 +136,22 @@ impl<F: FileStore + Drop> Volume<F> {
         ensures full { (result ≡ Answer.Refused Resource.JournalFull)
             ↔ (length self.old.journal ≡ self.old.limit) }
         ensures at_limit { length self.old.journal ≡ self.old.limit → self.new ≡ self.old }
-        ensures shown { let old = F.state self.old.store in
-            IsVolume old (world_of old.shape.numbers self.old.journal) }
-        ensures outcome { length self.old.journal < self.old.limit
-            → let old = F.state self.old.store in
-            IsOutcome old (world_of old.shape.numbers self.old.journal) cred.now request result }
+        ensures shown { AtPresent F.state self.old (IsVolume (F.state self.old.store)) }
+        ensures outcome { length self.old.journal < self.old.limit → AtPresent F.state self.old
+            (λ w. IsOutcome (F.state self.old.store) w cred.now request result) }
         ensures entered { self.new.journal ≡ self.old.journal
             ++ kept_entry session cred.now request result }
-        ensures legal { IsJournal (F.state self.new.store)
-            self.new.level self.new.journal self.new.limit }
-        ensures entries { let old = F.state self.old.store in OnServed result
-            (LeavesEntries request old.content (F.state self.new.store).content
-            (world_of old.shape.numbers self.old.journal).rows) }
+        ensures legal { Since (F.state self.new.since) self.new.since_level (λ from. IsJournal from
+            (F.state self.new.store) self.new.level self.new.journal self.new.limit) }
+        ensures entries { AtPresent F.state self.old (λ w. OnServed result (LeavesEntries request
+            (F.state self.old.store).content (F.state self.new.store).content w.rows)) }
         ensures unserved { IsUnserved result
             → Stays (F.state self.old.store) (F.state self.new.store)
             self.old.level self.new.level }
         ensures synced { request ≡ Request.Sync → result ≡ Answer.Served Served.Done
             → F.is_settled self.new.store }
+        ensures since { self.new.since ≡ self.old.since }
+        ensures since_level { self.new.since_level ≡ self.old.since_level }
         ensures limit { self.new.limit ≡ self.old.limit }
         ensures follows { Follows (F.state self.old.store) (F.state self.new.store) }
     {
@@ -126,20 +167,21 @@ impl<F: FileStore + Drop> Volume<F> {
     fn answer_and_enter(&mut self, session: u8, cred: &Cred, request: Request) -> Answer
         requires room { length self.old.journal < self.old.limit }
         requires few { length self.old.journal < 2 ^ 32 - 1 }
-        ensures outcome { let old = F.state self.old.store in
-            IsOutcome old (world_of old.shape.numbers self.old.journal) cred.now request result }
+        ensures outcome { AtPresent F.state self.old
+            (λ w. IsOutcome (F.state self.old.store) w cred.now request result) }
         ensures entered { self.new.journal ≡ self.old.journal
             ++ kept_entry session cred.now request result }
-        ensures legal { IsJournal (F.state self.new.store)
-            self.new.level self.new.journal self.new.limit }
-        ensures entries { let old = F.state self.old.store in OnServed result
-            (LeavesEntries request old.content (F.state self.new.store).content
-            (world_of old.shape.numbers self.old.journal).rows) }
+        ensures legal { Since (F.state self.new.since) self.new.since_level (λ from. IsJournal from
+            (F.state self.new.store) self.new.level self.new.journal self.new.limit) }
+        ensures entries { AtPresent F.state self.old (λ w. OnServed result (LeavesEntries request
+            (F.state self.old.store).content (F.state self.new.store).content w.rows)) }
         ensures unserved { IsUnserved result
             → Stays (F.state self.old.store) (F.state self.new.store)
             self.old.level self.new.level }
         ensures synced { request ≡ Request.Sync → result ≡ Answer.Served Served.Done
             → F.is_settled self.new.store }
+        ensures since { self.new.since ≡ self.old.since }
+        ensures since_level { self.new.since_level ≡ self.old.since_level }
         ensures limit { self.new.limit ≡ self.old.limit }
         ensures follows { Follows (F.state self.old.store) (F.state self.new.store) }
     {
@@ -157,14 +199,16 @@ impl<F: FileStore + Drop> Volume<F> {
     /// Makes calls one after another, each as `call` does, on the store that the one before it left. Room for the answers
     /// is asked for before the first.
     pub fn run(&mut self, calls: Vec<Call>) -> Result<Vec<Answer>, RunMemory>
-        ensures each { IfOk result (λ answers. AreAnswers F.state F.is_settled
-            self.old.limit self.old.journal self.old.store
-            calls.items answers.items self.new.store) }
+        ensures each { IfOk result (λ answers. Since (F.state self.old.since) self.old.since_level
+            (λ from. AreAnswers F.state F.is_settled self.old.limit from self.old.journal
+            self.old.store calls.items answers.items self.new.store)) }
         ensures entered { IfOk result (λ answers. self.new.journal
             ≡ self.old.journal ++ kept calls.items answers.items) }
-        ensures legal { IsJournal (F.state self.new.store)
-            self.new.level self.new.journal self.new.limit }
+        ensures legal { Since (F.state self.new.since) self.new.since_level (λ from. IsJournal from
+            (F.state self.new.store) self.new.level self.new.journal self.new.limit) }
         ensures refused { IfErr result (λ _. self.new ≡ self.old) }
+        ensures since { self.new.since ≡ self.old.since }
+        ensures since_level { self.new.since_level ≡ self.old.since_level }
         ensures limit { self.new.limit ≡ self.old.limit }
         ensures follows { Follows (F.state self.old.store) (F.state self.new.store) }
     {
@@ -185,29 +229,47 @@ impl<F: FileStore + Drop> Volume<F> {
     /// Why a call would be allowed or denied now, on the tree that the journal leads to, without making it: nothing is
     /// entered. An error where memory runs out.
     pub fn explain(&mut self, cred: &Cred, request: &Request) -> Result<Explanation, AllocError>
-        ensures checks { let w = world_of (F.state self.old.store).shape.numbers self.old.journal in
-            IfOk result (λ explanation. explanation.checks.items
-            ≡ asked (rule_table w cred.now request.now)) }
-        ensures first { let w = world_of (F.state self.old.store).shape.numbers self.old.journal in
-            IfOk result (λ explanation.
-            IsTrail w.rows (first_names request.now) explanation.first) }
-        ensures second { let w = world_of (F.state self.old.store).shape.numbers self.old.journal in
-            IfOk result (λ explanation.
-            IsTrail w.rows (second_names request.now) explanation.second) }
+        ensures checks { AtPresent F.state self.old (λ w. IfOk result (λ explanation.
+            explanation.checks.items ≡ asked (rule_table w cred.now request.now))) }
+        ensures first { AtPresent F.state self.old (λ w. IfOk result (λ explanation.
+            IsTrail w.rows (first_names request.now) explanation.first)) }
+        ensures second { AtPresent F.state self.old (λ w. IfOk result (λ explanation.
+            IsTrail w.rows (second_names request.now) explanation.second)) }
         ensures state { F.state self.new.store ≡ F.state self.old.store }
         ensures level { self.new.level ≡ self.old.level }
         ensures journal { self.new.journal ≡ self.old.journal }
+        ensures since { self.new.since ≡ self.old.since }
+        ensures since_level { self.new.since_level ≡ self.old.since_level }
         ensures limit { self.new.limit ≡ self.old.limit }
     {
         let alloc = *self.journal.allocator();
         explain(alloc, &mut self.store, self.level, cred, request)
     }
 
-    /// What was called and answered, in order.
+    /// Hands out the entries, and goes on from the present tree with an empty journal, whose room is handed in. The entries
+    /// are a legal run from where their journal began to where the next one begins. The counts begin anew.
+    pub fn drain(&mut self, room: Vec<Entry>) -> Vec<Entry>
+        requires empty { room.items ≡ [] }
+        requires room { self.old.limit ≤ vec_capacity room }
+        ensures handed { result.items ≡ self.old.journal }
+        ensures legal { Since (F.state self.old.since) self.old.since_level (λ from. IsJournal from
+            (F.state self.new.since) self.new.since_level result.items self.old.limit) }
+        ensures begins { AtPresent F.state self.old
+            (Begins (F.state self.new.since) self.new.since_level) }
+        ensures drained { self.new ≡ record self.old
+            { since = self.old.store; since_level = self.old.level; journal = [] } }
+    {
+        self.since = Snapshot::of(self.store.store());
+        self.since_level = self.level;
+        self.counts = Counts::none();
+        std::mem::replace(&mut self.journal, room)
+    }
+
+    /// What was called and answered, in order, since the journal began.
     pub fn journal(&self) -> &[Entry]
         ensures entries { result.now ≡ self.now.journal }
-        ensures legal { IsJournal (F.state self.now.store)
-            self.now.level result.now self.now.limit }
+        ensures legal { Since (F.state self.now.since) self.now.since_level (λ from. IsJournal from
+            (F.state self.now.store) self.now.level result.now self.now.limit) }
     {
         self.journal.as_slice()
     }
@@ -215,8 +277,8 @@ impl<F: FileStore + Drop> Volume<F> {
     /// How the calls of the journal were answered.
     pub fn counts(&self) -> &Counts
         ensures counted { result.now ≡ counts_of self.now.journal }
-        ensures legal { IsJournal (F.state self.now.store)
-            self.now.level self.now.journal self.now.limit }
+        ensures legal { Since (F.state self.now.since) self.now.since_level (λ from. IsJournal from
+            (F.state self.now.store) self.now.level self.now.journal self.now.limit) }
     {
         &self.counts
     }
@@ -257,18 +319,19 @@ impl<F: CleanedStore + Drop> Volume<F> {
         ensures full { (result ≡ CleanerAnswer.Refused Resource.JournalFull)
             ↔ (length self.old.journal ≡ self.old.limit) }
         ensures at_limit { length self.old.journal ≡ self.old.limit → self.new ≡ self.old }
-        ensures shown { let old = F.state self.old.store in
-            IsVolume old (world_of old.shape.numbers self.old.journal) }
+        ensures shown { AtPresent F.state self.old (IsVolume (F.state self.old.store)) }
         ensures answered { length self.old.journal < self.old.limit → IsCleanerAnswer
             (cleaner_of F.state F.is_settled F.cleaner)
             self.old.store cred.now call result self.new.store }
         ensures entered { self.new.journal ≡ self.old.journal
             ++ kept_cleaning session cred.now call result }
-        ensures legal { IsJournal (F.state self.new.store)
-            self.new.level self.new.journal self.new.limit }
+        ensures legal { Since (F.state self.new.since) self.new.since_level (λ from. IsJournal from
+            (F.state self.new.store) self.new.level self.new.journal self.new.limit) }
         ensures stays { Stays (F.state self.old.store) (F.state self.new.store)
             self.old.level self.new.level }
         ensures cleans { CleansOnly result (F.state self.old.store) (F.state self.new.store) }
+        ensures since { self.new.since ≡ self.old.since }
+        ensures since_level { self.new.since_level ≡ self.old.since_level }
         ensures limit { self.new.limit ≡ self.old.limit }
     {
         if self.journal.len() == self.limit as usize {
@@ -287,18 +350,21 @@ impl<F: CleanedStore + Drop> Volume<F> {
     /// Makes steps one after another, each as `call` or `clean` does. Room for the answers is asked for before the
     /// first. Without the cleaner's steps the users' would have the same answers.
     pub fn run_steps(&mut self, steps: Vec<Step>) -> Result<Vec<StepAnswer>, RunMemory>
-        ensures each { IfOk result (λ answers. AreSteps
-            (cleaner_of F.state F.is_settled F.cleaner)
-            self.old.limit self.old.journal self.old.store
-            steps.items answers.items self.new.store) }
+        ensures each { IfOk result (λ answers. Since (F.state self.old.since) self.old.since_level
+            (λ from. AreSteps (cleaner_of F.state F.is_settled F.cleaner) self.old.limit from
+            self.old.journal self.old.store steps.items answers.items self.new.store)) }
         ensures entered { IfOk result (λ answers. self.new.journal
             ≡ self.old.journal ++ kept_steps steps.items answers.items) }
-        ensures legal { IsJournal (F.state self.new.store)
-            self.new.level self.new.journal self.new.limit }
+        ensures legal { Since (F.state self.new.since) self.new.since_level (λ from. IsJournal from
+            (F.state self.new.store) self.new.level self.new.journal self.new.limit) }
         ensures users_alone { IfOk result (λ answers. let shape = (F.state self.old.store).shape in
-            AreLegalAlone shape (kept_steps steps.items answers.items)
-            (world_of shape.numbers self.old.journal) (world_of shape.numbers self.new.journal)) }
+            Since (F.state self.old.since) self.old.since_level
+            (λ from. AreLegalAlone shape (kept_steps steps.items answers.items)
+            (world_after shape.numbers self.old.journal from)
+            (world_after shape.numbers self.new.journal from))) }
         ensures refused { IfErr result (λ _. self.new ≡ self.old) }
+        ensures since { self.new.since ≡ self.old.since }
+        ensures since_level { self.new.since_level ≡ self.old.since_level }
         ensures limit { self.new.limit ≡ self.old.limit }
         ensures shape { (F.state self.new.store).shape ≡ (F.state self.old.store).shape }
     {
@@ -315,13 +381,15 @@ impl<F: CleanedStore + Drop> Volume<F> {
 
     /// Makes one step, as `call` or `clean` does.
     fn make(&mut self, step: Step) -> StepAnswer
-        ensures made { IsActMade
+        ensures made { Since (F.state self.old.since) self.old.since_level (λ from. IsActMade
             (cleaner_of F.state F.is_settled F.cleaner)
-            self.old.limit self.old.journal self.old.store
-            step.cred step.act result self.new.store }
+            self.old.limit from self.old.journal self.old.store
+            step.cred step.act result self.new.store) }
         ensures entered { self.new.journal ≡ self.old.journal ++ kept_step step result }
-        ensures legal { IsJournal (F.state self.new.store)
-            self.new.level self.new.journal self.new.limit }
+        ensures legal { Since (F.state self.new.since) self.new.since_level (λ from. IsJournal from
+            (F.state self.new.store) self.new.level self.new.journal self.new.limit) }
+        ensures since { self.new.since ≡ self.old.since }
+        ensures since_level { self.new.since_level ≡ self.old.since_level }
         ensures limit { self.new.limit ≡ self.old.limit }
         ensures shape { (F.state self.new.store).shape ≡ (F.state self.old.store).shape }
     {

@@ -21,7 +21,7 @@ returns-clause-written g c =
     let closed = c.in_ok-closed.closed in
     ok_further _ _ c.print_closed.result c.print_closed.ensures.written (λ written.
     threads_run (g.R.Read.remaining c.args.reader.now) (state_of closed.volume.store).shape c.args.params.segments c.args.params.inodes closed.volume.journal c.args.params.journal closed.volume.limit c.in_ok-setup.setup c.in_ok-setup.sessions.items
-    closed.setup.items closed.transcripts.items _ _ c.in_ok-setup.ensures.split c.in_ok-closed.ensures.settled c.in_ok-closed.ensures.limit c.in_ok-closed.ensures.shape written)
+    closed.setup.items closed.transcripts.items _ _ c.in_ok-setup.ensures.split c.in_ok-closed.ensures.settled c.in_ok-closed.ensures.limit c.in_ok-closed.ensures.shape c.in_ok-closed.ensures.legal.legal written)
 
 pub returns-clause-unwritten : goal.returns-clause-unwritten
 returns-clause-unwritten g c = late_threads _ c.print_closed.result c.print_closed.ensures.fault

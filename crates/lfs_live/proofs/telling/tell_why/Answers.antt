@@ -1,12 +1,18 @@
 use Rattle.std.proofs.Common.{◌≡◌, subst}
 use Rattle.std.specs.Prelude.{IfOk}
-use Rattle.lfs_model.specs.Steps.{world_of}
+use Rattle.lfs_model.specs.Steps.{world_after}
+use Rattle.lfs_volume.specs.Journals.{Begins}
 use Rattle.lfs_explain.proofs.LineLemmas.{why_told}
+use Rattle.lfs_live.proofs.TellingLemmas.{if_ok_at}
 use Rattle.lfs_live.proofs.telling.tell_why.Goals as goal
 
 pub returns-clause-text : goal.returns-clause-text
 returns-clause-text g c =
     let e = c.in_ok-explanation.ensures in
+    let state = g.F.FileStore.state in
+    let old = c.args.volume.now in
+    if_ok_at c.tell_explanation.result (λ from. Begins (state old.since) old.since_level from) _ (λ from begins.
     subst (λ t. IfOk c.tell_explanation.result (λ text. text.items ≡ t))
-    (why_told (world_of (g.F.FileStore.state c.args.volume.now.store).shape.numbers c.args.volume.now.journal) c.args.cred.now c.args.request.now c.in_ok-explanation.explanation e.checks e.first e.second)
-    c.tell_explanation.ensures
+    (why_told (world_after (state old.store).shape.numbers old.journal from) c.args.cred.now c.args.request.now c.in_ok-explanation.explanation
+    (e.checks from begins) (e.first from begins) (e.second from begins))
+    c.tell_explanation.ensures)

@@ -1,7 +1,7 @@
 use Rattle.std.proofs.Common.{◌≡◌, ℕ, IfOk, ap, rules, subst}
 use Rattle.lfs_types.specs.StoreStates.{Shape, StoreState}
 use Rattle.lfs_logstore.specs.States.{state_of}
-use Rattle.lfs_server.proofs.ServeLemmas.{on_ok, serve_faults, layout_fault}
+use Rattle.lfs_server.proofs.ServeLemmas.{legal_from_opening, on_ok, serve_faults, layout_fault}
 use Rattle.lfs_server.proofs.serve.serve.Goals as goal
 
 pub returns-in_err-check_sessions-clause-fault : goal.returns-in_err-check_sessions-clause-fault
@@ -19,7 +19,9 @@ pub returns-clause-settled : goal.returns-clause-settled
 returns-clause-settled g c = c.serve_over.ensures.settled
 
 pub returns-clause-legal : goal.returns-clause-legal
-returns-clause-legal g c = c.serve_over.ensures.legal
+returns-clause-legal g c =
+    let over = c.serve_over.ensures in
+    legal_from_opening state_of (λ closed. closed.volume) c.serve_over.result c.in_ok-volume.volume c.in_ok-volume.ensures.begins over.since over.since_level over.legal
 
 pub returns-clause-limit : goal.returns-clause-limit
 returns-clause-limit g c =

@@ -7,9 +7,9 @@ use Rattle.lfs_volume.proofs.JournalLemmas.{IsJournal-entered}
 use Rattle.lfs_volume.proofs.volume.enter.Goals as goal
 
 pub returns-clause-legal : goal.returns-clause-legal
-returns-clause-legal c = λ old new level level_after limit j room step.
-    subst (λ es. IsJournal new level_after es limit) (sym c.push_within.ensures.pushed)
-    (IsJournal-entered old new level level_after c.args.journal.now.items limit c.args.session c.args.cred.now c.args.event j room step)
+returns-clause-legal c = λ from old new level level_after limit j room step.
+    subst (λ es. IsJournal from new level_after es limit) (sym c.push_within.ensures.pushed)
+    (IsJournal-entered from old new level level_after c.args.journal.now.items limit c.args.session c.args.cred.now c.args.event j room step)
 
 pub returns-clause-counted : goal.returns-clause-counted
 returns-clause-counted c =

@@ -1,18 +1,13 @@
-use Rattle.std.proofs.Common.{rules, ap, sym, subst, ◌∙◌, arith}
-use Rattle.lfs_model.specs.Counts.{counts_of}
-use Rattle.lfs_types.specs.declared.level.Level.TheVariants.{Insecure}
-use Rattle.lfs_volume.specs.Journals.{IsJournal}
-use Rattle.lfs_volume.proofs.JournalLemmas.{opening_journal}
+use Rattle.std.proofs.Common.{sym, subst}
+use Rattle.std.proofs.lemmas.Result.{IfOk-weaker}
+use Rattle.lfs_types.specs.Tree.{opening_world}
+use Rattle.lfs_volume.specs.Journals.{Begins}
+use Rattle.lfs_volume.proofs.JournalLemmas.{opening_begins}
 use Rattle.lfs_volume.proofs.volume.Volume.new.Goals as goal
 
-pub invariant_of-result : goal.invariant_of-result
-invariant_of-result g c = (
-  subst (λ x. IsJournal (g.F.FileStore.state x) Insecure c.in_ok-journal.journal.items c.args.journal_limit) (sym c.in_ok-store.ensures)
-      (subst (λ es. IsJournal (g.F.FileStore.state c.args.store) Insecure es c.args.journal_limit) (sym c.in_ok-journal.ensures.items)
-      (opening_journal (g.F.FileStore.state c.args.store) c.args.journal_limit c.requires)),
-  omega (arith, c.in_ok-journal.ensures.exact),
-  c.none.ensures ∙ ap counts_of (sym c.in_ok-journal.ensures.items),
-)
+pub over-requires : goal.over-requires
+over-requires g c = (opening_world, (opening_begins (g.F.FileStore.state c.args.store) c.requires).shown)
 
-pub returns : goal.returns
-returns g c = search rules
+pub returns-clause-opening : goal.returns-clause-opening
+returns-clause-opening g c =
+    IfOk-weaker c.over.result _ _ (λ v is. subst (λ x. Begins (g.F.FileStore.state x.since) x.since_level opening_world) (sym is) (opening_begins (g.F.FileStore.state c.args.store) c.requires)) c.over.ensures

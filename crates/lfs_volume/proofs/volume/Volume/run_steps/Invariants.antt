@@ -1,7 +1,7 @@
 use Rattle.std.proofs.Common.{◌≡◌, ◌++◌, ◌≤◌, length, vec_capacity}
 use Rattle.lfs_model.specs.Runs.{kept_steps}
 use Rattle.lfs_volume.specs.Cleanings.{cleaner_of}
-use Rattle.lfs_volume.specs.Journals.{IsJournal}
+use Rattle.lfs_volume.specs.Journals.{IsJournal, Since}
 use Rattle.lfs_volume.specs.StepRuns.{AreSteps}
 use Rattle.lfs_volume.proofs.volume.Volume.run_steps.Given as goal
 
@@ -9,9 +9,11 @@ abbrev pub invariant-loop-step : goal.invariant-loop-step
 invariant-loop-step g l =
     let r = g.F.CleanedStore in
     record {
-      each : AreSteps (cleaner_of g.F.FileStore.state g.F.FileStore.is_settled r.cleaner) l.fn.self.limit l.fn.self.journal l.fn.self.store l.yielded l.answers.items l.self.store;
+      each : Since (g.F.FileStore.state l.fn.self.since) l.fn.self.since_level (λ from. AreSteps (cleaner_of g.F.FileStore.state g.F.FileStore.is_settled r.cleaner) l.fn.self.limit from l.fn.self.journal l.fn.self.store l.yielded l.answers.items l.self.store);
       entered : l.self.journal ≡ l.fn.self.journal ++ kept_steps l.yielded l.answers.items;
-      legal : IsJournal (g.F.FileStore.state l.self.store) l.self.level l.self.journal l.self.limit;
+      legal : Since (g.F.FileStore.state l.self.since) l.self.since_level (λ from. IsJournal from (g.F.FileStore.state l.self.store) l.self.level l.self.journal l.self.limit);
+      since : l.self.since ≡ l.fn.self.since;
+      since_level : l.self.since_level ≡ l.fn.self.since_level;
       all : l.yielded ++ l.step-iterator.rest.items ≡ l.fn.steps.items;
       count : length l.answers.items ≡ length l.yielded;
       room : length l.fn.steps.items ≤ vec_capacity l.answers;
