@@ -4,7 +4,7 @@
 It begins with the contracts of the calls that carry them, follows each name to the definition in specs/ that it stands
 for, and goes on with the names in that definition. Files come in the order in which they can be read, each after those
 that it uses. The first table tells each definition with its line; the others tell what their calls add to it. With
---check it compares the tables with those in docs/TRUST.md, and fails where they differ.
+--check it compares the tables with those in docs/TRUST.md, and fails where they differ; --write puts them there.
 """
 import re
 import sys
@@ -164,7 +164,10 @@ def main():
     table = "\n".join(parts).strip()
     if "--check" in sys.argv[1:]:
         if table not in (TOP / "docs/TRUST.md").read_text():
-            sys.exit("docs/TRUST.md has other tables: paste what scripts/reading-list.py prints")
+            sys.exit("docs/TRUST.md has other tables: scripts/reading-list.py --write puts them there")
+    elif "--write" in sys.argv[1:]:
+        page = TOP / "docs/TRUST.md"
+        page.write_text(page.read_text().partition("### ")[0] + table + "\n")
     else:
         print(table)
 
