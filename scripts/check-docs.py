@@ -123,7 +123,7 @@ def check_name(name, crate, shown):
     if re.fullmatch(r"lfs_\w+", name) and name not in all_words():
         return "no such crate"
     if HYPHENED.fullmatch(name):
-        where = edits_of(crate) | defined_in(crate) if crate else all_words()
+        where = edits_of(crate) | defined_in(crate) if crate else all_words() | shown
         return None if name in where else f"no such wrong body or script{f' in {crate}' if crate else ''}"
     if ITEM.fullmatch(name) and len(name) > 2 and not name.startswith("_") and not has_file(name):
         where = defined_in(crate) if crate else all_words() | shown
@@ -145,7 +145,7 @@ def crate_said(line, at, end):
 
 def check_page(path, told):
     text = path.read_text()
-    shown = {word for line in text.splitlines() if line.startswith("    ") for word in WORD.findall(line)}
+    shown = {word for line in text.splitlines() if line.startswith("    ") for word in WORD.findall(line) + line.split()}
     heads = {re.sub(r"[^\w\- ]", "", head).strip().lower().replace(" ", "-") for head in re.findall(r"^#+ (.*)$", text, re.M)}
     lines = text.splitlines()
     for number, line in enumerate(lines, 1):
