@@ -44,8 +44,8 @@ impl Model for Cache {
     ghost invariant = { λ c. IsCache c.frames c.index c.locked.items (vec_capacity c.locked) };
 }
 
-// Moves the frame of a key to the front of a queue, and keeps the list of LOCKED keys in step. That list is
-// searched only where the frame was LOCKED.
+/// Moves the frame of a key to the front of a queue, and keeps the list of LOCKED keys in step. That list is
+/// searched only where the frame was LOCKED.
 fn move_first(frames: &mut Frames, locked: &mut Vec<Key>, frame: u32, key: Key, queue: Queue)
     requires in_range { frame < frame_count frames.old }
     requires listed { HoldsNoOther frame key frames.old locked.old.items }
@@ -66,7 +66,7 @@ fn move_first(frames: &mut Frames, locked: &mut Vec<Key>, frame: u32, key: Key, 
     }
 }
 
-// The frame that is taken next.
+/// The frame that is taken next.
 fn next_frame(frames: &Frames) -> u32
     requires { IsSome (next_of frames.now) }
     ensures { next_of frames.now ≡ Some result }
@@ -83,7 +83,7 @@ fn next_frame(frames: &Frames) -> u32
     }
 }
 
-// Copies a block into a frame.
+/// Copies a block into a frame.
 fn copy_in(frames: &mut Frames, frame: u32, block: &Block)
     requires { frame < frame_count frames.old }
     ensures { frames.new ≡ with_block frames.old frame block.now }

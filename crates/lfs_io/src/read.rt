@@ -27,7 +27,9 @@ pub const SCRIPT_MAX: usize = 1_048_576;
 /// A reader is asked for so many bytes at once.
 const READ_BYTES: usize = 32_768;
 
-/// The bytes that a reader has left. Every error of the reader ends it, and a reader that never ends is given up after at most 1,048,577 reads.
+/// The bytes that a reader has left, at most 1,048,576.
+///
+/// An error of the reader ends it. A reader that never ends is given up after at most 1,048,577 reads.
 pub fn read_script<R: Read>(alloc: Global, reader: &mut R) -> Result<Vec<u8>, ReadFault>
     ensures bounded { IfOk result (λ script. vec_len script ≤ 1048576) }
     ensures whole { IfSome (R.remaining reader.old)

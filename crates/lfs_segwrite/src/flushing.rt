@@ -27,9 +27,9 @@ use lfs_bmap::blocks::FileBlock;
 use lfs_segments::entry::SummaryEntry;
 use lfs_staging::parts::Parts;
 
-/// Writes all that waits at the log's end, as one partial segment: the data blocks, the single
-/// indirect blocks, then the records, four to a block. The active segment must have room for it.
-/// Where nothing waits, nothing is written.
+/// Writes all that waits at the log's end, as one partial segment: the data blocks, the children of
+/// double indirect blocks, the single and the double indirect blocks, then the records, four to a
+/// block. The active segment must have room for it. Where nothing waits, nothing is written.
 pub fn flush(parts: &mut Parts)
     requires staged { IsStaged parts.old 0 }
     requires ready { Expects parts.old.log.memory [] }
@@ -65,8 +65,8 @@ fn begin_partial(parts: &mut Parts, entries: &[SummaryEntry])
     parts.log.begin(entries);
 }
 
-/// Writes the data blocks and the single indirect blocks that wait, of which these are the
-/// entries, in their order.
+/// Writes the data blocks and the indirect blocks that wait, of which these are the entries, in
+/// their order.
 fn land_blocks(parts: &mut Parts, entries: &[SummaryEntry])
     requires staged { IsStaged parts.old 0 }
     requires all { entries.now ≡ entries_of parts.old }

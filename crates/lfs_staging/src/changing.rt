@@ -20,7 +20,7 @@ use lfs_types::attrs::Attrs;
 
 impl Parts {
     /// Puts bytes, at least one, into a file in use at byte `off`: they wait, with the record and the
-    /// indirect block that lead to them. The file grows where they reach past its size, and between
+    /// indirect blocks, up to two for each, that lead to them. The file grows where they reach past its size, and between
     /// its size and `off` it has zeros.
     pub fn put(&mut self, ino: u32, off: u64, bytes: &[u8])
         requires may { MayChange self.old ino }

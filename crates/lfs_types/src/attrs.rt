@@ -30,11 +30,11 @@ impl Kind {
 /// The attributes of a file (4.4BSD's stat(2), as far as this server has them).
 #[derive(Clone, Copy, PartialEq, Eq, Debug)]
 pub struct Attrs {
-    /// What it is.
+    /// A file or a directory.
     pub kind: Kind,
     /// The user who owns it.
     pub uid: u32,
-    /// Its group.
+    /// The group that the mode's group bits judge.
     pub gid: u32,
     /// Its mode.
     pub mode: Mode,
@@ -44,7 +44,7 @@ pub struct Attrs {
     pub size: u64,
 }
 
-/// What a caller wants of a file: a bit of each of the mode's three classes.
+/// What a caller wants to do to a file: a right, for which the mode has one bit in each of its three classes.
 #[derive(Clone, Copy, PartialEq, Eq, Debug)]
 pub enum Bit {
     /// To read its bytes, or the names of a directory.

@@ -25,7 +25,8 @@ pub struct BlockInfo {
     pub ino: u32,
     /// The version of the number: how often it has been given out.
     pub version: u32,
-    /// The logical block: a data block's index, `SINGLE_BLOCK` or `INODE_BLOCK`.
+    /// The logical block: n for data block n, 2147483648 (`SINGLE_BLOCK`) for the single indirect block, 2147483649 for
+    /// the double one, 2147483904 + k for its child k, 4294967295 (`INODE_BLOCK`) for the inode.
     pub lbn: u32,
     /// The address; 0 is none.
     pub addr: u32,

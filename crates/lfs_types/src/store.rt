@@ -16,24 +16,24 @@ pub enum Change<'a> {
     Make {
         /// The number, at least 4.
         ino: u32,
-        /// The attributes.
+        /// Its kind, owner, group, mode and flags.
         attrs: Attrs,
     },
     /// A number becomes free, and its file is gone.
     Remove {
-        /// The number.
+        /// The number that was in use.
         ino: u32,
     },
     /// A file gets these attributes; its bytes and its size stay.
     SetAttrs {
-        /// The number.
+        /// The file's number.
         ino: u32,
         /// The attributes, of the same kind.
         attrs: Attrs,
     },
     /// Bytes are put into a file; a gap before them is filled with zeros.
     Put {
-        /// The number.
+        /// The file's number.
         ino: u32,
         /// Where the first byte goes, counted from 0.
         off: u64,
@@ -42,7 +42,7 @@ pub enum Change<'a> {
     },
     /// A file is cut, or zeros are added to it.
     SetLength {
-        /// The number.
+        /// The file's number.
         ino: u32,
         /// How many bytes it gets.
         len: u64,
@@ -108,6 +108,6 @@ pub struct Params {
     pub inodes: u32,
     /// How many frames the block cache has: 32 to 1,024.
     pub frames: u32,
-    /// How many entries the journal may have: 1 to 100,000.
+    /// How many entries the journal may have: the program takes 1 to 100,000, the shell up to 1,000,000.
     pub journal: u32,
 }
