@@ -3,7 +3,7 @@
 default:
     @just --list
 
-# the program on a script, without proof (about a minute): just try crates/lfsd/stdin
+# the program on a script, without proof (a minute or two): just try crates/lfsd/stdin
 try FILE='crates/lfsd/stdin':
     cd crates/lfsd && rt try < {{absolute_path(FILE)}}
 

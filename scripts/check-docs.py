@@ -3,12 +3,13 @@
 
 A name between backticks that looks like a crate, a file, an item, a clause, a wrong body, a script or a test must stand
 in the repository; where the text says of which crate it is, in that crate. The crates of crates.txt, README's table and
-the map of docs/ARCHITECTURE.md must be the same, and a crate must lead to what it uses. Each wrong body must be named,
-and each one that is named be there. Links must lead somewhere, no line may name a place of one machine, the tables of
+the map of docs/ARCHITECTURE.md must be the same, and a crate must lead to what it uses. Each wrong body must be named
+and replace a text that stands once, and each one that is named be there. Links must lead somewhere, no line may name a place of one machine, the tables of
 docs/TRUST.md must be those that scripts/reading-list.py makes, and README.md with docs/*.md stays under 160 KiB.
 
 Prints FILE:LINE: WHAT for each problem and ends with status 1, else one line.
 """
+import os
 import re
 import subprocess
 import sys
@@ -34,22 +35,31 @@ def pages():
     return [TOP / "README.md", *sorted((TOP / "docs").glob("*.md")), *sorted((TOP / "crates").glob("*/*.md"))]
 
 
-def kept(folder, pattern):
-    """The files of a folder that are kept: none of what a check makes."""
-    return [path for path in folder.glob(pattern) if path.is_file() and "out" not in path.relative_to(TOP).parts]
+@lru_cache(maxsize=None)
+def kept(folder):
+    """The files below a folder that are kept: none of what a check makes."""
+    found = []
+    for at, folders, names in os.walk(folder):
+        folders[:] = sorted(name for name in folders if name not in ("out", ".git", "__pycache__"))
+        found += [Path(at) / name for name in sorted(names)]
+    return found
+
+
+def parts_of(crate):
+    """The files of a crate's code, definitions, proofs and data."""
+    return [path for part in ("src", "specs", "proofs", "data") for path in kept(TOP / "crates" / crate / part)]
 
 
 @lru_cache(maxsize=None)
 def words_of(crate):
     """The words of a crate's code, definitions and proofs, and the names of its files."""
     found = set()
-    for part in ("src", "specs", "proofs", "data"):
-        for path in kept(TOP / "crates" / crate, f"{part}/**/*"):
-            found.update(re.split(r"[/.]", str(path.relative_to(TOP))))
-            if path.suffix in (".rt", ".antt"):
-                text = path.read_text()
-                found.update(WORD.findall(text))
-                found.update(re.findall(r"[A-Za-z_][\w-]*\w", text))
+    for path in parts_of(crate):
+        found.update(re.split(r"[/.]", str(path.relative_to(TOP))))
+        if path.suffix in (".rt", ".antt"):
+            text = path.read_text()
+            found.update(WORD.findall(text))
+            found.update(re.findall(r"[A-Za-z_][\w-]*\w", text))
     return found
 
 
@@ -57,18 +67,17 @@ def words_of(crate):
 def defined_in(crate):
     """The names that a crate's own text defines: items, fields, variants, clauses, definitions, lemmas, and its files."""
     found = {crate}
-    for part in ("src", "specs", "proofs", "data"):
-        for path in kept(TOP / "crates" / crate, f"{part}/**/*"):
-            found.update(re.split(r"[/.]", str(path.relative_to(TOP))))
-            text = path.read_text() if path.suffix in (".rt", ".antt") else ""
-            if path.suffix == ".rt":
-                found.update(re.findall(r"\b(?:fn|struct|enum|trait|type|const|static|mod|ghost|ensures|requires|invariant)\s+(\w+)", text))
-                found.update(re.findall(r"^\s*(?:pub(?:\([a-z]+\))? )?(\w+)\s*:", text, re.M))
-                found.update(re.findall(r"^\s+([A-Z]\w*)\s*(?:[,({=]|$)", text, re.M))
-                found.update(word for line in re.findall(r"^\s*pub use ([^;]*);", text, re.M) for word in WORD.findall(line))
-            else:
-                found.update(re.findall(r"^(?:unfoldable )?(?:abbrev )?(?:pub )?(?:(?:record|ruleset|data) )?([A-Za-z_][\w-]*)", text, re.M))
-                found.update(re.findall(r"^\s+(?:\| )?([A-Za-z_][\w-]*) :", text, re.M))
+    for path in parts_of(crate):
+        found.update(re.split(r"[/.]", str(path.relative_to(TOP))))
+        text = path.read_text() if path.suffix in (".rt", ".antt") else ""
+        if path.suffix == ".rt":
+            found.update(re.findall(r"\b(?:fn|struct|enum|trait|type|const|static|mod|ghost|ensures|requires|invariant)\s+(\w+)", text))
+            found.update(re.findall(r"^\s*(?:pub(?:\([a-z]+\))? )?(\w+)\s*:", text, re.M))
+            found.update(re.findall(r"^\s+([A-Z]\w*)\s*(?:[,({=]|$)", text, re.M))
+            found.update(word for line in re.findall(r"^\s*pub use ([^;]*);", text, re.M) for word in WORD.findall(line))
+        else:
+            found.update(re.findall(r"^(?:unfoldable )?(?:abbrev )?(?:pub )?(?:(?:record|ruleset|data) )?([A-Za-z_][\w-]*)", text, re.M))
+            found.update(re.findall(r"^\s+(?:\| )?([A-Za-z_][\w-]*) :", text, re.M))
     return found
 
 
@@ -82,8 +91,8 @@ def all_words():
     found = set(OTHERS) | set(CRATES)
     for crate in CRATES:
         found |= words_of(crate) | edits_of(crate)
-    for path in [TOP / "crates.txt", TOP / "justfile", TOP / ".ci/run", *kept(TOP / "scripts", "*"), *kept(TOP / "examples", "**/*.py")]:
-        if path.is_file():
+    for path in [TOP / "crates.txt", TOP / "justfile", TOP / ".ci/run", *kept(TOP / "scripts"), *kept(TOP / "examples")]:
+        if path.is_file() and path.suffix in ("", ".txt", ".py", ".sh"):
             found.update(WORD.findall(path.read_text()))
             found.update(re.findall(r"[A-Za-z_][\w-]*\w", path.read_text()))
     return found
@@ -91,21 +100,20 @@ def all_words():
 
 @lru_cache(maxsize=None)
 def all_files():
-    """Each file's path, and the ends of it: a text may begin anywhere on the way."""
+    """Each file's path, and those of the folders on the way, with every end of them: a text may begin anywhere on it."""
     found = set()
-    for path in kept(TOP, "**/*"):
+    for path in kept(TOP):
         parts = path.relative_to(TOP).parts
-        if parts[0] != ".git":
-            for first in range(len(parts)):
-                found.add("/".join(parts[first:]))
+        for first in range(len(parts)):
+            found.update("/".join(parts[first:last]) for last in range(first + 1, len(parts) + 1))
     return found
 
 
 def has_file(name):
     if "*" in name:
-        shape = re.compile(re.escape(name.rstrip("/")).replace(r"\*", "[^/]*") + "(?:/.*)?")
+        shape = re.compile(re.escape(name.rstrip("/")).replace(r"\*", "[^/]*"))
         return any(shape.fullmatch(path) for path in all_files())
-    return name in all_files() or any(path.startswith(name.rstrip("/") + "/") for path in all_files())
+    return name.rstrip("/") in all_files()
 
 
 def says_file(name):
@@ -175,7 +183,23 @@ def check_page(path, told):
 
 
 def check_edits(told):
-    """Each wrong body is named by its crate's README or a page, and a table's wrong bodies are those of its crate."""
+    """Each wrong body replaces a text that stands once, and is named by its crate's README or a page; a table's are those
+    of its crate."""
+    for edit in sorted((TOP / "crates").glob("*/must-fail/*.edit")):
+        texts, path = {}, None
+        for number, line in enumerate(edit.read_text().splitlines(), 1):
+            key, _, text = line.partition(": ")
+            if key == "file":
+                path = edit.parent.parent / text.strip()
+                if not path.is_file():
+                    told(edit, number, f"there is no file {text}")
+                texts.setdefault(path, path.read_text() if path.is_file() else "")
+            elif key == "old" and path:
+                old = text
+                if texts[path].count(old) != 1:
+                    told(edit, number, f"its old text stands {texts[path].count(old)} times in {path.name}, and not once")
+            elif key.startswith("new") and path:
+                texts[path] = texts[path].replace(old, text)
     docs = {name for path in (TOP / "docs").glob("*.md") for name in CODE.findall(path.read_text())}
     for crate in CRATES:
         path = TOP / "crates" / crate / "README.md"
