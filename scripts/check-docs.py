@@ -151,10 +151,15 @@ def crate_said(line, at, end):
     return None
 
 
+def heads_of(path):
+    """The headings of a page, as links name them."""
+    return {re.sub(r"[^\w\- ]", "", head).strip().lower().replace(" ", "-") for head in re.findall(r"^#+ (.*)$", path.read_text(), re.M)}
+
+
 def check_page(path, told):
     text = path.read_text()
     shown = {word for line in text.splitlines() if line.startswith("    ") for word in WORD.findall(line) + line.split()}
-    heads = {re.sub(r"[^\w\- ]", "", head).strip().lower().replace(" ", "-") for head in re.findall(r"^#+ (.*)$", text, re.M)}
+    heads = heads_of(path)
     lines = text.splitlines()
     for number, line in enumerate(lines, 1):
         if PLACE.search(line):
@@ -165,8 +170,9 @@ def check_page(path, told):
             file, _, head = link.partition("#")
             if file and not (path.parent / file).exists():
                 told(path, number, f"the link {link} leads nowhere")
-            if not file and head not in heads:
-                told(path, number, f"no heading #{head}")
+            there = heads_of(path.parent / file) if file.endswith(".md") and (path.parent / file).exists() else heads
+            if head and head not in there:
+                told(path, number, f"no heading #{head} in {file or path.name}")
         if line.startswith("    "):
             continue
         # a name and its crate may stand on two lines
