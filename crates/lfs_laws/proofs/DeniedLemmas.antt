@@ -57,7 +57,7 @@ record At (rows : Rows) (caller : Caller) (path : List (List ℕ)) (n k : ℕ) :
   there : IsSome (map.get rows n)
 
 -- a test that isn't met, or one behind it
-fails : (D : Denial → Type 0) (met : Bool) (d : Denial) (rest : Option Denial) → (met ≡ false → D d) → (met ≡ true → (denial : Denial) → rest ≡ Some denial → D denial)
+pub fails : (D : Denial → Type 0) (met : Bool) (d : Denial) (rest : Option Denial) → (met ≡ false → D d) → (met ≡ true → (denial : Denial) → rest ≡ Some denial → D denial)
     → (denial : Denial) → cond met rest (Some d) ≡ Some denial → D denial
 fails D true d rest first others denial h = others refl denial h
 fails D false d rest first others denial h = let same : d ≡ denial = cc in subst D same (first refl)
@@ -66,11 +66,11 @@ none_fails : (D : Denial → Type 0) (denial : Denial) → None ≡ Some denial 
 none_fails D denial h = absurd (cc)
 
 -- what each of some tests tells, where it isn't met
-abbrev Each : (Denial → Type 0) → List Check → Type 0
+abbrev pub Each : (Denial → Type 0) → List Check → Type 0
 Each D [] = Unit {0}
 Each D (check ∷ checks) = (check.met ≡ false → D check.denial) × Each D checks
 
-each : (D : Denial → Type 0) (checks : List Check) → Each D checks → (denial : Denial) → first_failing checks ≡ Some denial → D denial
+pub each : (D : Denial → Type 0) (checks : List Check) → Each D checks → (denial : Denial) → first_failing checks ≡ Some denial → D denial
 each D [] all denial h = none_fails D denial h
 each D (check ∷ checks) all denial h = fails D check.met check.denial (first_failing checks) all.0 (λ on. each D checks all.1) denial h
 
@@ -81,7 +81,7 @@ by_first D xs ys front behind denial h None e = behind e denial (sym (failing-be
 by_first D xs ys front behind denial h (Some d) e = front denial (e ∙ sym (failing-front xs ys d e) ∙ h)
 
 -- a denial by the first tests, or by those behind them
-fails-append : (D : Denial → Type 0) (xs ys : List Check) → ((denial : Denial) → first_failing xs ≡ Some denial → D denial)
+pub fails-append : (D : Denial → Type 0) (xs ys : List Check) → ((denial : Denial) → first_failing xs ≡ Some denial → D denial)
     → (first_failing xs ≡ None → (denial : Denial) → first_failing ys ≡ Some denial → D denial) → (denial : Denial) → first_failing (xs ++ ys) ≡ Some denial → D denial
 fails-append D xs ys front behind denial h = by_first D xs ys front behind denial h (first_failing xs) refl
 
@@ -95,7 +95,7 @@ no_names : (l : List (List ℕ)) → length l ≡ 0 → l ≡ []
 no_names [] h = refl
 no_names (x ∷ xs) h = absurd (omega (arith, h))
 
-no_path : (path : List (List ℕ)) → not (length path == 0) ≡ false → path ≡ []
+pub no_path : (path : List (List ℕ)) → not (length path == 0) ≡ false → path ≡ []
 no_path path h = no_names path (eqb-true (length path) 0 (not-false _ h))
 
 one_left : (behind : List (List ℕ)) (name : List ℕ) → behind ≡ name ∷ [] → length behind ≤ 1

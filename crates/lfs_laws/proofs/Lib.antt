@@ -1,4 +1,5 @@
 pub mod AnswerLemmas
+pub mod AskedLemmas
 pub mod BetweenLemmas
 pub mod BroughtLemmas
 pub mod CallLaws
@@ -9,6 +10,7 @@ pub mod EachLemmas
 pub mod Fates
 pub mod HiddenLemmas
 pub mod HiddenRuns
+pub mod IdleLemmas
 pub mod LawBytes
 pub mod LawFates
 pub mod LawFlags
@@ -19,10 +21,12 @@ pub mod MayLemmas
 pub mod NameLists
 pub mod OneThingLemmas
 pub mod PathLemmas
+pub mod RefusedLemmas
 pub mod RegrantLemmas
 pub mod Replaced
 pub mod RowLaws
 pub mod SameKeys
+pub mod SameTests
 pub mod ServedLemmas
 pub mod ViewLaw
 pub mod ViewLemmas

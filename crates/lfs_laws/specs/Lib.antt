@@ -1,3 +1,4 @@
+pub mod LawAsked
 pub mod LawBetween
 pub mod LawBrought
 pub mod LawDenied
@@ -7,6 +8,7 @@ pub mod LawEach
 pub mod LawFlagged
 pub mod LawGone
 pub mod LawHidden
+pub mod LawIdle
 pub mod LawLevel
 pub mod LawLocked
 pub mod LawMode
@@ -15,6 +17,7 @@ pub mod LawNew
 pub mod LawOneThing
 pub mod LawOwner
 pub mod LawPath
+pub mod LawRefused
 pub mod LawRegranted
 pub mod LawRewritten
 pub mod LawServed

@@ -6,6 +6,7 @@
 //! only `new` says all of the row that a Create or a Mkdir makes, and only `rewritten` the bytes of a file that a Write or
 //! a SetLength doesn't bring.
 
+ghost use Rattle.lfs_laws.specs.LawAsked.{NamesWhatItAsks};
 ghost use Rattle.lfs_laws.specs.LawBetween.{BytesBetween, PlaceBetween};
 ghost use Rattle.lfs_laws.specs.LawBrought.{DecidesAlike};
 ghost use Rattle.lfs_laws.specs.LawDenied.{TellsLittle};
@@ -15,6 +16,7 @@ ghost use Rattle.lfs_laws.specs.LawEach.{EachEntry};
 ghost use Rattle.lfs_laws.specs.LawFlagged.{Reflagged};
 ghost use Rattle.lfs_laws.specs.LawGone.{Gone};
 ghost use Rattle.lfs_laws.specs.LawHidden.{HidesFromCall, HidesFromRun};
+ghost use Rattle.lfs_laws.specs.LawIdle.{CallersAlike, LevelsAlike, MarksAlike};
 ghost use Rattle.lfs_laws.specs.LawLevel.{Relevelled};
 ghost use Rattle.lfs_laws.specs.LawLocked.{NamesStay, NoNameComes};
 ghost use Rattle.lfs_laws.specs.LawMode.{Remoded};
@@ -23,6 +25,7 @@ ghost use Rattle.lfs_laws.specs.LawNew.{New};
 ghost use Rattle.lfs_laws.specs.LawOneThing.{OneThing};
 ghost use Rattle.lfs_laws.specs.LawOwner.{Given};
 ghost use Rattle.lfs_laws.specs.LawPath.{GuardedIsLeft, PathStays};
+ghost use Rattle.lfs_laws.specs.LawRefused.{RefusedTruly};
 ghost use Rattle.lfs_laws.specs.LawRegranted.{RightBetween};
 ghost use Rattle.lfs_laws.specs.LawRewritten.{Rewritten};
 ghost use Rattle.lfs_laws.specs.LawServed.{ServedExactlyWhereMay};
@@ -131,11 +134,32 @@ pub fn tells_little()
     ensures { TellsLittle }
 {}
 
+/// A refusal for a resource is true. Its caller may make the call; NoInodes comes only to a Create or a Mkdir where each number
+/// from 4 up has a row; DirectoryFull only for a free name in a directory that has at least 16,524; NoSpace to no Stat, Read,
+/// List or SetLevel. No other refusal has an entry.
+pub fn refused_truly()
+    ensures { RefusedTruly }
+{}
+
+/// A denial names a rule that its call asks, at a component of a path where the call asks it.
+pub fn names_what_it_asks()
+    ensures { NamesWhatItAsks }
+{}
+
 /// Two calls of a caller are decided alike that differ only in the mode; in bytes, places and lengths, both at the end or
 /// both at a place, both within or both past the limit; in a Read's offset and length; in user flags; or in the group of
 /// a Chown, both the caller's groups.
 pub fn decides_alike()
     ensures { DecidesAlike }
+{}
+
+/// What decides nothing. Level -1 decides as 0 and level 2 as 1, but a SetLevel. The order of a caller's groups and how often
+/// each stands among them decides nothing, nor whether he is init, but of a SetLevel. UF_NODUMP and SF_ARCHIVED of a row decide
+/// nothing, but SF_ARCHIVED where another than user 0 sets flags.
+pub fn decides_nothing()
+    ensures levels { LevelsAlike }
+    ensures callers { CallersAlike }
+    ensures marks { MarksAlike }
 {}
 
 /// Two trees in which a caller has the same view of a call decide it alike, and where they allow it, answer it alike. The
