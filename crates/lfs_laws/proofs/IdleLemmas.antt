@@ -34,7 +34,7 @@ levels_alike rows caller request h = (refl, refl)
 
 -- ---- callers
 
-number_decides : (a b : ℕ) → Decides (b == a) (a ≡ b)
+pub number_decides : (a b : ℕ) → Decides (b == a) (a ≡ b)
 number_decides a b = (λ h. sym (eqb-true b a h), λ e. eq-eqb b a (sym e))
 
 member_same : (gs hs : List ℕ) → ((g : ℕ) → Contains gs g ↔ Contains hs g) → (g : ℕ) → list_any (λ x. x == g) gs ≡ list_any (λ x. x == g) hs

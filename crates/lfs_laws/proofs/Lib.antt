@@ -16,6 +16,7 @@ pub mod LawFates
 pub mod LawFlags
 pub mod LawReads
 pub mod LegalTrees
+pub mod LockWords
 pub mod LockedLemmas
 pub mod MayLemmas
 pub mod NameLists
@@ -31,3 +32,4 @@ pub mod ServedLemmas
 pub mod ViewLaw
 pub mod ViewLemmas
 pub mod Ways
+pub mod WordLemmas

@@ -36,7 +36,7 @@ use Rattle.lfs_laws.proofs.Ways.{reaches_root}
 met_then : (met : Bool) (denial : Denial) (rest : Option Denial) → met ≡ true → rest ≡ None → cond met rest (Some denial) ≡ None
 met_then met denial rest e h = ap (λ b. cond b rest (Some denial)) e ∙ h
 
-at_most : (a b : ℕ) → a ≤ b → nat_le a b ≡ true
+pub at_most : (a b : ℕ) → a ≤ b → nat_le a b ≡ true
 at_most a b h = grind (arith, h)
 
 append_end : (append end : Bool) → (append ≡ true → end ≡ true) → (end || not append) ≡ true

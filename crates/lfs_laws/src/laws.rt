@@ -9,6 +9,7 @@
 ghost use Rattle.lfs_laws.specs.LawAsked.{NamesWhatItAsks};
 ghost use Rattle.lfs_laws.specs.LawBetween.{BytesBetween, PlaceBetween};
 ghost use Rattle.lfs_laws.specs.LawBrought.{DecidesAlike};
+ghost use Rattle.lfs_laws.specs.LawClasses.{ListByBits, MakeByBits, ReadByBits, SearchByBits, WriteByBits};
 ghost use Rattle.lfs_laws.specs.LawDenied.{TellsLittle};
 ghost use Rattle.lfs_laws.specs.LawDone.{Done};
 ghost use Rattle.lfs_laws.specs.LawDoor.{ClosedDoor};
@@ -18,12 +19,15 @@ ghost use Rattle.lfs_laws.specs.LawGone.{Gone};
 ghost use Rattle.lfs_laws.specs.LawHidden.{HidesFromCall, HidesFromRun};
 ghost use Rattle.lfs_laws.specs.LawIdle.{CallersAlike, LevelsAlike, MarksAlike};
 ghost use Rattle.lfs_laws.specs.LawLevel.{Relevelled};
+ghost use Rattle.lfs_laws.specs.LawLevels.{FlagsByLevel, FlagsByOwner, LevelByNumber};
 ghost use Rattle.lfs_laws.specs.LawLocked.{NamesStay, NoNameComes};
+ghost use Rattle.lfs_laws.specs.LawLocks.{AppendByFlags, MakeByFlags, ModeByFlags, WriteByFlags};
 ghost use Rattle.lfs_laws.specs.LawMode.{Remoded};
 ghost use Rattle.lfs_laws.specs.LawMoved.{Moved};
 ghost use Rattle.lfs_laws.specs.LawNew.{New};
 ghost use Rattle.lfs_laws.specs.LawOneThing.{OneThing};
 ghost use Rattle.lfs_laws.specs.LawOwner.{Given};
+ghost use Rattle.lfs_laws.specs.LawOwners.{GroupByOwner, ModeByOwner};
 ghost use Rattle.lfs_laws.specs.LawPath.{GuardedIsLeft, PathStays};
 ghost use Rattle.lfs_laws.specs.LawRefused.{RefusedTruly};
 ghost use Rattle.lfs_laws.specs.LawRegranted.{RightBetween};
@@ -283,4 +287,42 @@ pub fn closed_door_hides()
 pub fn path_stays()
     ensures stays { PathStays }
     ensures guarded { GuardedIsLeft }
+{}
+
+/// The classes of callers, by the bits of a mode. User 0 is granted all; the owner is by the first of three bits alone; else who has
+/// the group among his groups by the second alone; else by the third. To read a file and to list a directory they are 0400, 040 and
+/// 04; to write a file that no flag locks, and to make a name in such a directory, 0200, 020 and 02; to look for a name in a
+/// directory 0100, 010 and 01.
+pub fn classes_by_bits()
+    ensures read { ReadByBits }
+    ensures list { ListByBits }
+    ensures write { WriteByBits }
+    ensures search { SearchByBits }
+    ensures make { MakeByBits }
+{}
+
+/// What no flag locks gets a mode from user 0 and from its owner; an owner and a group from user 0, and from its owner, who keeps the
+/// owner, and the group or gives one of his groups.
+pub fn owners_by_number()
+    ensures mode { ModeByOwner }
+    ensures group { GroupByOwner }
+{}
+
+/// What each flag locks, of user 0 too, whom no mode stops. A short file takes a byte at its end, and a directory a free name,
+/// exactly where neither 0x2 (UF_IMMUTABLE) nor 0x20000 (SF_IMMUTABLE) is set; a file takes a byte at its beginning, and a file or a
+/// directory a mode, where neither 0x4 (UF_APPEND) nor 0x40000 (SF_APPEND) is set either. No other flag locks anything.
+pub fn locks_by_bits()
+    ensures append { AppendByFlags }
+    ensures write { WriteByFlags }
+    ensures make { MakeByFlags }
+    ensures mode { ModeByFlags }
+{}
+
+/// User 0 alone sets the level, and lower only as init: the levels are -1, 0, 1 and 2. Another than user 0 sets flags of what he owns
+/// exactly where the bits from 0x10000 on stay and neither 0x20000 nor 0x40000 is set; user 0 always, but at levels 1 and 2 only
+/// where a set 0x20000 or 0x40000 stays set.
+pub fn levels_by_number()
+    ensures level { LevelByNumber }
+    ensures owner { FlagsByOwner }
+    ensures superuser { FlagsByLevel }
 {}
