@@ -15,6 +15,7 @@ pub mod LawBytes
 pub mod LawFates
 pub mod LawFlags
 pub mod LawReads
+pub mod LeadLemmas
 pub mod LegalTrees
 pub mod LockWords
 pub mod LockedLemmas
@@ -22,6 +23,7 @@ pub mod MayLemmas
 pub mod NameLists
 pub mod OneThingLemmas
 pub mod PathLemmas
+pub mod PlaceWords
 pub mod RefusedLemmas
 pub mod RegrantLemmas
 pub mod Replaced

@@ -1,10 +1,8 @@
 -- What flags lock, and who sets them and the level, in bits and numbers.
-use Rattle.std.proofs.Common.{◌≡◌, ◌≢◌, ◌⊎◌, ◌↔◌, ◌<◌, ◌≤◌, ℕ, ◌+◌, ◌/◌, ◌==◌, ◌&&◌, ◌||◌, not, Bool, true, false, cond, List, [], ◌∷◌, Option, None, Some, refl, sym, ap, ◌∙◌, ⊎_elim, arith, inl, inr, ne_eqb}
-use Rattle.std.proofs.lemmas.Bool.{not_from_false}
+use Rattle.std.proofs.Common.{◌≡◌, ◌≢◌, ◌⊎◌, ◌<◌, ◌≤◌, ℕ, ◌+◌, ◌/◌, ◌==◌, ◌&&◌, ◌||◌, not, Bool, true, false, refl, ap, ⊎_elim, arith, inl, inr, ne_eqb}
 use Rattle.std.proofs.lemmas.Bool.Decides.{Decides-at, Decides-eqb, Decides-like}
 use Rattle.std.specs.Prelude.{Decides, nat_le}
 use Rattle.lfs_types.specs.Caller.{Caller}
-use Rattle.lfs_types.specs.Tree.{World}
 use Rattle.lfs_types.specs.declared.attrs.Attrs.{Attrs}
 use Rattle.lfs_types.specs.declared.attrs.Bit.{Bit}
 use Rattle.lfs_types.specs.declared.attrs.Bit.TheVariants as bits
@@ -16,7 +14,7 @@ use Rattle.lfs_rules.specs.Grants.{grants_of}
 use Rattle.lfs_rules.specs.Locks.{is_immutable, is_append_only, keeps_system_locks, may_set_flags}
 use Rattle.lfs_rules.specs.Owners.{is_owner_or_superuser}
 use Rattle.lfs_rules.specs.Securelevel.{is_above_zero, is_lower}
-use Rattle.lfs_model.specs.Rules.{chflags_tests, chmod_tests, file_max, length_tests, write_tests}
+use Rattle.lfs_model.specs.Rules.{chflags_tests, chmod_tests, file_max, write_tests}
 use Rattle.lfs_laws.specs.LawLevels.{FlagsByLevel, FlagsByOwner, LevelByNumber, height}
 use Rattle.lfs_laws.specs.LawLocks.{AppendByFlags, IsUnlocked, MakeByFlags, ModeByFlags, WriteByFlags}
 use Rattle.lfs_laws.specs.LawSeen.{IsOff, IsOn}

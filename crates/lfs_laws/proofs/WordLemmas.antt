@@ -1,9 +1,9 @@
 -- What each word of the rules says, in bits and numbers.
-use Rattle.std.proofs.Common.{◌≡◌, ◌≢◌, ◌⊎◌, ◌↔◌, ◌<◌, ◌≤◌, ℕ, ◌+◌, ◌/◌, ◌%◌, ◌==◌, ◌&&◌, ◌||◌, not, Bool, true, false, cond, List, [], ◌∷◌, ◌++◌, length, Option, None, Some, refl, sym, ap, subst, ◌∙◌, ⊎_elim, arith, inl, inr, append-nil, eq-eqb, ne_eqb}
+use Rattle.std.proofs.Common.{◌≡◌, ◌⊎◌, ◌↔◌, ◌<◌, ℕ, ◌+◌, ◌/◌, ◌%◌, ◌==◌, ◌||◌, not, Bool, true, false, cond, List, [], ◌∷◌, ◌++◌, length, Option, None, Some, refl, sym, ap, subst, ◌∙◌, ⊎_elim, arith, inl, inr, append-nil, eq-eqb, ne_eqb}
 use Rattle.std.proofs.lemmas.Bool.{cases_eq, not_from_false}
 use Rattle.std.proofs.lemmas.Bool.Decides.{Decides-and, Decides-at, Decides-eqb, Decides-like, Decides-or}
 use Rattle.std.proofs.lemmas.Map.Made.{is_member-Decides}
-use Rattle.std.specs.Prelude.{Contains, Decides, is_none, is_some, nat_le}
+use Rattle.std.specs.Prelude.{Contains, Decides, is_none, is_some}
 use Rattle.std.specs.FinMap as map
 use Rattle.lfs_types.specs.Caller.{Caller}
 use Rattle.lfs_types.specs.Kinds.{is_directory_kind}
@@ -18,7 +18,7 @@ use Rattle.lfs_rules.specs.Bits.{has_bit}
 use Rattle.lfs_rules.specs.Grants.{grants_of, group_mask, other_mask, owner_mask}
 use Rattle.lfs_rules.specs.Locks.{is_immutable, is_append_only}
 use Rattle.lfs_rules.specs.Owners.{is_in_group, is_owner_or_superuser, may_set_owner}
-use Rattle.lfs_model.specs.World.{Rows, child, IsChild, IsTree}
+use Rattle.lfs_model.specs.World.{Rows, child, IsChild}
 use Rattle.lfs_model.specs.Rules.{Check, asks, attrs_at, chmod_tests, chown_tests, first_failing, front, is_directory_row, last, length_tests, list_tests, making, making_tests, next, reached, reaching, read_tests, row_grants, stat_tests, walk}
 use Rattle.lfs_laws.specs.LawClasses.{IsGranted, ListByBits, MakeByBits, ReadByBits, SearchByBits, WriteByBits}
 use Rattle.lfs_laws.specs.LawOwners.{GroupByOwner, ModeByOwner}

@@ -18,17 +18,21 @@ ghost use Rattle.lfs_laws.specs.LawFlagged.{Reflagged};
 ghost use Rattle.lfs_laws.specs.LawGone.{Gone};
 ghost use Rattle.lfs_laws.specs.LawHidden.{HidesFromCall, HidesFromRun};
 ghost use Rattle.lfs_laws.specs.LawIdle.{CallersAlike, LevelsAlike, MarksAlike};
+ghost use Rattle.lfs_laws.specs.LawLeads.{LeadsByNames, ShowsByNames};
 ghost use Rattle.lfs_laws.specs.LawLevel.{Relevelled};
 ghost use Rattle.lfs_laws.specs.LawLevels.{FlagsByLevel, FlagsByOwner, LevelByNumber};
+ghost use Rattle.lfs_laws.specs.LawLimits.{AppendByNumber, FirstNumber, LengthByNumber, WriteByNumber};
 ghost use Rattle.lfs_laws.specs.LawLocked.{NamesStay, NoNameComes};
 ghost use Rattle.lfs_laws.specs.LawLocks.{AppendByFlags, MakeByFlags, ModeByFlags, WriteByFlags};
 ghost use Rattle.lfs_laws.specs.LawMode.{Remoded};
 ghost use Rattle.lfs_laws.specs.LawMoved.{Moved};
 ghost use Rattle.lfs_laws.specs.LawNew.{New};
 ghost use Rattle.lfs_laws.specs.LawOneThing.{OneThing};
+ghost use Rattle.lfs_laws.specs.LawOpening.{OpensAlone, OpensInsecure, OpensWithRoot, SetIdsGo};
 ghost use Rattle.lfs_laws.specs.LawOwner.{Given};
 ghost use Rattle.lfs_laws.specs.LawOwners.{GroupByOwner, ModeByOwner};
 ghost use Rattle.lfs_laws.specs.LawPath.{GuardedIsLeft, PathStays};
+ghost use Rattle.lfs_laws.specs.LawPlaces.{ReadsFrom, WritesAt, WritesAtEnd};
 ghost use Rattle.lfs_laws.specs.LawRefused.{RefusedTruly};
 ghost use Rattle.lfs_laws.specs.LawRegranted.{RightBetween};
 ghost use Rattle.lfs_laws.specs.LawRewritten.{Rewritten};
@@ -325,4 +329,40 @@ pub fn levels_by_number()
     ensures level { LevelByNumber }
     ensures owner { FlagsByOwner }
     ensures superuser { FlagsByLevel }
+{}
+
+/// Byte k of an allowed Write stands at its place plus k; of one to the end, at the size that the file had plus k. A Read shows as
+/// many bytes as it asks for, but 4,096 at most and none behind the file's last; its byte i is byte off + i of the file.
+pub fn bytes_by_place()
+    ensures at { WritesAt }
+    ensures end { WritesAtEnd }
+    ensures read { ReadsFrom }
+{}
+
+/// A file that no flag locks gets a length and bytes of user 0 exactly up to 8,460,288; a new row gets the least number from 4 up
+/// that no row has.
+pub fn limits_by_number()
+    ensures length { LengthByNumber }
+    ensures write { WriteByNumber }
+    ensures append { AppendByNumber }
+    ensures first { FirstNumber }
+{}
+
+/// A fresh volume's tree is a root of number 2, user 0 and group 0, of mode 0755 and with no flags, and nothing else; its level
+/// is 0.
+pub fn opens_by_number()
+    ensures root { OpensWithRoot }
+    ensures alone { OpensAlone }
+    ensures level { OpensInsecure }
+{}
+
+/// A mode that another call than a Chmod changes loses 04000 and 02000, and keeps its ten lower bits; by another than user 0.
+pub fn set_ids_by_bits()
+    ensures { SetIdsGo }
+{}
+
+/// A path leads name by name, from the root, to what hangs in the row before under each; and a Stat of it shows that row.
+pub fn paths_by_names()
+    ensures leads { LeadsByNames }
+    ensures shows { ShowsByNames }
 {}
