@@ -16,6 +16,7 @@ pub mod LawFates
 pub mod LawFlags
 pub mod LawReads
 pub mod LeadLemmas
+pub mod LeadOnLemmas
 pub mod LegalTrees
 pub mod LockWords
 pub mod LockedLemmas

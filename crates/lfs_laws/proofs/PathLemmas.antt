@@ -75,13 +75,13 @@ put_on r s t a b = ⊎_elim
 
 -- ---- where names lead
 
-led_none : (rows : Rows) (names : List (List ℕ)) → led rows None names ≡ None
+pub led_none : (rows : Rows) (names : List (List ℕ)) → led rows None names ≡ None
 led_none rows [] = refl
 led_none rows (name ∷ names) = led_none rows names
 
-record Step (rows : Rows) (at : ℕ) (name : List ℕ) (names : List (List ℕ)) (n : ℕ) : Type 0 where
-  child : child rows at name ≡ Some (next rows at name)
-  rest : led rows (Some (next rows at name)) names ≡ Some n
+pub record Step (rows : Rows) (at : ℕ) (name : List ℕ) (names : List (List ℕ)) (n : ℕ) : Type 0 where
+  pub child : child rows at name ≡ Some (next rows at name)
+  pub rest : led rows (Some (next rows at name)) names ≡ Some n
 
 step_to : (rows : Rows) (at : ℕ) (name : List ℕ) (names : List (List ℕ)) (n : ℕ) (o : Option ℕ) → child rows at name ≡ o → led rows o names ≡ Some n → Step rows at name names n
 step_to rows at name names n None e h = let wrong : None ≡ Some n = sym (led_none rows names) ∙ h in absurd (cc)
@@ -89,14 +89,14 @@ step_to rows at name names n (Some c) e h =
     let same : next rows at name ≡ c = ap (λ o. unwrap_or o 0) e in
     record { child = e ∙ ap Some (sym same); rest = ap (λ x. led rows (Some x) names) same ∙ h }
 
-step : (rows : Rows) (at : ℕ) (name : List ℕ) (names : List (List ℕ)) (n : ℕ) → led rows (Some at) (name ∷ names) ≡ Some n → Step rows at name names n
+pub step : (rows : Rows) (at : ℕ) (name : List ℕ) (names : List (List ℕ)) (n : ℕ) → led rows (Some at) (name ∷ names) ≡ Some n → Step rows at name names n
 step rows at name names n h = step_to rows at name names n (child rows at name) refl h
 
 -- whether names lead from a row through another
-abbrev passes : Rows → ℕ → List (List ℕ) → ℕ → Bool
+abbrev pub passes : Rows → ℕ → List (List ℕ) → ℕ → Bool
 passes rows at names m = list_any (λ x. x == m) (visited rows at names)
 
-passes_first : (rows : Rows) (at : ℕ) (names : List (List ℕ)) → passes rows at names at ≡ true
+pub passes_first : (rows : Rows) (at : ℕ) (names : List (List ℕ)) → passes rows at names at ≡ true
 passes_first rows at [] = or_left _ _ (eq-eqb at at refl)
 passes_first rows at (name ∷ names) = or_left _ _ (eq-eqb at at refl)
 

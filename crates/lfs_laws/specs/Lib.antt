@@ -11,6 +11,7 @@ pub mod LawGone
 pub mod LawHidden
 pub mod LawIdle
 pub mod LawLeads
+pub mod LawLeadsOn
 pub mod LawLevel
 pub mod LawLevels
 pub mod LawLimits

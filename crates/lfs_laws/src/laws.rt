@@ -19,6 +19,7 @@ ghost use Rattle.lfs_laws.specs.LawGone.{Gone};
 ghost use Rattle.lfs_laws.specs.LawHidden.{HidesFromCall, HidesFromRun};
 ghost use Rattle.lfs_laws.specs.LawIdle.{CallersAlike, LevelsAlike, MarksAlike};
 ghost use Rattle.lfs_laws.specs.LawLeads.{LeadsByNames, ShowsByNames};
+ghost use Rattle.lfs_laws.specs.LawLeadsOn.{PathLeadsOn, PathLeadsThrough};
 ghost use Rattle.lfs_laws.specs.LawLevel.{Relevelled};
 ghost use Rattle.lfs_laws.specs.LawLevels.{FlagsByLevel, FlagsByOwner, LevelByNumber};
 ghost use Rattle.lfs_laws.specs.LawLimits.{AppendByNumber, FirstNumber, LengthByNumber, WriteByNumber};
@@ -291,6 +292,14 @@ pub fn closed_door_hides()
 pub fn path_stays()
     ensures stays { PathStays }
     ensures guarded { GuardedIsLeft }
+{}
+
+/// A path that leads to a row leads on, at each point of a run from any tree: to the same row; or nowhere, where a served Unlink or
+/// Rmdir removed that row, or a served Rename moved a row on the path; or, where a served Rename moved another row into its place,
+/// to that row, of which nothing else changed. So a path that no call cuts off leads to a row after each call.
+pub fn path_leads_on()
+    ensures step { PathLeadsOn }
+    ensures run { PathLeadsThrough }
 {}
 
 /// The classes of callers, by the bits of a mode. User 0 is granted all; the owner is by the first of three bits alone; else who has
