@@ -1,6 +1,6 @@
 -- Who changed a row in a run.
-use Rattle.std.proofs.Common.{◌≡◌, ◌⊎◌, ℕ, List, [], ◌∷◌, Option, None, Some, inl, inr, refl, sym, ap, subst, ◌∙◌, ⊎_elim}
-use Rattle.std.specs.Prelude.{bytes_eq}
+use Rattle.std.proofs.Common.{◌≡◌, ◌≢◌, ◌⊎◌, ℕ, List, [], ◌∷◌, Option, None, Some, inl, inr, refl, sym, ap, subst, ◌∙◌, ⊎_elim}
+use Rattle.std.specs.Prelude.{bytes_eq, IsSome, IsSomeAnd}
 use Rattle.std.specs.FinMap as map
 use Rattle.std.proofs.lemmas.Bool.{cases_eq, cases_Bool}
 use Rattle.std.proofs.lemmas.Slice.Eq.{bytes_eq-Decides}
@@ -9,17 +9,27 @@ use Rattle.lfs_types.specs.Tree.{Row, World}
 use Rattle.lfs_types.specs.declared.answer.Answer.{Answer}
 use Rattle.lfs_types.specs.declared.answer.Answer.TheVariants.{Served, Denied, Refused}
 use Rattle.lfs_types.specs.declared.answer.Served as shows
+use Rattle.lfs_types.specs.declared.level.Level.{Level}
+use Rattle.lfs_types.specs.declared.level.Level.TheVariants.{PermanentlyInsecure, Insecure, Secure, HighlySecure}
 use Rattle.lfs_types.specs.declared.request.Request.{Request}
 use Rattle.lfs_model.specs.declared.journal.Entry.{Entry}
 use Rattle.lfs_model.specs.declared.journal.Event.{Event}
 use Rattle.lfs_model.specs.declared.journal.Event.TheVariants.{User, Cleaner}
 use Rattle.lfs_model.specs.World.{IsTree}
-use Rattle.lfs_laws.specs.LawBetween.{IsChangedBy, IsTurn, BytesBetween, PlaceBetween}
+use Rattle.lfs_laws.specs.LawBetween.{BytesBetween, FlagsBetween, GoneBetween, IsChangedBy, IsDoneBy, IsTurn, LevelBetween, MadeBetween, ModeBetween, OwnerBetween, PlaceBetween}
+use Rattle.lfs_laws.specs.LawFlagged.{MayReflag}
+use Rattle.lfs_laws.specs.LawGone.{MayRemove}
+use Rattle.lfs_laws.specs.LawLevel.{MayRelevel}
+use Rattle.lfs_laws.specs.LawMode.{IsChmod, LosesSetId}
 use Rattle.lfs_laws.specs.LawMoved.{HangsStill, MayMove}
+use Rattle.lfs_laws.specs.LawNew.{MayMake}
+use Rattle.lfs_laws.specs.LawOwner.{MayGive, SameOwner}
 use Rattle.lfs_laws.specs.LawRewritten.{MayRewrite}
 use Rattle.lfs_model.specs.Steps.{IsAnswer, IsEvent, IsLegal, after_answer, after_event, world_after}
+use Rattle.lfs_laws.proofs.CallLaws.{new_law, relevelled_law}
 use Rattle.lfs_laws.proofs.LegalTrees.{event_tree}
-use Rattle.lfs_laws.proofs.RowLaws.{gone_law, moved_law, rewritten_law, row_of}
+use Rattle.lfs_laws.proofs.RowLaws.{given_law, gone_law, moved_law, reflagged_law, remoded_law, rewritten_law, row_of}
+use Rattle.lfs_types.proofs.Somewhere.{is_some_and, none_there, present, there_of}
 
 -- two lists of bytes are one or not
 pub cases_bytes : (xs ys : List ℕ) → (xs ≡ ys) ⊎ (xs ≡ ys → ⊥)
@@ -136,3 +146,137 @@ place_between numbers segments entries w n r s tree legal there after differs =
     hangs_here (λ x y z a b. record { parents = b.parents ∙ a.parents; names = b.names ∙ a.names }) cases_place
     (λ v caller request answer below is x y at next apart. moved_law numbers v caller request answer below is n x y at next apart)
     entries w r s tree legal there after differs
+
+-- ---- modes, owners and flags
+
+abbrev SameMode : Row → Row → Type 0
+SameMode r s = s.file.mode ≡ r.file.mode
+
+pub mode_between : ModeBetween
+mode_between numbers segments entries w n r s tree legal there after differs =
+    between numbers segments n SameMode (λ v caller request row new. IsChmod v caller request n row new ⊎ LosesSetId v caller request n row new)
+    (λ x. refl) (λ x y z a b. b ∙ a) (λ x y. cases_eq y.file.mode x.file.mode)
+    (λ v caller request answer below is x y at next apart. remoded_law numbers v caller request answer below is n x y at next apart)
+    entries w r s tree legal there after differs
+
+abbrev OwnedAlike : Row → Row → Type 0
+OwnedAlike r s = SameOwner r.file s.file
+
+cases_owned : (r s : Row) → OwnedAlike r s ⊎ (OwnedAlike r s → ⊥)
+cases_owned r s = ⊎_elim
+    (λ u. ⊎_elim (λ g. inl (record { uid = u; gid = g })) (λ g. inr (λ (h : OwnedAlike r s). g h.gid)) (cases_eq s.file.gid r.file.gid))
+    (λ u. inr (λ (h : OwnedAlike r s). u h.uid))
+    (cases_eq s.file.uid r.file.uid)
+
+pub owner_between : OwnerBetween
+owner_between numbers segments entries w n r s tree legal there after differs =
+    between numbers segments n OwnedAlike (λ v caller request row new. MayGive v caller request n row new.file.uid new.file.gid)
+    (λ x. record { uid = refl; gid = refl }) (λ x y z a b. record { uid = b.uid ∙ a.uid; gid = b.gid ∙ a.gid }) cases_owned
+    (λ v caller request answer below is x y at next apart. given_law numbers v caller request answer below is n x y at next apart)
+    entries w r s tree legal there after differs
+
+abbrev SameFlags : Row → Row → Type 0
+SameFlags r s = s.file.flags ≡ r.file.flags
+
+pub flags_between : FlagsBetween
+flags_between numbers segments entries w n r s tree legal there after differs =
+    between numbers segments n SameFlags (λ v caller request row new. MayReflag v caller request n row new.file.flags)
+    (λ x. refl) (λ x y z a b. b ∙ a) (λ x y. cases_eq y.file.flags x.file.flags)
+    (λ v caller request answer below is x y at next apart. reflagged_law numbers v caller request answer below is n x y at next apart)
+    entries w r s tree legal there after differs
+
+-- ---- the level, and being there
+
+-- What differs at the end of a run from what was at its beginning was changed by a served call: Q is what was, and each served
+-- call leaves it, or does what is looked for.
+module _ (numbers segments : ℕ) (Q : World → Type 0) (P : World → Caller → Request → World → Type 0)
+    (law : (w : World) (caller : Caller) (request : Request) (answer : Answer) → IsTree w.rows → IsAnswer numbers w caller request answer → Q w
+    → Q (after_answer numbers w caller request answer) ⊎ P w caller request (after_answer numbers w caller request answer)) where
+  earlier : (e : Entry) (es : List Entry) (w : World) → IsDoneBy numbers es (after_event numbers w e.cred e.event) P → IsDoneBy numbers (e ∷ es) w P
+  earlier e es w c = record {
+    before = e ∷ c.before;
+    entry = c.entry;
+    later = c.later;
+    split = ap (λ l. e ∷ l) c.split;
+    request = c.request;
+    shown = c.shown;
+    event = c.event;
+    holds = c.holds;
+  }
+
+  first : (e : Entry) (es : List Entry) (w : World) (event : Event) → e.event ≡ event → IsTree w.rows → IsEvent numbers segments w e.cred event → Q w
+      → Q (after_event numbers w e.cred event) ⊎ IsDoneBy numbers (e ∷ es) w P
+  first e es w (User request (Served shown)) is tree may q = ⊎_elim
+      (λ stays. inl stays)
+      (λ done. inr (record {
+        before = [];
+        entry = e;
+        later = es;
+        split = refl;
+        request = request;
+        shown = shown;
+        event = is;
+        holds = subst (λ (x : Event). P w e.cred request (after_event numbers w e.cred x)) (sym is) done;
+      }))
+      (law w e.cred request (Served shown) tree may q)
+  first e es w (User request (Denied denial)) is tree may q = inl q
+  first e es w (User request (Refused resource)) is tree may q = inl q
+  first e es w (Cleaner kind outcome) is tree may q = inl q
+
+  done_between : (entries : List Entry) (w : World) → IsTree w.rows → IsLegal numbers segments entries w → Q w → (Q (world_after numbers entries w) → ⊥) → IsDoneBy numbers entries w P
+  done_between [] w tree legal q differs = absurd (differs q)
+  done_between (e ∷ es) w tree legal q differs = ⊎_elim
+      (λ stays. earlier e es w (done_between es (after_event numbers w e.cred e.event) (event_tree numbers segments w e.cred e.event tree legal.0) legal.1 stays differs))
+      (λ done. done)
+      (first e es w e.event refl tree legal.0 q)
+
+cases_level : (a b : Level) → (a ≡ b) ⊎ (a ≡ b → ⊥)
+cases_level PermanentlyInsecure PermanentlyInsecure = inl refl
+cases_level PermanentlyInsecure Insecure = inr (λ e. cc (e))
+cases_level PermanentlyInsecure Secure = inr (λ e. cc (e))
+cases_level PermanentlyInsecure HighlySecure = inr (λ e. cc (e))
+cases_level Insecure PermanentlyInsecure = inr (λ e. cc (e))
+cases_level Insecure Insecure = inl refl
+cases_level Insecure Secure = inr (λ e. cc (e))
+cases_level Insecure HighlySecure = inr (λ e. cc (e))
+cases_level Secure PermanentlyInsecure = inr (λ e. cc (e))
+cases_level Secure Insecure = inr (λ e. cc (e))
+cases_level Secure Secure = inl refl
+cases_level Secure HighlySecure = inr (λ e. cc (e))
+cases_level HighlySecure PermanentlyInsecure = inr (λ e. cc (e))
+cases_level HighlySecure Insecure = inr (λ e. cc (e))
+cases_level HighlySecure Secure = inr (λ e. cc (e))
+cases_level HighlySecure HighlySecure = inl refl
+
+pub level_between : LevelBetween
+level_between numbers segments entries w tree legal differs =
+    done_between numbers segments (λ v. v.level ≡ w.level) (λ v caller request after. (after.level ≢ v.level) × MayRelevel caller request v.level after.level)
+    (λ v caller request answer below is q. ⊎_elim
+    (λ same. inl (same ∙ q))
+    (λ apart. inr (apart, relevelled_law numbers v caller request answer below is apart))
+    (cases_level (after_answer numbers v caller request answer).level v.level))
+    entries w tree legal refl differs
+
+made_or_none : (numbers : ℕ) (v : World) (caller : Caller) (request : Request) (answer : Answer) → IsTree v.rows → IsAnswer numbers v caller request answer → (n : ℕ) → map.get v.rows n ≡ None
+    → (o : Option Row) → map.get (after_answer numbers v caller request answer).rows n ≡ o
+    → (map.get (after_answer numbers v caller request answer).rows n ≡ None) ⊎ IsSomeAnd (map.get (after_answer numbers v caller request answer).rows n) (MayMake numbers v caller request n)
+made_or_none numbers v caller request answer below is n none None e = inl e
+made_or_none numbers v caller request answer below is n none (Some s) e = inr (is_some_and (MayMake numbers v caller request n) e (new_law numbers v caller request answer below is n s none e))
+
+pub made_between : MadeBetween
+made_between numbers segments entries w n s tree legal none there =
+    done_between numbers segments (λ v. map.get v.rows n ≡ None) (λ v caller request after. IsSomeAnd (map.get after.rows n) (MayMake numbers v caller request n))
+    (λ v caller request answer below is q. made_or_none numbers v caller request answer below is n q _ refl)
+    entries w tree legal none (λ q. none_there _ s q there)
+
+gone_or_there : (numbers : ℕ) (v : World) (caller : Caller) (request : Request) (answer : Answer) → IsTree v.rows → IsAnswer numbers v caller request answer → (n : ℕ) (r : Row) → map.get v.rows n ≡ Some r
+    → (o : Option Row) → map.get (after_answer numbers v caller request answer).rows n ≡ o
+    → IsSome (map.get (after_answer numbers v caller request answer).rows n) ⊎ IsSomeAnd (map.get v.rows n) (MayRemove v caller request n)
+gone_or_there numbers v caller request answer below is n r there None e = inr (is_some_and (MayRemove v caller request n) there (gone_law numbers v caller request answer below is n r there e).0)
+gone_or_there numbers v caller request answer below is n r there (Some s) e = inl (present e)
+
+pub gone_between : GoneBetween
+gone_between numbers segments entries w n r tree legal there none =
+    done_between numbers segments (λ v. IsSome (map.get v.rows n)) (λ v caller request after. IsSomeAnd (map.get v.rows n) (MayRemove v caller request n))
+    (λ v caller request answer below is q. let t = there_of (map.get v.rows n) q in gone_or_there numbers v caller request answer below is n t.value t.is _ refl)
+    entries w tree legal (present there) (λ q. let t = there_of _ q in none_there _ t.value none t.is)

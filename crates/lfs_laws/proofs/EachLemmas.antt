@@ -2,7 +2,7 @@
 use Rattle.std.proofs.Common.{◌≡◌, ◌≤◌, ℕ, List, [], ◌∷◌, ◌++◌, length, Option, None, Some, refl, sym, ap, subst, ⊎_elim, arith}
 use Rattle.std.specs.FinMap as map
 use Rattle.lfs_types.specs.Caller.{Caller}
-use Rattle.lfs_types.specs.Tree.{Row, World, opening_world}
+use Rattle.lfs_types.specs.Tree.{Row, World}
 use Rattle.lfs_types.specs.declared.answer.Answer.{Answer}
 use Rattle.lfs_types.specs.declared.request.Request.{Request}
 use Rattle.lfs_model.specs.declared.journal.Entry.{Entry}
@@ -10,7 +10,7 @@ use Rattle.lfs_model.specs.declared.journal.Event.{Event}
 use Rattle.lfs_model.specs.declared.journal.Event.TheVariants.{User, Cleaner}
 use Rattle.lfs_model.specs.World.{Rows}
 use Rattle.lfs_model.specs.Rules.{file_max}
-use Rattle.lfs_laws.specs.LawEach.{EachEntry, IsSound, MeetsLaws}
+use Rattle.lfs_laws.specs.LawEach.{EachEntry, IsSound, MeetsLaws, OpensSound}
 use Rattle.lfs_model.specs.Steps.{IsAnswer, IsEvent, IsLegal, after_answer, after_event, world_after}
 use Rattle.lfs_laws.proofs.BetweenLemmas.{cases_bytes}
 use Rattle.lfs_laws.proofs.CallLaws.{new_law, relevelled_law, shown_law}
@@ -46,7 +46,7 @@ sound_after numbers segments w caller event sound is = record {
   fits = fits_after numbers segments w caller event sound is;
 }
 
-opening_sound : IsSound opening_world.rows
+pub opening_sound : OpensSound
 opening_sound = record {
   tree = opening_tree;
   fits = λ n r at. let root = only_root n r at in let none = ap (λ (x : Row). length x.file.bytes) (sym root.1) in omega (arith, none);
@@ -89,9 +89,9 @@ module _ (numbers segments : ℕ) (w : World) (entry : Entry) (sound : IsSound w
       (meets numbers w entry.cred request answer sound (subst (IsEvent numbers segments w entry.cred) is may))
 
 pub each_entry : EachEntry
-each_entry numbers segments before entry later legal =
-    let stands = standing numbers segments before entry later opening_world opening_sound legal in
-    let w = world_after numbers before opening_world in
+each_entry numbers segments before entry later begun sound legal =
+    let stands = standing numbers segments before entry later begun sound legal in
+    let w = world_after numbers before begun in
     record {
       may = stands.may;
       before = stands.sound;

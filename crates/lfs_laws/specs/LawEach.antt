@@ -23,7 +23,7 @@ use Rattle.lfs_laws.specs.LawOwner.{Given}
 use Rattle.lfs_laws.specs.LawRewritten.{Rewritten}
 use Rattle.lfs_laws.specs.LawServed.{IsAnsweredAsMay}
 use Rattle.lfs_laws.specs.LawShown.{Shown}
-use Rattle.lfs_model.specs.Steps.{IsEvent, IsLegal, after_event, world_of}
+use Rattle.lfs_model.specs.Steps.{IsEvent, IsLegal, after_event, world_after}
 
 -- a tree, in which no file is longer than a file may be
 pub record IsSound (rows : Rows) : Type 0 where
@@ -57,10 +57,15 @@ pub record IsLawful (numbers segments : ℕ) (w : World) (entry : Entry) (after 
       → MeetsLaws numbers w entry.cred request answer after
   pub cleaner : (kind : CleanerKind) (outcome : CleanerOutcome) → entry.event ≡ Cleaner kind outcome → after ≡ w
 
--- so does each entry of a legal list from the opening world
+-- so does each entry of a legal list from any sound tree
 abbrev pub EachEntry : Type 0
 EachEntry =
-    (numbers segments : ℕ) (before : List Entry) (entry : Entry) (later : List Entry)
-    → IsLegal numbers segments (before ++ entry ∷ later) opening_world
-    → IsLawful numbers segments (world_of numbers before) entry
-    (after_event numbers (world_of numbers before) entry.cred entry.event)
+    (numbers segments : ℕ) (before : List Entry) (entry : Entry) (later : List Entry) (w : World)
+    → IsSound w.rows
+    → IsLegal numbers segments (before ++ entry ∷ later) w
+    → IsLawful numbers segments (world_after numbers before w) entry
+    (after_event numbers (world_after numbers before w) entry.cred entry.event)
+
+-- the opening world is one
+abbrev pub OpensSound : Type 0
+OpensSound = IsSound opening_world.rows

@@ -7,13 +7,13 @@
 //! a SetLength doesn't bring.
 
 ghost use Rattle.lfs_laws.specs.LawAsked.{NamesWhatItAsks};
-ghost use Rattle.lfs_laws.specs.LawBetween.{BytesBetween, PlaceBetween};
+ghost use Rattle.lfs_laws.specs.LawBetween.{BytesBetween, FlagsBetween, GoneBetween, LevelBetween, MadeBetween, ModeBetween, OwnerBetween, PlaceBetween};
 ghost use Rattle.lfs_laws.specs.LawBrought.{DecidesAlike};
 ghost use Rattle.lfs_laws.specs.LawClasses.{ListByBits, MakeByBits, ReadByBits, SearchByBits, WriteByBits};
 ghost use Rattle.lfs_laws.specs.LawDenied.{TellsLittle};
 ghost use Rattle.lfs_laws.specs.LawDone.{Done};
 ghost use Rattle.lfs_laws.specs.LawDoor.{ClosedDoor};
-ghost use Rattle.lfs_laws.specs.LawEach.{EachEntry};
+ghost use Rattle.lfs_laws.specs.LawEach.{EachEntry, OpensSound};
 ghost use Rattle.lfs_laws.specs.LawFlagged.{Reflagged};
 ghost use Rattle.lfs_laws.specs.LawGone.{Gone};
 ghost use Rattle.lfs_laws.specs.LawHidden.{HidesFromCall, HidesFromRun};
@@ -193,20 +193,27 @@ pub fn shown()
     ensures { EachCall Shown }
 {}
 
-/// Through each legal list of entries from a fresh volume's tree each entry may happen where it stands; before and after
-/// it there is a tree in which no file is longer than a file may be. A user's call that was served, or refused for a
-/// resource, he might make, one that was denied he might not; it meets each of the laws of what one call does, changes and
-/// shows. A cleaner's call changes nothing.
+/// Through each legal list of entries from any tree in which no file is longer than a file may be, as a fresh volume's, each entry may
+/// happen where it stands; before and after it there is such a tree. A user's call that was served, or refused for a resource,
+/// he might make, one that was denied he might not; it meets each of the laws of what one call does, changes and shows. A
+/// cleaner's call changes nothing.
 pub fn each_entry()
-    ensures { EachEntry }
+    ensures each { EachEntry }
+    ensures opening { OpensSound }
 {}
 
-/// Where a row has other bytes, or hangs elsewhere or under another name, at a later point of a run, a call in between was
-/// served that changed its bytes, or its place, and whose caller might do so then; or one that removed the row, of a
-/// caller who might remove it.
+/// Where a row has other bytes, another place, another mode, owner or group, or other flags at a later point of a run from any tree,
+/// a call in between was served that changed them, and whose caller might do so then; or one that removed the row, of a caller
+/// who might. So it is with another level, with a row that wasn't there, and with one that is gone.
 pub fn changed_between()
     ensures bytes { BytesBetween }
     ensures place { PlaceBetween }
+    ensures mode { ModeBetween }
+    ensures owner { OwnerBetween }
+    ensures flags { FlagsBetween }
+    ensures level { LevelBetween }
+    ensures made { MadeBetween }
+    ensures gone { GoneBetween }
 {}
 
 /// The users' entries alone, without the cleaner's, the Syncs and those refused for a resource, are a legal list of
