@@ -21,9 +21,9 @@ use Rattle.lfs_model.specs.declared.journal.Event.TheVariants.{User, Cleaner}
 use Rattle.lfs_model.specs.World.{Rows, child, file_at, IsTree}
 use Rattle.lfs_model.specs.Rules.{reached, front, last, start_in}
 use Rattle.lfs_model.specs.Effects.{effect, after_rename, least_unused, with_file, with_place, without_row, new_file, written, cut, given}
-use Rattle.lfs_laws.specs.LawsBytes.{SetsByte, SetsSome, IsLastSet, LastWritten}
+use Rattle.lfs_laws.specs.LawsBytes.{IsLastSet, IsNeverSet, LastWritten, LastWrittenSinceOpening, SetsByte, SetsSome}
 use Rattle.lfs_laws.specs.LawsRuns.{IsServed, NoneServed}
-use Rattle.lfs_model.specs.Steps.{after_event, world_after, world_of}
+use Rattle.lfs_model.specs.Steps.{after_event, world_after}
 use Rattle.lfs_laws.proofs.LegalTrees.{entries_tree}
 use Rattle.lfs_types.proofs.Maps.{get-insert_same, get-insert_other, get-remove_same, get-remove_other}
 use Rattle.lfs_types.proofs.Pieces.{length-resized}
@@ -313,58 +313,61 @@ none_more : (numbers : ℕ) (es : List Entry) (e : Entry) (w : World) (n i : ℕ
 none_more numbers [] e w n i none unset = (unset, tt)
 none_more numbers (x ∷ es) e w n i none unset = (none.0, none_more numbers es e (after_event numbers w x.cred x.event) n i none.1 unset)
 
--- each byte of each file is what the last call that set it made of it
-abbrev AreLastSet : ℕ → List Entry → World → Type 0
-AreLastSet numbers before w = (n : ℕ) (r : Row) → map.get w.rows n ≡ Some r → r.file.kind ≡ Regular → (i : ℕ) → IsLastSet numbers before n i (get_or r.file.bytes i 0)
+-- each byte of each file is what the last call that set it made of it, or what it was in the beginning
+abbrev Origin : ℕ → World → List Entry → ℕ → ℕ → ℕ → Type 0
+Origin numbers w before n i value = IsLastSet numbers w before n i value ⊎ IsNeverSet numbers w before n i value
 
-module _ (numbers : ℕ) (before : List Entry) (e : Entry) (sure : AreLastSet numbers before (world_of numbers before)) where
+abbrev AreSet : ℕ → World → List Entry → World → Type 0
+AreSet numbers w before v = (n : ℕ) (r : Row) → map.get v.rows n ≡ Some r → r.file.kind ≡ Regular → (i : ℕ) → Origin numbers w before n i (get_or r.file.bytes i 0)
+
+module _ (numbers : ℕ) (w : World) (before : List Entry) (e : Entry) (sure : AreSet numbers w before (world_after numbers before w)) where
   -- an entry that doesn't set a byte leaves the last that did
-  later_entry : (n i value : ℕ) → IsLastSet numbers before n i value → (IsServed (SetsSome numbers n i (world_of numbers before) e.cred) e.event → ⊥) → IsLastSet numbers (before ++ e ∷ []) n i value
-  later_entry n i value was unset =
-      let here = world_after-append numbers was.before (was.entry ∷ was.later) opening_world in
-      let leads : world_of numbers before ≡ world_after numbers was.later (after_event numbers (world_of numbers was.before) was.entry.cred was.entry.event) = ap (λ es. world_after numbers es opening_world) (sym was.split) ∙ here in
-      record {
+  later_entry : (n i value : ℕ) → (IsServed (SetsSome numbers n i (world_after numbers before w) e.cred) e.event → ⊥) → Origin numbers w before n i value → Origin numbers w (before ++ e ∷ []) n i value
+  later_entry n i value unset = ⊎_elim
+      (λ (was : IsLastSet numbers w before n i value).
+      let here = world_after-append numbers was.before (was.entry ∷ was.later) w in
+      let leads : world_after numbers before w ≡ world_after numbers was.later (after_event numbers (world_after numbers was.before w) was.entry.cred was.entry.event) = ap (λ es. world_after numbers es w) (sym was.split) ∙ here in
+      inl (record {
         before = was.before;
         entry = was.entry;
         later = was.later ++ e ∷ [];
         split = sym (append_assoc was.before (was.entry ∷ was.later) (e ∷ [])) ∙ ap (λ l. l ++ e ∷ []) was.split;
         sets = was.sets;
-        last = none_more numbers was.later e _ n i was.last (subst (λ (w : World). IsServed (SetsSome numbers n i w e.cred) e.event → ⊥) leads unset);
-      }
+        last = none_more numbers was.later e _ n i was.last (subst (λ (v : World). IsServed (SetsSome numbers n i v e.cred) e.event → ⊥) leads unset);
+      }))
+      (λ (was : IsNeverSet numbers w before n i value). inr (record { none = none_more numbers before e w n i was.none unset; row = was.row; there = was.there; kind = was.kind; was = was.was }))
 
-  unset_by : (event : Event) → e.event ≡ event → (n : ℕ) (r : Row) → map.get (world_of numbers before).rows n ≡ Some r → r.file.kind ≡ Regular → (i : ℕ)
-      → (IsServed (SetsSome numbers n i (world_of numbers before) e.cred) event → ⊥) → IsLastSet numbers (before ++ e ∷ []) n i (get_or r.file.bytes i 0)
+  unset_by : (event : Event) → e.event ≡ event → (n : ℕ) (r : Row) → map.get (world_after numbers before w).rows n ≡ Some r → r.file.kind ≡ Regular → (i : ℕ)
+      → (IsServed (SetsSome numbers n i (world_after numbers before w) e.cred) event → ⊥) → Origin numbers w (before ++ e ∷ []) n i (get_or r.file.bytes i 0)
   unset_by event is n r there kind i unset =
-      later_entry n i _ (sure n r there kind i) (subst (λ (x : Event). IsServed (SetsSome numbers n i (world_of numbers before) e.cred) x → ⊥) (sym is) unset)
+      later_entry n i _ (subst (λ (x : Event). IsServed (SetsSome numbers n i (world_after numbers before w) e.cred) x → ⊥) (sym is) unset) (sure n r there kind i)
 
-  one_more : (event : Event) → e.event ≡ event → AreLastSet numbers (before ++ e ∷ []) (after_event numbers (world_of numbers before) e.cred event)
+  one_more : (event : Event) → e.event ≡ event → AreSet numbers w (before ++ e ∷ []) (after_event numbers (world_after numbers before w) e.cred event)
   one_more (User request (Served shown)) is n r there kind i = ⊎_elim
-      (λ sets. record {
+      (λ sets. inl (record {
         before = before;
         entry = e;
         later = [];
         split = refl;
-        sets = subst (IsServed (SetsByte numbers (world_of numbers before) n i (get_or r.file.bytes i 0))) (sym is) sets;
+        sets = subst (IsServed (SetsByte numbers (world_after numbers before w) n i (get_or r.file.bytes i 0))) (sym is) sets;
         last = tt;
-      })
-      (λ kept. subst (IsLastSet numbers (before ++ e ∷ []) n i) kept.same (unset_by (User request (Served shown)) is n kept.row kept.there (kept.kind ∙ kind) i (λ sets. kept.unset sets.0 sets.1)))
-      (byte numbers (world_of numbers before) n i r e.cred request kind there)
+      }))
+      (λ kept. subst (Origin numbers w (before ++ e ∷ []) n i) kept.same (unset_by (User request (Served shown)) is n kept.row kept.there (kept.kind ∙ kind) i (λ sets. kept.unset sets.0 sets.1)))
+      (byte numbers (world_after numbers before w) n i r e.cred request kind there)
   one_more (User request (Denied denial)) is n r there kind i = unset_by _ is n r there kind i (λ sets. sets)
   one_more (User request (Refused resource)) is n r there kind i = unset_by _ is n r there kind i (λ sets. sets)
   one_more (Cleaner call outcome) is n r there kind i = unset_by _ is n r there kind i (λ sets. sets)
 
-all_set : (numbers : ℕ) (before later : List Entry) → AreLastSet numbers before (world_of numbers before) → AreLastSet numbers (before ++ later) (world_of numbers (before ++ later))
-all_set numbers before [] sure = subst (λ es. AreLastSet numbers es (world_of numbers es)) (sym (append-nil before)) sure
-all_set numbers before (e ∷ later) sure =
-    let next : AreLastSet numbers (before ++ e ∷ []) (world_of numbers (before ++ e ∷ [])) =
-    subst (AreLastSet numbers (before ++ e ∷ [])) (sym (world_after-append numbers before (e ∷ []) opening_world)) (one_more numbers before e sure e.event refl) in
-    subst (λ es. AreLastSet numbers es (world_of numbers es)) (append_assoc before (e ∷ []) later) (all_set numbers (before ++ e ∷ []) later next)
+all_set : (numbers : ℕ) (w : World) (before later : List Entry) → AreSet numbers w before (world_after numbers before w) → AreSet numbers w (before ++ later) (world_after numbers (before ++ later) w)
+all_set numbers w before [] sure = subst (λ es. AreSet numbers w es (world_after numbers es w)) (sym (append-nil before)) sure
+all_set numbers w before (e ∷ later) sure =
+    let next : AreSet numbers w (before ++ e ∷ []) (world_after numbers (before ++ e ∷ []) w) =
+    subst (AreSet numbers w (before ++ e ∷ [])) (sym (world_after-append numbers before (e ∷ []) w)) (one_more numbers w before e sure e.event refl) in
+    subst (λ es. AreSet numbers w es (world_after numbers es w)) (append_assoc before (e ∷ []) later) (all_set numbers w (before ++ e ∷ []) later next)
 
--- in the opening world no file is there but the root
-none_opening : (numbers : ℕ) → AreLastSet numbers [] (world_of numbers [])
-none_opening numbers n r there kind i =
-    let directory : Directory ≡ r.file.kind = ap (λ (x : Row). x.file.kind) (only_root n r there).1 in
-    absurd (cc)
+-- in the beginning nothing has set them
+none_yet : (numbers : ℕ) (w : World) → AreSet numbers w [] w
+none_yet numbers w n r there kind i = inr (record { none = tt; row = r; there = there; kind = kind; was = refl })
 
 -- a file with a byte is no directory
 with_byte : (rows : Rows) → IsTree rows → (n : ℕ) (r : Row) → map.get rows n ≡ Some r → (i : ℕ) → i < length r.file.bytes → (k : Kind) → r.file.kind ≡ k → k ≡ Regular
@@ -373,6 +376,16 @@ with_byte rows tree n r there i h Directory e = let none = ap (λ (l : List ℕ)
 
 -- each byte of a file is what the last call that set it made of it
 pub last_written : LastWritten
-last_written numbers segments entries n r i legal there h =
-    all_set numbers [] entries (none_opening numbers) n r there
-    (let is = with_byte (world_of numbers entries).rows (entries_tree numbers segments entries opening_world opening_tree legal) n r there i h r.file.kind refl in is) i
+last_written numbers segments entries w n r i tree legal there h =
+    all_set numbers w [] entries (none_yet numbers w) n r there
+    (let is = with_byte (world_after numbers entries w).rows (entries_tree numbers segments entries w tree legal) n r there i h r.file.kind refl in is) i
+
+-- the opening world has no file
+pub last_written_since_opening : LastWrittenSinceOpening
+last_written_since_opening numbers segments entries n r i legal there h = ⊎_elim
+    (λ set. set)
+    (λ never.
+    let directory : Directory ≡ never.row.file.kind = ap (λ (x : Row). x.file.kind) (only_root n never.row never.there).1 in
+    let regular = never.kind in
+    absurd (cc))
+    (last_written numbers segments entries opening_world n r i opening_tree legal there h)

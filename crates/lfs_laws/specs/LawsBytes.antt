@@ -1,17 +1,18 @@
 -- Who wrote a byte last.
-use Rattle.std.specs.Prelude.{◌≡◌, ℕ, ◌+◌, ◌<◌, ◌≤◌, List, ◌∷◌, ◌++◌, length, get_or, Some}
+use Rattle.std.specs.Prelude.{◌≡◌, ◌⊎◌, ℕ, ◌+◌, ◌<◌, ◌≤◌, List, ◌∷◌, ◌++◌, length, get_or, Some}
 use Rattle.std.specs.FinMap as map
 use Rattle.lfs_types.specs.Caller.{Caller}
 use Rattle.lfs_types.specs.Tree.{Row, World, root, opening_world}
+use Rattle.lfs_types.specs.declared.attrs.Kind.TheVariants.{File as Regular}
 use Rattle.lfs_types.specs.declared.limits.TheConstants.{FIRST_INODE}
 use Rattle.lfs_types.specs.declared.request.Request.{Request}
 use Rattle.lfs_types.specs.declared.request.Request.TheVariants.{Write, SetLength, Create}
 use Rattle.lfs_model.specs.declared.journal.Entry.{Entry}
-use Rattle.lfs_model.specs.World.{file_at}
+use Rattle.lfs_model.specs.World.{IsTree, file_at}
 use Rattle.lfs_model.specs.Rules.{reached, start_in}
 use Rattle.lfs_model.specs.Effects.{least_unused}
 use Rattle.lfs_laws.specs.LawsRuns.{IsServed, NoneServed}
-use Rattle.lfs_model.specs.Steps.{IsLegal, after_event, world_of}
+use Rattle.lfs_model.specs.Steps.{IsLegal, after_event, world_after, world_of}
 
 -- bytes that are put at a start have this value for byte i of the file
 pub record Covers (start : ℕ) (bytes : List ℕ) (i value : ℕ) : Type 0 where
@@ -34,22 +35,39 @@ SetsByte numbers w n i value request = ⊥
 abbrev pub SetsSome : ℕ → ℕ → ℕ → World → Caller → Request → Type 0
 SetsSome numbers n i w caller request = (value : ℕ) × SetsByte numbers w n i value request
 
--- of the entries since the opening world, the last served call that sets byte i of the file of this number sets it to
--- a value
-pub record IsLastSet (numbers : ℕ) (entries : List Entry) (n i value : ℕ) : Type 0 where
+-- of the entries since a world, the last served call that sets byte i of the file of this number sets it to a value
+pub record IsLastSet (numbers : ℕ) (w : World) (entries : List Entry) (n i value : ℕ) : Type 0 where
   pub before : List Entry
   pub entry : Entry
   pub later : List Entry
   pub split : before ++ entry ∷ later ≡ entries
-  pub sets : IsServed (SetsByte numbers (world_of numbers before) n i value) entry.event
+  pub sets : IsServed (SetsByte numbers (world_after numbers before w) n i value) entry.event
   pub last : NoneServed (SetsSome numbers n i) numbers later
-      (after_event numbers (world_of numbers before) entry.cred entry.event)
+      (after_event numbers (world_after numbers before w) entry.cred entry.event)
 
--- each byte of a file is what the last call that set it made of it
+-- none of them sets it, and the file of this number had that value there in the world, or 0 where it had no byte
+pub record IsNeverSet (numbers : ℕ) (w : World) (entries : List Entry) (n i value : ℕ) : Type 0 where
+  pub none : NoneServed (SetsSome numbers n i) numbers entries w
+  pub row : Row
+  pub there : map.get w.rows n ≡ Some row
+  pub kind : row.file.kind ≡ Regular
+  pub was : get_or row.file.bytes i 0 ≡ value
+
+-- each byte of a file is what the last call that set it made of it, or what it was in the beginning
 abbrev pub LastWritten : Type 0
 LastWritten =
+    (numbers segments : ℕ) (entries : List Entry) (w : World) (n : ℕ) (r : Row) (i : ℕ)
+    → IsTree w.rows
+    → IsLegal numbers segments entries w
+    → map.get (world_after numbers entries w).rows n ≡ Some r
+    → i < length r.file.bytes
+    → IsLastSet numbers w entries n i (get_or r.file.bytes i 0) ⊎ IsNeverSet numbers w entries n i (get_or r.file.bytes i 0)
+
+-- from the opening world on, which has no file, it is the former
+abbrev pub LastWrittenSinceOpening : Type 0
+LastWrittenSinceOpening =
     (numbers segments : ℕ) (entries : List Entry) (n : ℕ) (r : Row) (i : ℕ)
     → IsLegal numbers segments entries opening_world
     → map.get (world_of numbers entries).rows n ≡ Some r
     → i < length r.file.bytes
-    → IsLastSet numbers entries n i (get_or r.file.bytes i 0)
+    → IsLastSet numbers opening_world entries n i (get_or r.file.bytes i 0)

@@ -42,7 +42,7 @@ ghost use Rattle.lfs_laws.specs.LawShown.{Shown};
 ghost use Rattle.lfs_laws.specs.LawTrees.{LeavesTree};
 ghost use Rattle.lfs_laws.specs.LawUnread.{NobodyReads};
 ghost use Rattle.lfs_laws.specs.LawView.{View};
-ghost use Rattle.lfs_laws.specs.LawsBytes.{LastWritten};
+ghost use Rattle.lfs_laws.specs.LawsBytes.{LastWritten, LastWrittenSinceOpening};
 ghost use Rattle.lfs_laws.specs.LawsFlags.{ImmutableStays, AppendOnlyGrows, SystemImmutableStays, SystemAppendOnlyGrows};
 ghost use Rattle.lfs_laws.specs.LawsRuns.{SameAnswers, UsersAlone};
 ghost use Rattle.lfs_laws.specs.Rights.{EachCall};
@@ -235,10 +235,12 @@ pub fn nobody_reads()
     ensures { NobodyReads }
 {}
 
-/// Each byte of a file is what the last call that set it made of it: a Write that covers the byte puts its own there;
-/// a SetLength to at most the byte's place and the Create of the file make it 0.
+/// Each byte of a file is what the last call of a run that set it made of it: a Write that covers the byte puts its own there; a
+/// SetLength to at most the byte's place and the Create of the file make it 0. Where none set it, it is what it was in the tree
+/// that the run began with, and 0 where the file had no such byte; a fresh volume's tree has no file.
 pub fn last_written()
-    ensures { LastWritten }
+    ensures last { LastWritten }
+    ensures opening { LastWrittenSinceOpening }
 {}
 
 /// An immutable file or directory stays in its directory with its name, its bytes and its attributes, whatever is
