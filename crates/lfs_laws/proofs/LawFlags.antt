@@ -79,7 +79,7 @@ above_after w caller request after (Same e) above none = ap is_above_zero e ∙ 
 above_after w caller request after (Set is super may) above none = true_from_ne_false (is_above_zero after)
     (λ low. none (subst (DropsLevel w caller) (sym is) (by_init (is_lower after w.level) caller.init may (falls w.level after above low), above, low)))
 
-above_event : (numbers : ℕ) (w : World) (caller : Caller) (request : Request) → decide w caller request ≡ None → is_above_zero w.level ≡ true → (DropsLevel w caller request → ⊥) → is_above_zero (effect numbers w caller request).level ≡ true
+pub above_event : (numbers : ℕ) (w : World) (caller : Caller) (request : Request) → decide w caller request ≡ None → is_above_zero w.level ≡ true → (DropsLevel w caller request → ⊥) → is_above_zero (effect numbers w caller request).level ≡ true
 above_event numbers w caller request allowed = above_after w caller request _ (level_fate numbers w caller request allowed)
 
 -- ---- a row through a list of calls
@@ -118,7 +118,7 @@ module _ (numbers segments n : ℕ) (IsOne : World → Caller → Request → Ty
 abbrev Any : World → Type 0
 Any w = Unit {0}
 
-abbrev Above : World → Type 0
+abbrev pub Above : World → Type 0
 Above w = is_above_zero w.level ≡ true
 
 -- ---- flags that forbid

@@ -11,6 +11,7 @@ pub mod Fates
 pub mod HiddenLemmas
 pub mod HiddenRuns
 pub mod IdleLemmas
+pub mod KeptLemmas
 pub mod LawBytes
 pub mod LawFates
 pub mod LawFlags
@@ -32,6 +33,7 @@ pub mod RowLaws
 pub mod SameKeys
 pub mod SameTests
 pub mod ServedLemmas
+pub mod SystemNames
 pub mod ViewLaw
 pub mod ViewLemmas
 pub mod Ways

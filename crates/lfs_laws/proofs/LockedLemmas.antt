@@ -89,7 +89,7 @@ module _ (numbers segments d : ℕ) where
   flags_event w caller (User request (Refused resource)) r tree is none there set = is_some_and (SameFlags r) there refl
   flags_event w caller (Cleaner kind outcome) r tree is none there set = is_some_and (SameFlags r) there refl
 
-  name_event : (w : World) (caller : Caller) (event : Event) (dir : Row) (name : List ℕ) (n : ℕ) → IsTree w.rows → IsEvent numbers segments w caller event
+  pub name_event : (w : World) (caller : Caller) (event : Event) (dir : Row) (name : List ℕ) (n : ℕ) → IsTree w.rows → IsEvent numbers segments w caller event
       → map.get w.rows d ≡ Some dir → is_fixed (attrs_of dir.file) ≡ true → IsChild w.rows d name n → IsChild (after_event numbers w caller event).rows d name n
   name_event w caller (User request (Served shown)) dir name n tree is there set c = name_stays w _ caller request d dir name n there set c (fate numbers w caller tree n c.row c.there request (Served shown) is)
   name_event w caller (User request (Denied denial)) dir name n tree is there set c = c
@@ -112,7 +112,7 @@ module _ (numbers segments d : ℕ) where
       no_place w dir c.row.parent there set c.hangs moved.placed.writes.mutable)
       (cases_place r c.row)
 
-  came_event : (w : World) (caller : Caller) (event : Event) (dir : Row) (name : List ℕ) (n : ℕ) → IsTree w.rows → IsEvent numbers segments w caller event
+  pub came_event : (w : World) (caller : Caller) (event : Event) (dir : Row) (name : List ℕ) (n : ℕ) → IsTree w.rows → IsEvent numbers segments w caller event
       → map.get w.rows d ≡ Some dir → is_immutable (attrs_of dir.file) ≡ true → IsChild (after_event numbers w caller event).rows d name n → IsChild w.rows d name n
   came_event w caller (User request (Served shown)) dir name n tree is there set c = came w caller request shown dir name n tree is there set c _ refl
   came_event w caller (User request (Denied denial)) dir name n tree is there set c = c

@@ -10,6 +10,7 @@ pub mod LawFlagged
 pub mod LawGone
 pub mod LawHidden
 pub mod LawIdle
+pub mod LawKept
 pub mod LawLeads
 pub mod LawLeadsOn
 pub mod LawLevel
@@ -32,6 +33,7 @@ pub mod LawRewritten
 pub mod LawSeen
 pub mod LawServed
 pub mod LawShown
+pub mod LawSystemNames
 pub mod LawTrees
 pub mod LawUnread
 pub mod LawView

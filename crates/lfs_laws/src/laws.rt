@@ -18,6 +18,7 @@ ghost use Rattle.lfs_laws.specs.LawFlagged.{Reflagged};
 ghost use Rattle.lfs_laws.specs.LawGone.{Gone};
 ghost use Rattle.lfs_laws.specs.LawHidden.{HidesFromCall, HidesFromRun};
 ghost use Rattle.lfs_laws.specs.LawIdle.{CallersAlike, LevelsAlike, MarksAlike};
+ghost use Rattle.lfs_laws.specs.LawKept.{RowIsKept};
 ghost use Rattle.lfs_laws.specs.LawLeads.{LeadsByNames, ShowsByNames};
 ghost use Rattle.lfs_laws.specs.LawLeadsOn.{PathLeadsOn, PathLeadsThrough};
 ghost use Rattle.lfs_laws.specs.LawLevel.{Relevelled};
@@ -39,6 +40,7 @@ ghost use Rattle.lfs_laws.specs.LawRegranted.{RightBetween};
 ghost use Rattle.lfs_laws.specs.LawRewritten.{Rewritten};
 ghost use Rattle.lfs_laws.specs.LawServed.{ServedExactlyWhereMay};
 ghost use Rattle.lfs_laws.specs.LawShown.{Shown};
+ghost use Rattle.lfs_laws.specs.LawSystemNames.{NoSystemNameComes, SystemNamesStay, SystemPathStays};
 ghost use Rattle.lfs_laws.specs.LawTrees.{LeavesTree};
 ghost use Rattle.lfs_laws.specs.LawUnread.{NobodyReads};
 ghost use Rattle.lfs_laws.specs.LawView.{View};
@@ -255,11 +257,16 @@ pub fn append_only_grows()
     ensures { AppendOnlyGrows }
 {}
 
-/// Above level 0 nothing turns SF_IMMUTABLE or SF_APPEND off: what has the one keeps it and all but its other flags,
-/// and what has the other keeps it and only grows, whatever is called, until init lets the level fall to 0 or below.
+/// Above level 0 nothing turns SF_IMMUTABLE or SF_APPEND off, not even user 0: what has the one keeps it and all but its other
+/// flags, and what has the other keeps it and only grows; what hangs in a directory with either hangs there under its name, and in
+/// one with SF_IMMUTABLE nothing else; a path through such directories leads to the same row. So it is whatever is called, until
+/// init lets the level fall to 0 or below.
 pub fn system_locks_stay()
     ensures immutable { SystemImmutableStays }
     ensures append_only { SystemAppendOnlyGrows }
+    ensures names { SystemNamesStay }
+    ensures come { NoSystemNameComes }
+    ensures path { SystemPathStays }
 {}
 
 /// Where a row grants a user something at a later point of a run that it didn't grant, or no longer what it did, its owner then
@@ -301,6 +308,13 @@ pub fn closed_door_hides()
 pub fn path_stays()
     ensures stays { PathStays }
     ensures guarded { GuardedIsLeft }
+{}
+
+/// A row stays in its directory under its name through any calls of users who are not user 0, own neither of the two, and are kept
+/// from the directory's rows: it grants them no write, is sticky, or is fixed by a flag. Of both nothing changes but a file's bytes,
+/// with its set-id bits, and the directory's own place, whatever becomes of the directories above.
+pub fn row_is_kept()
+    ensures { RowIsKept }
 {}
 
 /// A path that leads to a row leads on, at each point of a run from any tree: to the same row; or nowhere, where a served Unlink or
