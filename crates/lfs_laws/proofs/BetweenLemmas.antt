@@ -1,8 +1,8 @@
 -- Who changed a row in a run.
-use Rattle.std.proofs.Common.{◌≡◌, ◌≢◌, ◌⊎◌, ℕ, List, [], ◌∷◌, Option, None, Some, inl, inr, refl, sym, ap, subst, ◌∙◌, ⊎_elim}
+use Rattle.std.proofs.Common.{◌≡◌, ◌≢◌, ◌⊎◌, ◌<◌, ◌≤◌, ℕ, List, [], ◌∷◌, Option, None, Some, inl, inr, refl, sym, ap, subst, ◌∙◌, ⊎_elim, arith}
 use Rattle.std.specs.Prelude.{bytes_eq, IsSome, IsSomeAnd}
 use Rattle.std.specs.FinMap as map
-use Rattle.std.proofs.lemmas.Bool.{cases_eq, cases_Bool}
+use Rattle.std.proofs.lemmas.Bool.{cases_eq, cases_lt, cases_Bool}
 use Rattle.std.proofs.lemmas.Slice.Eq.{bytes_eq-Decides}
 use Rattle.lfs_types.specs.Caller.{Caller}
 use Rattle.lfs_types.specs.Tree.{Row, World}
@@ -16,7 +16,7 @@ use Rattle.lfs_model.specs.declared.journal.Entry.{Entry}
 use Rattle.lfs_model.specs.declared.journal.Event.{Event}
 use Rattle.lfs_model.specs.declared.journal.Event.TheVariants.{User, Cleaner}
 use Rattle.lfs_model.specs.World.{IsTree}
-use Rattle.lfs_laws.specs.LawBetween.{BytesBetween, FlagsBetween, GoneBetween, IsChangedBy, IsDoneBy, IsTurn, LevelBetween, MadeBetween, ModeBetween, OwnerBetween, PlaceBetween}
+use Rattle.lfs_laws.specs.LawBetween.{BytesBetween, FlagsBetween, GoneBetween, IsChangedBy, IsDoneBy, IsTurn, LevelBetween, MadeBetween, ModeBetween, OwnerBetween, PlaceBetween, SetIdBetween}
 use Rattle.lfs_laws.specs.LawFlagged.{MayReflag}
 use Rattle.lfs_laws.specs.LawGone.{MayRemove}
 use Rattle.lfs_laws.specs.LawLevel.{MayRelevel}
@@ -158,6 +158,53 @@ mode_between numbers segments entries w n r s tree legal there after differs =
     (λ x. refl) (λ x y z a b. b ∙ a) (λ x y. cases_eq y.file.mode x.file.mode)
     (λ v caller request answer below is x y at next apart. remoded_law numbers v caller request answer below is n x y at next apart)
     entries w r s tree legal there after differs
+
+abbrev NoNewSetId : Row → Row → Type 0
+NoNewSetId r s = 0o2000 ≤ s.file.mode → 0o2000 ≤ r.file.mode
+
+cases_set_id : (r s : Row) → NoNewSetId r s ⊎ (NoNewSetId r s → ⊥)
+cases_set_id r s = ⊎_elim
+    (λ low. ⊎_elim (λ less. inl (λ high. absurd (omega (arith, less, high)))) (λ high. inr (λ (h : NoNewSetId r s). let up = h high in omega (arith, low, up))) (cases_lt s.file.mode 0o2000))
+    (λ high. inl (λ h. high))
+    (cases_lt r.file.mode 0o2000)
+
+set_id_law : (numbers : ℕ) (v : World) (caller : Caller) (request : Request) (answer : Answer) (n : ℕ) → IsTree v.rows → IsAnswer numbers v caller request answer → (x y : Row)
+    → map.get v.rows n ≡ Some x → map.get (after_answer numbers v caller request answer).rows n ≡ Some y → (NoNewSetId x y → ⊥) → IsChmod v caller request n x y
+set_id_law numbers v caller request answer n below is x y at next apart = ⊎_elim
+    (λ same. absurd (apart (λ high. omega (arith, same, high))))
+    (λ differs. ⊎_elim
+    (λ chmod. chmod)
+    (λ loses. let cleared = loses.cleared in absurd (apart (λ high. absurd (omega (arith, cleared, high)))))
+    (remoded_law numbers v caller request answer below is n x y at next differs))
+    (cases_eq y.file.mode x.file.mode)
+
+pub set_id_between : SetIdBetween
+set_id_between numbers segments entries w n r s tree legal there after differs =
+    turned (between numbers segments n NoNewSetId (λ v caller request row new. IsChmod v caller request n row new)
+    (λ x h. h) (λ x y z a b h. a (b h)) cases_set_id
+    (λ v caller request answer below is x y at next apart. set_id_law numbers v caller request answer n below is x y at next apart)
+    entries w r s tree legal there after (λ (h : NoNewSetId r s). let up = h differs.1 in let low = differs.0 in omega (arith, up, low)))
+  where
+    high_of : (m k : ℕ) → ((0o2000 ≤ k → 0o2000 ≤ m) → ⊥) → (m < 0o2000) × (0o2000 ≤ k)
+    high_of m k h = ⊎_elim
+        (λ low. ⊎_elim (λ less. absurd (h (λ up. absurd (omega (arith, less, up))))) (λ up. (low, up)) (cases_lt k 0o2000))
+        (λ high. absurd (h (λ up. high)))
+        (cases_lt m 0o2000)
+
+    turned : IsChangedBy numbers entries w n (λ x y. NoNewSetId x y → ⊥) (λ v caller request row new. IsChmod v caller request n row new)
+        → IsChangedBy numbers entries w n (λ x y. (x.file.mode < 0o2000) × (0o2000 ≤ y.file.mode)) (λ v caller request row new. IsChmod v caller request n row new)
+    turned c = record {
+      before = c.before;
+      entry = c.entry;
+      later = c.later;
+      split = c.split;
+      request = c.request;
+      shown = c.shown;
+      event = c.event;
+      row = c.row;
+      there = c.there;
+      turn = ⊎_elim (λ gone. inl gone) (λ t. inr (t.0, t.1, high_of c.row.file.mode t.0.file.mode t.2, t.3)) c.turn;
+    }
 
 abbrev OwnedAlike : Row → Row → Type 0
 OwnedAlike r s = SameOwner r.file s.file

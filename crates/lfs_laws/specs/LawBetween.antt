@@ -1,5 +1,5 @@
 -- A row whose bytes or whose place differ between two points of a run was changed so in between by whoever might, then.
-use Rattle.std.specs.Prelude.{◌≡◌, ◌≢◌, ◌⊎◌, ℕ, List, ◌∷◌, ◌++◌, None, Some, IsSomeAnd}
+use Rattle.std.specs.Prelude.{◌≡◌, ◌≢◌, ◌⊎◌, ◌<◌, ◌≤◌, ℕ, List, ◌∷◌, ◌++◌, None, Some, IsSomeAnd}
 use Rattle.std.specs.FinMap as map
 use Rattle.lfs_types.specs.Caller.{Caller}
 use Rattle.lfs_types.specs.Tree.{Row, World}
@@ -83,6 +83,12 @@ abbrev pub FlagsBetween : Type 0
 FlagsBetween = Between
     (λ old new. new.file.flags ≢ old.file.flags)
     (λ n w caller request row new. MayReflag w caller request n row new.file.flags)
+
+-- a set-id bit where none was: of a mode, which is below 010000, 04000 or 02000 is on where it is 02000 or more
+abbrev pub SetIdBetween : Type 0
+SetIdBetween = Between
+    (λ old new. (old.file.mode < 0o2000) × (0o2000 ≤ new.file.mode))
+    (λ n w caller request row new. IsChmod w caller request n row new)
 
 -- One of the entries is a user's call that was served, and of which this holds in the worlds around it.
 pub record IsDoneBy (numbers : ℕ) (entries : List Entry) (w : World) (P : World → Caller → Request → World → Type 0) : Type 0 where

@@ -7,7 +7,7 @@
 //! a SetLength doesn't bring.
 
 ghost use Rattle.lfs_laws.specs.LawAsked.{NamesWhatItAsks};
-ghost use Rattle.lfs_laws.specs.LawBetween.{BytesBetween, FlagsBetween, GoneBetween, LevelBetween, MadeBetween, ModeBetween, OwnerBetween, PlaceBetween};
+ghost use Rattle.lfs_laws.specs.LawBetween.{BytesBetween, FlagsBetween, GoneBetween, LevelBetween, MadeBetween, ModeBetween, OwnerBetween, PlaceBetween, SetIdBetween};
 ghost use Rattle.lfs_laws.specs.LawBrought.{DecidesAlike};
 ghost use Rattle.lfs_laws.specs.LawClasses.{ListByBits, MakeByBits, ReadByBits, SearchByBits, WriteByBits};
 ghost use Rattle.lfs_laws.specs.LawDenied.{TellsLittle};
@@ -206,11 +206,13 @@ pub fn each_entry()
 
 /// Where a row has other bytes, another place, another mode, owner or group, or other flags at a later point of a run from any tree,
 /// a call in between was served that changed them, and whose caller might do so then; or one that removed the row, of a caller
-/// who might. So it is with another level, with a row that wasn't there, and with one that is gone.
+/// who might. So it is with another level, with a row that wasn't there, and with one that is gone; and a row that has a set-id
+/// bit, where it had none, got it by a Chmod of one who might.
 pub fn changed_between()
     ensures bytes { BytesBetween }
     ensures place { PlaceBetween }
     ensures mode { ModeBetween }
+    ensures set_id { SetIdBetween }
     ensures owner { OwnerBetween }
     ensures flags { FlagsBetween }
     ensures level { LevelBetween }

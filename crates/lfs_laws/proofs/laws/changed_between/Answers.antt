@@ -1,4 +1,4 @@
-use Rattle.lfs_laws.proofs.BetweenLemmas.{bytes_between, flags_between, gone_between, level_between, made_between, mode_between, owner_between, place_between}
+use Rattle.lfs_laws.proofs.BetweenLemmas.{bytes_between, flags_between, gone_between, level_between, made_between, mode_between, owner_between, place_between, set_id_between}
 use Rattle.lfs_laws.proofs.laws.changed_between.Goals as goal
 
 pub returns : goal.returns
@@ -6,6 +6,7 @@ returns c = record {
   bytes = bytes_between;
   place = place_between;
   mode = mode_between;
+  set_id = set_id_between;
   owner = owner_between;
   flags = flags_between;
   level = level_between;
