@@ -1,5 +1,5 @@
 -- A row that its directory keeps.
-use Rattle.std.proofs.Common.{◌≡◌, ◌≢◌, ◌⊎◌, ℕ, ◌==◌, ◌||◌, Bool, true, false, List, [], ◌∷◌, Option, None, Some, inl, inr, refl, sym, ap, subst, ◌∙◌, ⊎_elim, ne_eqb}
+use Rattle.std.proofs.Common.{◌≡◌, ◌≢◌, ◌⊎◌, ℕ, ◌==◌, true, false, List, [], ◌∷◌, Some, inl, refl, sym, ap, subst, ◌∙◌, ⊎_elim, ne_eqb}
 use Rattle.std.proofs.lemmas.Bool.{or_from}
 use Rattle.std.specs.Prelude.{IsSomeAnd}
 use Rattle.std.specs.FinMap as map
@@ -7,7 +7,7 @@ use Rattle.lfs_types.specs.Caller.{Caller}
 use Rattle.lfs_types.specs.Tree.{File, Row, World, root, attrs_of}
 use Rattle.lfs_types.specs.declared.answer.Answer.TheVariants.{Served, Denied, Refused}
 use Rattle.lfs_types.specs.declared.attrs.Bit.TheVariants as bits
-use Rattle.lfs_types.specs.declared.attrs.Kind.TheVariants.{File as Regular, Directory}
+use Rattle.lfs_types.specs.declared.attrs.Kind.TheVariants.{Directory}
 use Rattle.lfs_types.specs.declared.request.Request.{Request}
 use Rattle.lfs_rules.specs.Bits.{has_bit}
 use Rattle.lfs_rules.specs.Grants.{grants_of}
@@ -15,9 +15,9 @@ use Rattle.lfs_rules.specs.Owners.{is_owner_or_superuser}
 use Rattle.lfs_model.specs.declared.journal.Entry.{Entry}
 use Rattle.lfs_model.specs.declared.journal.Event.{Event}
 use Rattle.lfs_model.specs.declared.journal.Event.TheVariants.{User, Cleaner}
-use Rattle.lfs_model.specs.World.{file_at, IsChild, IsTree}
-use Rattle.lfs_model.specs.Rules.{attrs_at, row_grants}
-use Rattle.lfs_model.specs.Steps.{IsEvent, IsLegal, after_event, world_after}
+use Rattle.lfs_model.specs.World.{file_at, IsTree}
+use Rattle.lfs_model.specs.Rules.{row_grants}
+use Rattle.lfs_model.specs.Steps.{IsEvent, after_event, world_after}
 use Rattle.lfs_laws.specs.LawKept.{AreStrangers, Guards, IsStillHere, IsStranger, RowIsKept}
 use Rattle.lfs_laws.specs.Rights.{MayTakeAway, Owns, is_fixed}
 use Rattle.lfs_laws.proofs.Fates.{Fate, fate}
@@ -132,6 +132,7 @@ row_is_kept numbers segments (e ∷ es) w n row dir tree legal below there above
     let rest = row_is_kept numbers segments es after n r.value d.value (event_tree numbers segments w e.cred e.event tree legal.0) legal.1 below r.is
     (ap (map.get after.rows) r.holds.hangs.parents ∙ d.is) (all_strange dir row d.value r.value d.holds r.holds.uid es strange.1) in
     let s = some_and _ (IsStillHere r.value) rest.0 in
-    let t = some_and _ (SameFile d.value.file) rest.1 in
-    (is_some_and (IsStillHere row) s.is (here_on row r.value s.value r.holds s.holds),
-    is_some_and (SameFile dir.file) (ap (map.get (world_after numbers es after).rows) (sym r.holds.hangs.parents) ∙ t.is) (t.holds ∙ d.holds))
+    let t = some_and _ (SameFile d.value.file) rest.1 in (
+      is_some_and (IsStillHere row) s.is (here_on row r.value s.value r.holds s.holds),
+      is_some_and (SameFile dir.file) (ap (map.get (world_after numbers es after).rows) (sym r.holds.hangs.parents) ∙ t.is) (t.holds ∙ d.holds),
+    )

@@ -1,6 +1,5 @@
 -- Where a path leads, name by name.
 use Rattle.std.proofs.Common.{◌≡◌, ℕ, false, List, [], ◌∷◌, Option, None, Some, refl, sym, ap, ◌∙◌}
-use Rattle.std.specs.FinMap as map
 use Rattle.lfs_types.specs.Caller.{Caller}
 use Rattle.lfs_types.specs.Tree.{attrs_of, root}
 use Rattle.lfs_types.specs.declared.answer.Served.TheVariants as served

@@ -1,7 +1,7 @@
 -- What becomes of a path by one call.
-use Rattle.std.proofs.Common.{◌≡◌, ◌⊎◌, ℕ, ◌||◌, Bool, true, false, List, [], ◌∷◌, ◌++◌, Option, None, Some, refl, sym, ap, subst, ◌∙◌, ⊎_elim, inl, inr}
+use Rattle.std.proofs.Common.{◌≡◌, ◌⊎◌, ℕ, true, List, [], ◌∷◌, Option, None, Some, refl, sym, ap, subst, ◌∙◌, ⊎_elim, inl, inr}
 use Rattle.std.proofs.lemmas.Bool.{or_right}
-use Rattle.std.specs.Prelude.{IsSomeAnd, unwrap_or}
+use Rattle.std.specs.Prelude.{IsSomeAnd}
 use Rattle.std.specs.FinMap as map
 use Rattle.lfs_types.specs.Caller.{Caller}
 use Rattle.lfs_types.specs.Tree.{Row, World, root}
@@ -11,20 +11,19 @@ use Rattle.lfs_types.specs.declared.attrs.Kind.{Kind}
 use Rattle.lfs_types.specs.declared.attrs.Kind.TheVariants.{File as Regular, Directory}
 use Rattle.lfs_types.specs.declared.request.Request.{Request}
 use Rattle.lfs_types.specs.declared.request.Request.TheVariants.{Unlink, Rmdir, Rename}
-use Rattle.lfs_model.specs.declared.journal.Entry.{Entry}
 use Rattle.lfs_model.specs.declared.journal.Event.{Event}
 use Rattle.lfs_model.specs.declared.journal.Event.TheVariants.{User, Cleaner}
-use Rattle.lfs_model.specs.World.{Rows, child, IsChild, IsTree}
-use Rattle.lfs_model.specs.Rules.{decide, next, reached, removing, visited}
+use Rattle.lfs_model.specs.World.{child, IsChild, IsTree}
+use Rattle.lfs_model.specs.Rules.{decide, next, reached, removing}
 use Rattle.lfs_model.specs.Effects.{answer_of, effect}
-use Rattle.lfs_model.specs.Steps.{IsAnswer, IsEvent, IsLegal, LacksInodes, after_event, world_after}
+use Rattle.lfs_model.specs.Steps.{IsAnswer, IsEvent, LacksInodes, after_event}
 use Rattle.lfs_laws.specs.LawDenied.{led}
 use Rattle.lfs_laws.specs.LawGone as gone
 use Rattle.lfs_laws.specs.LawLeadsOn.{CutsOff, CutsOffNow, LeadsAfter, PathLeadsOn, PathLeadsThrough, Replaces}
 use Rattle.lfs_laws.specs.LawMoved.{HangsStill, MayMove, Renames}
 use Rattle.lfs_laws.specs.LawNew.{Makes}
 use Rattle.lfs_laws.specs.LawOneThing.{DiffersInPlace}
-use Rattle.lfs_laws.specs.LawsRuns.{IsServed, NoneServed}
+use Rattle.lfs_laws.specs.LawsRuns.{IsServed}
 use Rattle.lfs_model.proofs.Allowed.{may_remove}
 use Rattle.lfs_model.proofs.Children.{child-is}
 use Rattle.lfs_model.proofs.Deciding.{passes-append}
@@ -34,7 +33,7 @@ use Rattle.lfs_laws.proofs.CallLaws.{new_law}
 use Rattle.lfs_laws.proofs.Fates.{Fate, fate}
 use Rattle.lfs_laws.proofs.Fates.Fate.{Stays, Goes, Moves, Changes, Remodes, Gives, Reflags}
 use Rattle.lfs_laws.proofs.LeadLemmas.{child_of_hangs}
-use Rattle.lfs_laws.proofs.LegalTrees.{entries_tree, event_tree}
+use Rattle.lfs_laws.proofs.LegalTrees.{event_tree}
 use Rattle.lfs_laws.proofs.PathLemmas.{led_none, passes, passes_first, step}
 use Rattle.lfs_types.proofs.Somewhere.{is_some_and, none_there, some_and}
 
@@ -182,11 +181,17 @@ module _ (numbers : ℕ) (w : World) (caller : Caller) (tree : IsTree w.rows) (a
       let s = some_and _ _ over in
       let hangs : IsChild after.rows at name (reached w.rows root from) =
       record { row = s.value; there = s.is; below = moved.below; hangs = s.holds.0 ∙ c.hangs; named = s.holds.1 ∙ c.named } in
-      inr (inr (reached w.rows root from,
-      child_of_hangs after.rows (tree_after numbers w caller tree (Rename from to) allowed room) at name (reached w.rows root from) hangs,
-      (onto, refl, is_some_and (λ r. IsSomeAnd (map.get after.rows (reached w.rows root from)) (DiffersInPlace r)) moved.there
-      (whole w after caller from to (reached w.rows root from) moved.row s.value s.is
-      (fate numbers w caller tree (reached w.rows root from) moved.row moved.there (Rename from to) (answer numbers w caller tree (Rename from to) allowed room) (allowed, room, refl))))))
+      inr (inr (
+        reached w.rows root from,
+        child_of_hangs after.rows (tree_after numbers w caller tree (Rename from to) allowed room) at name (reached w.rows root from) hangs,
+        (
+          onto,
+          refl,
+          is_some_and (λ r. IsSomeAnd (map.get after.rows (reached w.rows root from)) (DiffersInPlace r)) moved.there
+              (whole w after caller from to (reached w.rows root from) moved.row s.value s.is
+              (fate numbers w caller tree (reached w.rows root from) moved.row moved.there (Rename from to) (answer numbers w caller tree (Rename from to) allowed room) (allowed, room, refl))),
+        ),
+      ))
 
   -- a row that was removed: the name leads nowhere, or to what replaced it
   gone_case : (request : Request) (allowed : decide w caller request ≡ None) (room : LacksInodes numbers w request → ⊥) (kind : Kind) → gone.Removes w k kind request
@@ -213,8 +218,10 @@ module _ (numbers : ℕ) (w : World) (caller : Caller) (tree : IsTree w.rows) (a
       let row : d.row ≡ record c.row { parent = parent; name = title } = cc (d.there, is) in
       apart (here c.row _ (ap (λ (x : Row). x.parent) (sym row) ∙ d.hangs ∙ sym c.hangs) (ap (λ (x : Row). x.name) (sym row) ∙ d.named ∙ sym c.named)) in
       let none = empty numbers w caller tree (Rename from to) allowed room at name k c (λ s h. h) (λ m p t h. sym h.0 ∙ asked.0) away in
-      inr (inl (ap (λ o. led after.rows o names) none ∙ led_none after.rows names,
-      or_right _ _ (subst (λ m. passes w.rows (next w.rows at name) names m ≡ true) (sym (asked.0 ∙ next_is)) (passes_first w.rows (next w.rows at name) names))))
+      inr (inl (
+        ap (λ o. led after.rows o names) none ∙ led_none after.rows names,
+        or_right _ _ (subst (λ m. passes w.rows (next w.rows at name) names m ≡ true) (sym (asked.0 ∙ next_is)) (passes_first w.rows (next w.rows at name) names)),
+      ))
   went_case request allowed room names n next_is parent title asked is apart = absurd asked
 
 module _ (numbers : ℕ) (w : World) (caller : Caller) (tree : IsTree w.rows) (request : Request) (allowed : decide w caller request ≡ None) (room : LacksInodes numbers w request → ⊥) where

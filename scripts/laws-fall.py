@@ -1,0 +1,280 @@
+#!/usr/bin/env python3
+"""Shows that the laws of words, denials, refusals and paths fall: by one change of a definition at a time.
+
+laws-fall.py [TRIALS [SEED]] takes the definitions of `laws_model.py`, the laws as tests of them that share none of their
+words, and a list of changes, each of one definition. For each change it tries each law in TRIALS random trees and calls (by
+default 2,000, some minutes), and prints which are false. Status 1 where a law is false of the definitions as they stand, or where
+none falls with a change. It is a second reading of definitions and laws, not a proof: that is the check of `lfs_laws`.
+"""
+import random
+import sys
+
+from laws_model import END, LIMIT, Caller, Model, Row, World, bits, path_of, some_call, some_caller, some_path, some_world
+
+
+def on(n, value): return n & value == value
+def served(m, w, c, call): return m.decide(w, c, call) is None
+
+
+def seen(m, w, c, rng):
+    """A path, a number and attributes that a Stat shows, if it is allowed."""
+    path = path_of(w, rng.choice(list(w.rows)))
+    return (path, *m.answer(w, ("Stat", path))) if served(m, w, c, ("Stat", path)) else None
+
+
+# ---- the laws
+
+def granted(c, a, owner, group, others):
+    return c.uid == 0 or on(a.mode, owner if c.uid == a.uid else group if a.gid in c.groups else others)
+
+
+def classes_by_bits(m, w, c, rng):
+    if not (s := seen(m, w, c, rng)):
+        return True
+    path, n, a = s
+    read, write, search = (granted(c, a, 0o100 * b, 0o10 * b, b) for b in (4, 2, 1))
+    if a.kind == "f":
+        return served(m, w, c, ("Read", path, 0, 9)) == read and (a.flags != 0 or served(m, w, c, ("SetLength", path, 0)) == write)
+    names = {r.name for k, r in w.rows.items() if k != 2 and r.parent == n}
+    return (served(m, w, c, ("List", path)) == read and all(served(m, w, c, ("Stat", path + (x,))) == search for x in names)
+            and (a.flags != 0 or served(m, w, c, ("Mkdir", path + ("free",), 0o755)) == (search and write)))
+
+
+def owners_by_number(m, w, c, rng):
+    if not (s := seen(m, w, c, rng)) or s[2].flags:
+        return True
+    path, n, a = s
+    uid, gid = rng.randrange(4), rng.randrange(4)
+    may = c.uid == 0 or c.uid == a.uid == uid and (gid == a.gid or gid in c.groups)
+    return served(m, w, c, ("Chmod", path, 0o644)) == (c.uid in (0, a.uid)) and served(m, w, c, ("Chown", path, uid, gid)) == may
+
+
+def locks_by_bits(m, w, c, rng):
+    if c.uid or not (s := seen(m, w, c, rng)):
+        return True
+    path, n, a = s
+    free = not a.flags & 0x20002
+    loose = free and not a.flags & 0x40004
+    if a.kind == "d":
+        return served(m, w, c, ("Mkdir", path + ("free",), 0)) == free and served(m, w, c, ("Chmod", path, 0)) == loose
+    return (served(m, w, c, ("Write", path, END, b"x")) == free and served(m, w, c, ("Write", path, 0, b"x")) == loose
+            and served(m, w, c, ("Chmod", path, 0)) == loose)
+
+
+def levels_by_number(m, w, c, rng):
+    new = rng.randrange(-1, 3)
+    if served(m, w, c, ("SetLevel", new)) != (c.uid == 0 and (c.init or w.level <= new)):
+        return False
+    if not (s := seen(m, w, c, rng)):
+        return True
+    path, n, a = s
+    flags = bits(rng)
+    may = (w.level < 1 or not a.flags & ~flags & 0x60000) if c.uid == 0 else c.uid == a.uid and a.flags >> 16 == flags >> 16 and not a.flags & 0x60000
+    return served(m, w, c, ("Chflags", path, flags)) == may
+
+
+def bytes_by_place(m, w, c, rng):
+    if not (s := seen(m, w, c, rng)) or s[2].kind == "d":
+        return True
+    path, n, a = s
+    old, data, place = w.rows[n].bytes, b"xyz", rng.choice([END, rng.randrange(12)])
+    off, count = rng.randrange(9), rng.choice([rng.randrange(9), 5000])
+    if m.answer(w, ("Read", path, off, count)) != old[off:off + min(count, 4096)]:
+        return False
+    if not served(m, w, c, ("Write", path, place, data)):
+        return True
+    start = a.bytes if place is END else place
+    return m.effect(w, c, ("Write", path, place, data)).rows[n].bytes[start:start + 3] == data
+
+
+def limits_by_number(m, w, c, rng):
+    if not (s := seen(m, w, c, rng)):
+        return True
+    path, n, a = s
+    if a.kind == "d":
+        call = ("Mkdir", path + ("free",), 0)
+        new = served(m, w, c, call) and set(m.effect(w, c, call).rows) - set(w.rows)
+        return not new or new == {min(set(range(4, 99)) - set(w.rows))}
+    if c.uid or a.flags:
+        return True
+    size, data, start = LIMIT + rng.randrange(-2, 3), bytes(rng.randrange(6)), LIMIT - rng.randrange(6)
+    return (served(m, w, c, ("SetLength", path, size)) == (size <= LIMIT) and served(m, w, c, ("Write", path, start, data)) == (start + len(data) <= LIMIT)
+            and served(m, w, c, ("Write", path, END, data)) == (a.bytes + len(data) <= LIMIT))
+
+
+def opens_by_number(m, w, c, rng):
+    return m.opening() == World(0, {2: Row(2, "", "d", 0, 0, 0o755, 0, b"")})
+
+
+def set_ids_by_bits(m, w, c, rng):
+    call = some_call(rng, w)
+    if call[0] == "Chmod" or call[0] in ("Write", "SetLength") and len(w.rows.get(m.reached(w.rows, call[1]), w.rows[2]).bytes) > 99 or not served(m, w, c, call):
+        return True
+    after = m.effect(w, c, call).rows
+    return all(after[n].mode in (r.mode, r.mode & 0o1777 if c.uid else r.mode) for n, r in w.rows.items() if n in after)
+
+
+def refused_truly(m, w, c, rng):
+    numbers, call = rng.choice([max(w.rows) + 1, 16]), some_call(rng, w)
+    if rng.random() < .002:
+        w = World(0, {2: w.rows[2]} | {n: Row(2, str(n), "f", 1, 1, 0o644, 0, b"") for n in range(4, 4 + 16_523 + rng.randrange(2))})
+        numbers, call = 40_000, rng.choice([("Mkdir", ("new",), 0), ("Rename", ("5",), ("new",)), ("Rename", ("5",), ("6",))])
+    for resource in m.may_lack(numbers, w, c, call):
+        to = call[2] if call[0] == "Rename" else call[1]
+        at = m.reached(w.rows, to[:-1]) if call[0] in ("Create", "Mkdir", "Rename") else 0
+        names = {r.name for n, r in w.rows.items() if n != 2 and r.parent == at}
+        cause = {"NoInodes": call[0] in ("Create", "Mkdir") and all(n in w.rows for n in range(4, numbers)),
+                 "DirectoryFull": at and to[-1] not in names and len(names) >= 16_524,
+                 "NoSpace": call[0] not in ("Stat", "Read", "List", "SetLevel")}.get(resource, False)
+        if m.decide(w, c, call) or not cause:
+            return False
+    return True
+
+
+TAKEN = {"K3", "Y1", "F1", "F2"}
+AT_END = {"Stat": set(), "Read": {"K1", "M1"}, "List": {"N1", "M1"}, "Write": {"K1", "F1", "M2", "F2", "Z1"}, "Create": {"N3"}, "Mkdir": {"N3"},
+          "SetLength": {"K1", "F1", "M2", "F2", "Z1"}, "Unlink": TAKEN | {"K1"}, "Rmdir": TAKEN | {"N1", "K2"}, "Rename": TAKEN | {"M2"},
+          "Chmod": {"F1", "F2", "O1"}, "Chown": {"F1", "F2", "O2"}, "Chflags": {"O1", "L1", "L2"}}
+
+
+def names_what_it_asks(m, w, c, rng):
+    call = some_call(rng, w)
+    if not (denial := m.decide(w, c, call)):
+        return True
+    (rule, index, at), name = denial, call[0]
+    if name == "SetLevel":
+        return rule in ("U1", "L3") and index == at == 0
+    if index == 1 and name != "Rename":
+        return False
+    k = len(call[1 + index])
+    makes = name in ("Create", "Mkdir") or index == 1
+    end = TAKEN | {"K1", "N1", "K2"} if index == 1 else AT_END[name]
+    parent = {"F1", "M2"} | ({"F2"} if name not in ("Create", "Mkdir") else set()) if makes or name in ("Unlink", "Rmdir", "Rename") else set()
+    if name == "Write" and call[2] is END:
+        end = end - {"F2"}
+    return (rule in ("N1", "S1") and at < k or rule == "N2" and 0 < at < k + (not makes) or rule == "K4" and index == 1 and at < k
+            or rule in parent and at + 1 == k or rule in end and at == k)
+
+
+def decides_nothing(m, w, c, rng):
+    call = some_call(rng, w)
+    is_level, flags = call[0] == "SetLevel", call[0] == "Chflags"
+    groups = c.groups * 2
+    rng.shuffle(groups)
+    other = Caller(c.uid, groups, c.init if is_level else not c.init)
+    marks = {n: r._replace(flags=r.flags ^ rng.choice([0, 0x1, 0x1 if flags else 0x10001])) for n, r in w.rows.items()}
+    level = {-1: 0, 0: -1, 1: 2, 2: 1}[w.level]
+    told = m.decide(w, c, call)
+    return told == m.decide(w, other, call) == m.decide(World(w.level, marks), c, call) and (is_level or told == m.decide(World(level, w.rows), c, call))
+
+
+def leads(rows, path):
+    """The row that names lead to, and those on the way, by parent and name alone."""
+    way = [2]
+    for name in path:
+        way += [n for n, r in rows.items() if n != 2 and r.parent == way[-1] and r.name == name][:1] or [0]
+    return way[-1], way
+
+
+def path_leads_on(m, w, c, rng):
+    call, path = some_call(rng, w), some_path(rng, w)
+    (n, way), big = leads(w.rows, path), any(len(r.bytes) > 99 for r in w.rows.values())
+    if not n or big or call[0] == "SetLength" or not served(m, w, c, call):
+        return True
+    after = m.effect(w, c, call).rows
+    now = leads(after, path)[0]
+    if now == n:
+        return True
+    target = leads(w.rows, call[1])[0]
+    if not now:
+        return call[0] in ("Unlink", "Rmdir") and target == n or call[0] == "Rename" and target in way
+    return (call[0] == "Rename" and leads(w.rows, call[2])[0] == n and target == now
+            and after[now] == w.rows[now]._replace(parent=after[now].parent, name=after[now].name))
+
+
+def paths_by_names(m, w, c, rng):
+    path = path_of(w, rng.choice(list(w.rows)))
+    n = leads(w.rows, path)[0]
+    return m.answer(w, ("Stat", path)) == (n, w.rows[n]._replace(bytes=len(w.rows[n].bytes)))
+
+
+LAWS = [classes_by_bits, owners_by_number, locks_by_bits, levels_by_number, bytes_by_place, limits_by_number, opens_by_number, set_ids_by_bits,
+        paths_by_names, refused_truly, names_what_it_asks, decides_nothing, path_leads_on]
+
+# ---- the changes
+
+M = Model
+TOLD = lambda name, rule, other: lambda self, call, d: (other, *d[1:]) if call[0] == name and d[0] == rule else d
+CHANGES = {
+    "grants_of grants all": dict(grants=lambda self, c, r, bit: True),
+    "the owner is judged by the others' bits too": dict(grants=lambda self, c, r, bit: M.grants(self, c, r, bit) or self.has_bit(r.mode, self.masks(bit)[2])),
+    "search by the read bit": dict(masks=lambda self, bit: M.masks(self, "r" if bit == "x" else bit)),
+    "is_in_group all": dict(in_group=lambda self, c, gid: True),
+    "is_in_group none": dict(in_group=lambda self, c, gid: False),
+    "the first group alone counts": dict(in_group=lambda self, c, gid: gid == c.groups[0]),
+    "has_bit of the next bit": dict(has_bit=lambda self, n, value: n // value // 2 % 2 == 1),
+    "UF_IMMUTABLE locks nothing": dict(immutable=lambda self, r: self.has_bit(r.flags, 0x20000)),
+    "SF_APPEND locks nothing": dict(append_only=lambda self, r: self.has_bit(r.flags, 0x4)),
+    "UF_NODUMP locks": dict(immutable=lambda self, r: M.immutable(self, r) or self.has_bit(r.flags, 0x1)),
+    "SF_ARCHIVED is no system flag": dict(upper=lambda self, flags: flags // 0x20000),
+    "is_above_zero never": dict(above_zero=lambda self, level: False),
+    "level 2 isn't above 0": dict(above_zero=lambda self, level: level == 1),
+    "each superuser lowers the level": dict(may_lower=lambda self, c: True),
+    "init owns all": dict(owns=lambda self, c, r: c.uid == r.uid or c.init),
+    "start_in at most the size": dict(start_in=lambda self, place, size: size if place is END else min(place, size)),
+    "the end is at 0": dict(start_in=lambda self, place, size: place or 0),
+    "a Read shows no byte": dict(slice_of=lambda self, data, off, count: b""),
+    "a Read begins a byte late": dict(slice_of=lambda self, data, off, count: data[off + 1:off + 1 + count]),
+    "a Read of 512 bytes at most": dict(read_max=4),
+    "a file of one byte more": dict(file_max=LIMIT + 1),
+    "the first number is 5": dict(first=5),
+    "the root of mode 0777": dict(opening=lambda self: World(0, {2: Row(2, "", "d", 0, 0, 0o777, 0, b"")})),
+    "a volume opens at level 1": dict(opening=lambda self: World(1, M.opening(self).rows)),
+    "set-id bits take the sticky bit with them": dict(clear_set_ids=lambda self, mode: mode % 0o1000),
+    "a name leads to another row": dict(child=lambda self, rows, at, name: M.child(self, rows, at, "a" if name == "b" else name)),
+    "NoInodes while a number is free": dict(all_used=lambda self, numbers, rows: len(rows) > 3),
+    "NoInodes of a Rename": dict(makes=lambda self, call: call[0] in ("Create", "Mkdir", "Rename")),
+    "DirectoryFull at 16,523 names": dict(full=16_523),
+    "NoSpace of a Read": dict(writes=lambda self, call: True),
+    "NoMemory has an entry": dict(may_lack=lambda self, numbers, w, c, call: ["NoMemory"]),
+    "what is denied is refused": dict(may_lack=lambda self, numbers, w, c, call: ["NoSpace"] if self.writes(call) else []),
+    "a Read that isn't granted is told N3": dict(denial=TOLD("Read", "M1", "N3")),
+    "a Write past the limit is told N1": dict(denial=TOLD("Write", "Z1", "N1")),
+    "an Unlink in a sticky directory is told O1": dict(denial=TOLD("Unlink", "Y1", "O1")),
+    "K4 is told of the first path": dict(denial=lambda self, call, d: ("K4", 0, d[2]) if d[0] == "K4" else d),
+    "a replaced row and the moved one are both gone": dict(renamed=lambda self, rows, n, at, name: {k: r for k, r in M.renamed(self, rows, n, at, name).items() if k != n}),
+    "a moved file loses its bytes": dict(renamed=lambda self, rows, n, at, name: M.renamed(self, rows | {n: rows[n]._replace(bytes=b"")}, n, at, name)),
+}
+
+
+def fallen(model, trials, seed):
+    """The laws that are false of a model, each as soon as a trial shows it."""
+    false = []
+    for law in LAWS:
+        rng = random.Random(f"{seed} {law.__name__}")
+        for _ in range(trials):
+            w = some_world(rng)
+            try:
+                holds = law(model, w, some_caller(rng), rng)
+            except (AttributeError, KeyError, IndexError, RecursionError):
+                holds = type(model) is not Model
+            if not holds:
+                false.append(law.__name__)
+                break
+    return false
+
+
+def main():
+    trials, seed = (int(sys.argv[1]) if len(sys.argv) > 1 else 2_000), (sys.argv[2] if len(sys.argv) > 2 else "1")
+    wrong = fallen(Model(), trials, seed)
+    print("as it stands:", ", ".join(wrong) or "no law is false")
+    bad = bool(wrong)
+    for change, words in CHANGES.items():
+        false = fallen(type("Changed", (Model,), words)(), trials, seed)
+        print(f"{change}: {', '.join(false) or 'NO LAW FALLS'}", flush=True)
+        bad = bad or not false
+    sys.exit(bad)
+
+
+if __name__ == "__main__":
+    main()
