@@ -240,10 +240,11 @@ def bits(rng): return sum(rng.sample(FLAGS, rng.randrange(4)))
 
 
 def some_call(rng, w):
+    q = some_path(rng, w)
     p, place = some_path(rng, w), rng.choice([END, rng.randrange(12), LIMIT - rng.randrange(3)])
     data = bytes(rng.randrange(1, 256) for _ in range(rng.randrange(4)))
     return rng.choice([("Stat", p), ("Read", p, rng.randrange(9), rng.randrange(9)), ("List", p), ("Write", p, place, data),
                        ("SetLength", p, rng.choice([0, 3, LIMIT, LIMIT + 1])), ("Create", p, 0o644), ("Mkdir", p, 0o755),
-                       ("Unlink", p), ("Rmdir", p), ("Rename", p, some_path(rng, w)), ("Rename", p, some_path(rng, w)),
+                       ("Unlink", p), ("Rmdir", p), ("Rename", p, q), ("Rename", p, q), ("Rename", p, p + q[-1:]),
                        ("Chmod", p, rng.randrange(0o10000)), ("Chown", p, rng.randrange(3), rng.randrange(3)),
                        ("Chflags", p, bits(rng)), ("SetLevel", rng.randrange(-1, 3)), ("Sync", None)])

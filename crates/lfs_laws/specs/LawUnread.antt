@@ -1,4 +1,4 @@
--- Whoever may not read a file, or doesn't reach it, learns nothing of its bytes but how many they are.
+-- Whoever may not read a file, or doesn't reach it, learns by a call nothing of its bytes but how many they are.
 use Rattle.std.specs.Prelude.{◌≡◌, ℕ, true, Option, None, Some}
 use Rattle.std.specs.FinMap as map
 use Rattle.lfs_types.specs.Caller.{Caller}

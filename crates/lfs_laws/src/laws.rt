@@ -5,6 +5,9 @@
 //! say that nothing else comes of it: they begin with what changed, and say which call changed it and by what right. So
 //! only `new` says all of the row that a Create or a Mkdir makes, and only `rewritten` the bytes of a file that a Write or
 //! a SetLength doesn't bring.
+//!
+//! These laws share words with the rules: who is granted what, what a flag locks, which level is above 0. From
+//! `classes_by_bits` on the laws say each of these words in bits and numbers, without it.
 
 ghost use Rattle.lfs_laws.specs.LawAsked.{NamesWhatItAsks};
 ghost use Rattle.lfs_laws.specs.LawBetween.{BytesBetween, FlagsBetween, GoneBetween, LevelBetween, MadeBetween, ModeBetween, OwnerBetween, PlaceBetween, SetIdBetween};
@@ -152,7 +155,10 @@ pub fn refused_truly()
     ensures { RefusedTruly }
 {}
 
-/// A denial names a rule that its call asks, at a component of a path where the call asks it.
+/// A denial names a rule that its call asks, of an object of which it asks it. On the way to what a path names these are N1 and S1
+/// of each row before the last and N2 of each name, to a place for a name not N2 of the last, and K4 of a Rename; of the directory
+/// in which a name comes or goes F1 and M2, and F2 where one goes; at the end the call's own: of a Read K1 and M1, of a List N1 and
+/// M1, of a Write and a SetLength K1, F1, M2, F2 and Z1, of what is made N3, of what is taken away K3, Y1, F1, F2 and its kind.
 pub fn names_what_it_asks()
     ensures { NamesWhatItAsks }
 {}
@@ -226,15 +232,15 @@ pub fn users_alone()
     ensures { UsersAlone }
 {}
 
-/// Leaving out the cleaner's calls changes no answer. Two legal lists of entries from one tree whose users' entries alone
-/// make the same calls, by the same sessions and credentials and in the same order, have the same answers to them and lead
-/// to the same tree, whatever the cleaner did in between.
+/// Leaving out the cleaner's calls changes no answer. Two legal lists of entries from one tree whose users' entries alone, but
+/// Syncs and calls refused for a resource, make the same calls, by the same sessions and credentials and in the same order,
+/// have the same answers to them and lead to the same tree, whatever the cleaner did in between.
 pub fn same_answers()
     ensures { SameAnswers }
 {}
 
-/// Whoever isn't granted to read a file learns nothing of its bytes but how many they are: with other bytes in it, each
-/// answer that a call of his may have it may have still, NoInodes, DirectoryFull and NoSpace among them.
+/// By a call whoever isn't granted to read a file learns nothing of its bytes but how many they are: with other bytes in it, each
+/// answer that the call may have it may have still, NoInodes, DirectoryFull and NoSpace among them.
 pub fn nobody_reads()
     ensures { NobodyReads }
 {}
