@@ -1,0 +1,11 @@
+pub mod Ending
+pub mod Entering
+pub mod FileLemmas
+pub mod Listing
+pub mod NameLemmas
+pub mod Numbers
+pub mod Parts
+pub mod Refuting
+pub mod Rooting
+pub mod Stepping
+pub mod Turning
