@@ -1,18 +1,17 @@
 -- A walk that read all that it reached.
-use Rattle.std.proofs.Common.{◌≡◌, ◌≢◌, ℕ, true, false, List, [], Option, None, Some, refl, sym, ap, subst, ◌∙◌}
-use Rattle.std.specs.Prelude.{IsSome, IsSomeAnd, is_some, option_map}
+use Rattle.std.proofs.Common.{◌≡◌, ℕ, true, false, List, [], Option, None, Some, refl, sym, ap, subst, ◌∙◌}
+use Rattle.std.specs.Prelude.{IsSome, is_some, option_map}
 use Rattle.std.specs.FinMap as map
 use Rattle.lfs_types.specs.declared.attrs.Kind.TheVariants.{Directory}
 use Rattle.lfs_types.specs.declared.level.Level.TheVariants.{Insecure}
 use Rattle.lfs_types.specs.Stored.{bytes_of_file}
 use Rattle.lfs_types.specs.StoreStates.{StoreState}
-use Rattle.lfs_types.specs.Tree.{Content, File, Row, World, root}
-use Rattle.lfs_types.proofs.Somewhere.{none_there, not_some, present, some_and, some_from, there_of}
+use Rattle.lfs_types.specs.Tree.{Content, File, Row, root}
+use Rattle.lfs_types.proofs.Somewhere.{none_there, present, some_and, there_of}
 use Rattle.lfs_dirs.specs.Directory.{number_in}
 use Rattle.lfs_model.specs.World.{Rows, child}
 use Rattle.lfs_model.proofs.Children.{child-is}
 use Rattle.lfs_calls.specs.Content.{Shows, all_entries, visible}
-use Rattle.lfs_calls.specs.Names.{Lists}
 use Rattle.lfs_calls.specs.Volumes.{HasWorld}
 use Rattle.lfs_trees.specs.declared.fault.TreeFault.{TreeFault}
 use Rattle.lfs_trees.specs.declared.walk.Walk.{Walk}
@@ -31,7 +30,7 @@ module _ (c : Content) (order : List ℕ) (rows : Rows) (h : IsReached c order o
       let f = some_and (map.get c dir) (λ (x : File). x.kind ≡ Directory) lists.directory in
       let listing = h.complete dir (leads_there dir leads) f.value f.is f.holds in
       let found : child rows dir name ≡ Some n =
-          sym (listing.names name) ∙ ap (λ o. number_in name (all_entries (bytes_of_file o))) (sym f.is) ∙ lists.listed in
+      sym (listing.names name) ∙ ap (λ o. number_in name (all_entries (bytes_of_file o))) (sym f.is) ∙ lists.listed in
       let hangs = child-is rows dir name n found in
       sym (h.reached n) ∙ ap is_some hangs.there
 

@@ -1,24 +1,23 @@
 -- An entry of a directory is read: a row hangs there that is a new one.
-use Rattle.std.proofs.Common.{◌≡◌, ◌≢◌, ◌≤◌, ℕ, Bool, true, false, List, [], ◌∷◌, ◌++◌, Option, None, Some, refl, sym, ap, subst, ◌∙◌, ⊎_elim}
+use Rattle.std.proofs.Common.{◌≡◌, ◌≢◌, ◌≤◌, ℕ, true, false, List, [], ◌∷◌, ◌++◌, None, Some, refl, sym, ap, subst, ◌∙◌, ⊎_elim}
 use Rattle.std.specs.Prelude.{IsSomeAnd, is_some, bytes_eq}
 use Rattle.std.proofs.lemmas.Bool.{cases_eq, cases_Bool, both_ways}
 use Rattle.std.proofs.lemmas.Slice.Eq.{bytes_eq-Decides}
 use Rattle.std.specs.FinMap as map
 use Rattle.lfs_types.specs.declared.attrs.Kind.TheVariants.{Directory}
 use Rattle.lfs_types.specs.declared.limits.TheConstants.{FIRST_INODE}
-use Rattle.lfs_types.specs.Stored.{bytes_of}
 use Rattle.lfs_types.specs.Tree.{Content, File, Row, root}
 use Rattle.lfs_types.proofs.Maps.{each_value, get-insert_same, get-insert_other}
-use Rattle.lfs_types.proofs.Somewhere.{some_and, is_some_and, not_some, present, there_of, There}
+use Rattle.lfs_types.proofs.Somewhere.{some_and, is_some_and, not_some, there_of, There}
 use Rattle.lfs_dirs.specs.Directory.{Entry, number_in}
 use Rattle.lfs_model.specs.World.{Rows, child, IsTree}
 use Rattle.lfs_model.proofs.Changed.{IsTree-changed}
 use Rattle.lfs_model.proofs.Children.{child-new, child-new_other, child-stays}
 use Rattle.lfs_model.proofs.Grown.{IsTree-grown}
-use Rattle.lfs_calls.specs.Content.{IsDirectoryAt, ListsRows, all_entries, visible}
+use Rattle.lfs_calls.specs.Content.{IsDirectoryAt, visible}
 use Rattle.lfs_calls.specs.Names.{Lists}
 use Rattle.lfs_trees.specs.Marks.{is_among}
-use Rattle.lfs_trees.specs.Walks.{IsReached, Reaches, so_far}
+use Rattle.lfs_trees.specs.Walks.{IsReached, so_far}
 use Rattle.lfs_trees.proofs.Listing.{found_behind, other_behind}
 use Rattle.lfs_trees.proofs.Numbers.{among-same, among-other}
 use Rattle.lfs_trees.proofs.Rooting.{visible-empty}

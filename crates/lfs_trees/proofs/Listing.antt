@@ -1,11 +1,10 @@
 -- Entries of a directory, one after another.
-use Rattle.std.proofs.Common.{◌≡◌, ◌≢◌, ℕ, zero, suc, ◌+◌, ◌*◌, ◌/◌, ◌%◌, ◌<◌, ◌≤◌, Bool, true, false, List, [], ◌∷◌, ◌++◌, length, replicate, Option, None, Some, refl, sym, ap, subst, ◌∙◌, ⊎_elim, arith, append_assoc, add-one}
-use Rattle.std.specs.Prelude.{is_some, IsSome, bytes_eq, ◌||◌}
-use Rattle.std.proofs.lemmas.Bool.{cases_Bool, cases_eq}
-use Rattle.lfs_types.specs.declared.block.TheConstants.{BLOCK_SIZE}
-use Rattle.lfs_dirs.specs.Directory.{Entry, AreEntries, IsEntry, has_name, number_in}
+use Rattle.std.proofs.Common.{◌≡◌, ℕ, ◌+◌, ◌/◌, ◌%◌, ◌<◌, Bool, true, false, List, [], ◌∷◌, ◌++◌, length, replicate, None, Some, refl, sym, ap, subst, ◌∙◌, ⊎_elim, arith, add-one}
+use Rattle.std.specs.Prelude.{is_some, bytes_eq, ◌||◌}
+use Rattle.std.proofs.lemmas.Bool.{cases_Bool}
+use Rattle.lfs_dirs.specs.Directory.{Entry, AreEntries, has_name, number_in}
 use Rattle.lfs_dirs.specs.Reading.{entries_of}
-use Rattle.lfs_dirs.proofs.Changes.{AreEntries-middle, number_in-nil, number_in-here, number_in-later, number_in-append, has_name-same, has_name-other, has_name-true}
+use Rattle.lfs_dirs.proofs.Changes.{AreEntries-middle, number_in-nil, number_in-here, number_in-later, number_in-append, has_name-same, has_name-other}
 use Rattle.lfs_calls.specs.Content.{all_entries, block_at, entries_below}
 use Rattle.lfs_calls.proofs.Listings.{entries_from, old_listed, behind}
 use Rattle.lfs_trees.specs.Faults.{StandsAgain}
@@ -65,7 +64,8 @@ none_at_first bytes = refl
 pub by_block : (bytes : List ℕ) (k : ℕ) → length bytes % 512 ≡ 0 → k < length bytes / 512
     → (behind : List Entry) × (all_entries bytes ≡ entries_below bytes (k + 1) ++ behind)
 by_block bytes k whole within =
-    let block : List ℕ = replicate 512 0 in
-    (entries_from bytes (k + 1) (behind bytes k block refl whole (omega arith)),
+    let block : List ℕ = replicate 512 0 in (
+      entries_from bytes (k + 1) (behind bytes k block refl whole (omega arith)),
       old_listed bytes k block refl whole (omega arith)
-      ∙ ap (λ es. es ++ entries_from bytes (k + 1) (behind bytes k block refl whole (omega arith))) (sym (below_further bytes k)))
+          ∙ ap (λ es. es ++ entries_from bytes (k + 1) (behind bytes k block refl whole (omega arith))) (sym (below_further bytes k)),
+    )

@@ -1,15 +1,15 @@
 -- A block of a directory, entry by entry.
-use Rattle.std.proofs.Common.{◌≡◌, ◌≢◌, ◌+◌, ◌<◌, ◌≤◌, ℕ, Bool, true, false, List, [], ◌∷◌, ◌++◌, length, take, get_or, Option, None, Some, refl, sym, ap, subst, ◌∙◌, arith, append_assoc, append-nil, length-append}
-use Rattle.std.specs.Prelude.{is_some, IsSome, bytes_eq, ◌||◌}
+use Rattle.std.proofs.Common.{◌≡◌, ◌+◌, ◌<◌, ℕ, true, false, List, [], ◌∷◌, ◌++◌, length, take, get_or, None, Some, sym, ap, subst, ◌∙◌, arith, append_assoc, append-nil, length-append}
+use Rattle.std.specs.Prelude.{bytes_eq, ◌||◌}
 use Rattle.std.proofs.lemmas.List.{get_or_append_left}
 use Rattle.std.specs.FinMap as map
 use Rattle.lfs_types.specs.Stored.{bytes_of}
-use Rattle.lfs_types.specs.Tree.{Content, root}
+use Rattle.lfs_types.specs.Tree.{Content}
 use Rattle.lfs_types.proofs.Somewhere.{not_some, there_of}
 use Rattle.lfs_dirs.specs.Directory.{Entry, AreEntries, IsEntry, number_in}
 use Rattle.lfs_dirs.proofs.Changes.{AreEntries-added}
 use Rattle.lfs_model.proofs.Children.{child-answer}
-use Rattle.lfs_calls.specs.Content.{IsDirectoryAt, all_entries}
+use Rattle.lfs_calls.specs.Content.{all_entries}
 use Rattle.lfs_calls.specs.Names.{Lists}
 use Rattle.lfs_trees.specs.declared.fault.TreeFault.{TreeFault}
 use Rattle.lfs_trees.specs.declared.fault.TreeFault.TheVariants.{Root, Reserved, Length, Block, NameTwice, RootListed, Unused, NumberTwice, Unreached, Memory}
@@ -101,8 +101,8 @@ module _ (c : Content) (old walk : Walk) (names : Names) (dir : ℕ) (all left r
         let rows = h.reading.reaches.0 in
         let f = there_of (map.get c e.0) w.used in
         let one = entered c walk.order.items (done_of walk) dir h.read rows h.reading.reaches.1
-            h.reading.directory reached_dir h.reading.apart e f.value f.is
-            ((h.reading.files e.0 f.value f.is).numbered w.below) w.below w.new_number (no_name w.new_name) (lists w.new_name) in
+        h.reading.directory reached_dir h.reading.apart e f.value f.is
+        ((h.reading.files e.0 f.value f.is).numbered w.below) w.below w.new_number (no_name w.new_name) (lists w.new_name) in
         subst (λ ns. Reaches c ns (done_of new) dir (h.read ++ e ∷ [])) (sym w.order)
         (subst (λ ns. Reaches c (walk.order.items ++ e.0 ∷ []) ns dir (h.read ++ e ∷ [])) (sym same_done) (_, one))
 

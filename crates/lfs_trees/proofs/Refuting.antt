@@ -1,7 +1,6 @@
 -- A fault of a content is a fault of no tree.
-use Rattle.std.proofs.Common.{◌≡◌, ◌≢◌, ◌<◌, ◌≤◌, ℕ, zero, suc, List, None, Some, refl, sym, ap, subst, ◌∙◌, ⊎_elim, arith}
+use Rattle.std.proofs.Common.{◌≡◌, ◌<◌, ◌≤◌, ℕ, zero, suc, List, Some, refl, sym, ap, subst, ◌∙◌, ⊎_elim, arith}
 use Rattle.std.proofs.lemmas.Bool.{cases_eq}
-use Rattle.std.specs.Prelude.{IsSome, IsSomeAnd}
 use Rattle.std.specs.FinMap as map
 use Rattle.lfs_types.specs.declared.attrs.Kind.TheVariants.{Directory}
 use Rattle.lfs_types.specs.declared.limits.TheConstants.{FIRST_INODE}
@@ -9,17 +8,16 @@ use Rattle.lfs_types.specs.Stored.{bytes_of, bytes_of_file}
 use Rattle.lfs_types.specs.StoreStates.{StoreState}
 use Rattle.lfs_types.specs.Tree.{Content, File, Row, World, root}
 use Rattle.lfs_types.proofs.Somewhere.{none_there, some_and, is_some_and, there_of}
-use Rattle.lfs_dirs.specs.Directory.{AreEntries}
-use Rattle.lfs_model.specs.World.{ancestor, child, parent_of, IsChild, IsTree}
+use Rattle.lfs_model.specs.World.{ancestor, parent_of, IsChild, IsTree}
 use Rattle.lfs_model.proofs.Children.{child-answer, child-is}
-use Rattle.lfs_calls.specs.Content.{IsDirectoryAt, AreBlocks, ListsRows, Shows, all_entries, visible}
+use Rattle.lfs_calls.specs.Content.{IsDirectoryAt, ListsRows, Shows}
 use Rattle.lfs_calls.specs.Names.{Lists}
 use Rattle.lfs_calls.specs.Volumes.{HasWorld}
 use Rattle.lfs_calls.proofs.ListedNames.{lists_child, number-child}
 use Rattle.lfs_calls.proofs.Visible.{shown_of, stored_of}
 use Rattle.lfs_trees.specs.declared.fault.TreeFault.{TreeFault}
 use Rattle.lfs_trees.specs.declared.fault.TreeFault.TheVariants.{Root, Reserved, Length, Block, NameTwice, RootListed, Unused, NumberTwice, Unreached, Memory}
-use Rattle.lfs_trees.specs.Faults.{Leads, begins, goes, IsTreeFaultOf, StandsAgain}
+use Rattle.lfs_trees.specs.Faults.{Leads, begins, goes, IsTreeFaultOf}
 use Rattle.lfs_trees.proofs.Listing.{again_twice}
 
 module _ (c : Content) (w : World) (shows : Shows c w) (tree : IsTree w.rows) where

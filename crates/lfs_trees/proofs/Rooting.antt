@@ -1,9 +1,8 @@
 -- A walk that reached the root alone.
-use Rattle.std.proofs.Common.{◌≡◌, ◌≢◌, ◌≤◌, ℕ, zero, suc, Bool, true, false, List, [], ◌∷◌, None, Some, refl, sym, ap, subst, ◌∙◌, ⊎_elim}
-use Rattle.std.specs.Prelude.{◌||◌, IsSomeAnd, is_some, nat_eq}
-use Rattle.std.proofs.lemmas.Bool.{cases_eq, eq-eqb, ne_eqb}
+use Rattle.std.proofs.Common.{◌≡◌, ℕ, zero, false, List, [], ◌∷◌, None, Some, refl, sym, ap, subst, ◌∙◌, ⊎_elim}
+use Rattle.std.specs.Prelude.{◌||◌, IsSomeAnd, is_some}
+use Rattle.std.proofs.lemmas.Bool.{cases_eq, ne_eqb}
 use Rattle.std.specs.FinMap as map
-use Rattle.lfs_types.specs.declared.attrs.Kind.{Kind}
 use Rattle.lfs_types.specs.declared.attrs.Kind.TheVariants.{Directory}
 use Rattle.lfs_types.specs.Tree.{Content, File, Row, root}
 use Rattle.lfs_types.proofs.Maps.{each_inserted, get-insert_same, get-insert_other, none_at_first}
@@ -12,10 +11,10 @@ use Rattle.lfs_dirs.specs.Directory.{number_in}
 use Rattle.lfs_dirs.proofs.Changes.{number_in-nil}
 use Rattle.lfs_model.specs.World.{Rows, ancestor, child, IsChild, IsTree}
 use Rattle.lfs_model.proofs.Children.{child-answer}
-use Rattle.lfs_calls.specs.Content.{IsDirectoryAt, visible, visible_bytes}
+use Rattle.lfs_calls.specs.Content.{IsDirectoryAt, visible}
 use Rattle.lfs_calls.proofs.Visible.{visible_bytes-directory, visible_bytes-none}
 use Rattle.lfs_trees.specs.Marks.{is_among}
-use Rattle.lfs_trees.specs.Walks.{IsReached, Reaches, so_far}
+use Rattle.lfs_trees.specs.Walks.{Reaches}
 use Rattle.lfs_trees.proofs.Turning.{so_far-none}
 
 -- of a directory's bytes none are seen
@@ -53,17 +52,20 @@ module _ (c : Content) (f : File) (stored : map.get c root ≡ Some f) (kind : f
   }
 
   rooted_at : Reaches c (root ∷ []) [] 0 []
-  rooted_at = (rows, record {
-    tree = one_row;
-    reached = λ n. ⊎_elim
-        (λ same. subst (λ k. is_some (map.get rows k) ≡ is_among (root ∷ []) k) (sym same) (ap is_some here))
-        (λ other. ap is_some (get-insert_other map.empty root row n other ∙ map.get-empty _ n) ∙ sym (ap (λ b. b || false) (ne_eqb n root other)))
-        (cases_eq n root);
-    shown = each (λ n r. IsSomeAnd (map.get c n) (λ g. visible g ≡ r.file)) (is_some_and (λ g. visible g ≡ visible f) stored refl);
-    listed = λ n r there apart. absurd (apart (alone n r there));
-    complete = λ d among. absurd (cc);
-    later = λ d none name. child-answer rows one_row.unique d name None (childless d name) ∙ sym (ap (number_in name) (so_far-none 0 d) ∙ number_in-nil name);
-  })
+  rooted_at = (
+    rows,
+    record {
+      tree = one_row;
+      reached = λ n. ⊎_elim
+          (λ same. subst (λ k. is_some (map.get rows k) ≡ is_among (root ∷ []) k) (sym same) (ap is_some here))
+          (λ other. ap is_some (get-insert_other map.empty root row n other ∙ map.get-empty _ n) ∙ sym (ap (λ b. b || false) (ne_eqb n root other)))
+          (cases_eq n root);
+      shown = each (λ n r. IsSomeAnd (map.get c n) (λ g. visible g ≡ r.file)) (is_some_and (λ g. visible g ≡ visible f) stored refl);
+      listed = λ n r there apart. absurd (apart (alone n r there));
+      complete = λ d among. absurd (cc);
+      later = λ d none name. child-answer rows one_row.unique d name None (childless d name) ∙ sym (ap (number_in name) (so_far-none 0 d) ∙ number_in-nil name);
+    },
+  )
 
 -- a walk begins at the root, where that is a directory
 pub reaches_root : (c : Content) → IsDirectoryAt c root → Reaches c (root ∷ []) [] 0 []

@@ -1,5 +1,5 @@
 -- A walk from number to number.
-use Rattle.std.proofs.Common.{◌≡◌, ◌+◌, ◌<◌, ◌≤◌, ℕ, true, false, List, [], ◌∷◌, ◌++◌, length, take, get_or, None, Some, refl, sym, ap, subst, ◌∙◌, ⊎_elim, arith}
+use Rattle.std.proofs.Common.{◌≡◌, ◌+◌, ◌<◌, ◌≤◌, ℕ, false, List, [], ◌∷◌, ◌++◌, length, take, get_or, None, Some, refl, sym, ap, subst, ◌∙◌, ⊎_elim}
 use Rattle.std.specs.Prelude.{slice_get}
 use Rattle.std.proofs.lemmas.Bool.{cases_lt}
 use Rattle.std.proofs.lemmas.List.{take_all}
@@ -27,9 +27,9 @@ stands_first c w directory alone none =
 pub all_read : (c : Content) (w : Walk) → slice_get w.order.items w.done ≡ None → Stands c w → HasRead c w
 all_read c w none stands =
     let past : length w.order.items ≤ w.done = ⊎_elim
-        (λ within. let some = slice_get-get_or w.order.items w.done 0 within in absurd (cc))
-        (λ past. past)
-        (cases_lt w.done (length w.order.items)) in
+    (λ within. let some = slice_get-get_or w.order.items w.done 0 within in absurd (cc))
+    (λ past. past)
+    (cases_lt w.done (length w.order.items)) in
     subst (λ ns. Reaches c w.order.items ns 0 []) (take_all w.done w.order.items past) stands
 
 -- a walk that reads a directory began to read it

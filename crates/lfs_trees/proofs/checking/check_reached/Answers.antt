@@ -1,5 +1,4 @@
-use Rattle.std.proofs.Common.{◌≡◌, Some, sym, ap, subst, ◌∙◌, ⊎_elim, arith}
-use Rattle.std.proofs.lemmas.Bool.{cases_eq}
+use Rattle.std.proofs.Common.{arith}
 use Rattle.lfs_trees.proofs.checking.check_reached.Goals as goal
 
 pub returns-clause-all : goal.returns-clause-all

@@ -1,4 +1,4 @@
-use Rattle.std.proofs.Common.{◌≡◌, length, None, Some, sym, ap, subst, ◌∙◌, ⊎_elim, arith}
+use Rattle.std.proofs.Common.{◌≡◌, length, None, Some, sym, subst, ◌∙◌, ⊎_elim, arith}
 use Rattle.std.proofs.lemmas.Bool.{cases_eq}
 use Rattle.std.specs.FinMap as map
 use Rattle.lfs_types.proofs.Somewhere.{present}
@@ -14,9 +14,9 @@ loop-number-preserved g c = λ n f e below. ⊎_elim
     let number = c.loop-number.number in
     let there : map.get content number ≡ Some f = subst (λ k. map.get content k ≡ Some f) same e in
     elim c.match-attrs.branch [
-      in-Some+in_ok-check_file w ↦
-        subst (λ k. MayStand k f.kind (length f.bytes)) (sym same)
-        (stands_here content number w.in-Some.attrs (sym w.in-Some.is ∙ c.attrs.ensures) w.in_ok-check_file.ensures.ok f there)
+      | in-Some+in_ok-check_file w ↦
+          subst (λ k. MayStand k f.kind (length f.bytes)) (sym same)
+          (stands_here content number w.in-Some.attrs (sym w.in-Some.is ∙ c.attrs.ensures) w.in_ok-check_file.ensures.ok f there)
       | in_default w ↦ absurd (cc (attrs_here content number f None (sym w.in_default.is ∙ c.attrs.ensures) there))
     ])
     (λ apart. c.loop-number.invariant n f e (omega arith))

@@ -1,4 +1,4 @@
-use Rattle.std.proofs.Common.{◌≡◌, ◌*◌, List, ℕ, length, take, drop, ◌++◌, ap, ◌∙◌, arith, length-take, length-drop, append-nil, replicate}
+use Rattle.std.proofs.Common.{◌≡◌, ◌*◌, length, take, drop, ◌++◌, ap, ◌∙◌, arith, length-take, length-drop, append-nil, replicate}
 use Rattle.lfs_types.specs.Stored.{bytes_of}
 use Rattle.lfs_trees.proofs.reading.block_of.Goals as goal
 

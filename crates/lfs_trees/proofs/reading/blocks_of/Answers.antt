@@ -1,4 +1,3 @@
-use Rattle.std.proofs.Common.{◌≡◌, Some, sym, ◌∙◌}
 use Rattle.lfs_trees.proofs.FileLemmas.{has_whole}
 use Rattle.lfs_trees.proofs.reading.blocks_of.Goals as goal
 

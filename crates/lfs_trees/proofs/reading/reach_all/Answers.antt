@@ -1,4 +1,4 @@
-use Rattle.std.proofs.Common.{◌≡◌, ◌++◌, ◌∷◌, [], refl, sym, ap, subst, ◌∙◌}
+use Rattle.std.proofs.Common.{◌++◌, ◌∷◌, [], refl, sym, ap, subst, ◌∙◌}
 use Rattle.lfs_types.specs.Tree.{Content, root}
 use Rattle.lfs_calls.proofs.StateLemmas.{same_content}
 use Rattle.lfs_trees.specs.Files.{AreFiles}

@@ -1,11 +1,11 @@
-use Rattle.std.proofs.Common.{◌≡◌, ◌+◌, ◌/◌, ◌<◌, List, ◌∷◌, ◌++◌, length, sym, ap, subst, ◌∙◌}
+use Rattle.std.proofs.Common.{◌+◌, ◌<◌, ◌++◌, sym, ap, subst, ◌∙◌}
 use Rattle.std.proofs.lemmas.Result.{err_from_is_err_and}
 use Rattle.std.specs.Prelude.{IfErr}
 use Rattle.lfs_types.specs.Stored.{bytes_of}
 use Rattle.lfs_types.specs.Tree.{Content}
-use Rattle.lfs_dirs.specs.Directory.{Entry, AreEntries}
+use Rattle.lfs_dirs.specs.Directory.{AreEntries}
 use Rattle.lfs_dirs.specs.Reading.{entries_of}
-use Rattle.lfs_calls.specs.Content.{all_entries, block_at, entries_below}
+use Rattle.lfs_calls.specs.Content.{entries_below}
 use Rattle.lfs_calls.proofs.StateLemmas.{same_content}
 use Rattle.lfs_trees.specs.Faults.{IsTreeFaultOf}
 use Rattle.lfs_trees.specs.Walks.{IsEntered, IsEntryFault}
@@ -56,8 +56,8 @@ returns-in_err-enter-clause-fault g c =
     let behind = by_block bytes c.args.index whole.whole (subst (λ n. c.args.index < n) whole.counted c.requires.within) in
     let p = err_from_is_err_and c.from_residual.result c.from_residual.ensures.1 in
     let fault = subst (λ (x : Content). IsEntryFault x c.loop-number.walk c.loop-number.names c.args.directory (c.in-Some.number, c.in-Some.name.now) c.in_err-enter.field-0.0)
-        (same_content c.loop-number.invariant.state) c.in_err-enter.ensures.fault in
+    (same_content c.loop-number.invariant.state) c.in_err-enter.ensures.fault in
     let is = part_fault content c.args.walk.now c.loop-number.walk c.loop-number.names c.args.directory (entries_below bytes (c.args.index + 1))
-        c.loop-number.number-iterator c.next.new.self behind.0 (c.in-Some.number, c.in-Some.name.now) c.loop-number.invariant.part
-        c.in-Some.ensures.steps behind.1 c.in_err-enter.field-0.0 fault in
+    c.loop-number.number-iterator c.next.new.self behind.0 (c.in-Some.number, c.in-Some.name.now) c.loop-number.invariant.part
+    c.in-Some.ensures.steps behind.1 c.in_err-enter.field-0.0 fault in
     subst (λ r. IfErr r (IsTreeFaultOf content)) (sym p.1) (subst (IsTreeFaultOf content) (sym p.2) is)

@@ -1,4 +1,4 @@
-use Rattle.std.proofs.Common.{◌≡◌, ◌+◌, ◌/◌, ◌<◌, ℕ, List, [], length, refl, sym, ap, subst, ◌∙◌, arith}
+use Rattle.std.proofs.Common.{◌+◌, refl, sym, ap, subst, ◌∙◌, arith}
 use borrow.Author.Count.{below_more}
 use Rattle.std.specs.Prelude.{is_some}
 use Rattle.lfs_types.specs.Stored.{bytes_of}
@@ -6,7 +6,7 @@ use Rattle.lfs_types.specs.Tree.{Content}
 use Rattle.lfs_dirs.specs.Directory.{IsDirectoryBlock, number_in}
 use Rattle.lfs_dirs.specs.Reading.{entries_of}
 use Rattle.lfs_dirs.proofs.Changes.{number_in-nil}
-use Rattle.lfs_calls.specs.Content.{all_entries, block_at, entries_below}
+use Rattle.lfs_calls.specs.Content.{block_at, entries_below}
 use Rattle.lfs_calls.proofs.StateLemmas.{same_content}
 use Rattle.lfs_trees.specs.Files.{HasWhole}
 use Rattle.lfs_trees.specs.Walks.{HasNames, IsReading}

@@ -1,4 +1,3 @@
-use Rattle.std.proofs.Common.{◌≡◌, sym, ◌∙◌, arith}
 use Rattle.lfs_trees.proofs.Numbers.{unmarked}
 use Rattle.lfs_trees.proofs.walk.Walk.new.Goals as goal
 

@@ -1,4 +1,4 @@
-use Rattle.std.proofs.Common.{◌≡◌, sym, subst, set, true}
+use Rattle.std.proofs.Common.{sym, subst, set, true}
 use Rattle.lfs_trees.specs.Marks.{AreMarked}
 use Rattle.lfs_trees.proofs.Numbers.{marked_more}
 use Rattle.lfs_trees.proofs.walk.Walk.push.Goals as goal
