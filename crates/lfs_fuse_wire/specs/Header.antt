@@ -1,9 +1,12 @@
--- The header of a message: which bytes hold what (the FUSE protocol's fuse.h).
-use Rattle.std.specs.Prelude.{ℕ, ◌==◌, List, length, nat_lt, if◌then◌else◌, Option, Some, None}
+-- The header of a message: which bytes hold what (the FUSE protocol's fuse.h), and how far the message goes.
+use Rattle.std.specs.Prelude.{ℕ, List, nat_lt, if◌then◌else◌, is_some, Option, None}
 use Rattle.std.specs.Option.{option_and_then}
 use Rattle.lfs_fuse_wire.specs.declared.header.Header.{Header}
 use Rattle.lfs_fuse_wire.specs.declared.header.TheConstants.{HEADER_SIZE}
-use Rattle.lfs_fuse_wire.specs.Numbers.{number_at}
+use Rattle.lfs_fuse_wire.specs.declared.message.BadMessage.{BadMessage}
+use Rattle.lfs_fuse_wire.specs.declared.message.BadMessage.TheVariants.{Cut, Short}
+use Rattle.lfs_fuse_wire.specs.Names.{first_in}
+use Rattle.lfs_fuse_wire.specs.Numbers.{at_least, number_at}
 
 -- bytes 36 to 39 say how long what follows the message's own fields is, and are not looked at
 abbrev pub header_of : List ℕ → Header
@@ -19,8 +22,16 @@ header_of bytes = record {
 
 -- the header that the bytes begin with, if they are as many as a header has
 abbrev pub header_in : List ℕ → Option Header
-header_in bytes = if nat_lt (length bytes) HEADER_SIZE then None else Some (header_of bytes)
+header_in = at_least HEADER_SIZE header_of
 
--- that of bytes that are as many as it tells
-abbrev pub whole_header_in : List ℕ → Option Header
-whole_header_in bytes = option_and_then (λ header. if header.length == length bytes then Some header else None) (header_in bytes)
+-- as many of the bytes as this header tells
+abbrev pub told_by : List ℕ → Header → Option (List ℕ)
+told_by bytes header = if nat_lt header.length HEADER_SIZE then None else first_in header.length bytes
+
+-- the bytes of the message at the front: as many as its header tells, and no others
+abbrev pub message_in : List ℕ → Option (List ℕ)
+message_in bytes = option_and_then (told_by bytes) (header_in bytes)
+
+-- why bytes that say nothing do
+abbrev pub bad_message : List ℕ → BadMessage
+bad_message bytes = if is_some (message_in bytes) then Short else Cut

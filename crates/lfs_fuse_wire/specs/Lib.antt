@@ -1,8 +1,15 @@
+pub mod Attributes
+pub mod Flags
+pub mod Forgetting
+pub mod Framing
+pub mod Handles
 pub mod Header
+pub mod Init
+pub mod Ioctl
+pub mod Kinds
 pub mod Names
+pub mod Naming
 pub mod Numbers
 pub mod Opcodes
-pub mod Replies
-pub mod Requests
 pub mod Said
 pub mod Views

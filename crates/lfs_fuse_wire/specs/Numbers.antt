@@ -1,17 +1,16 @@
--- Numbers at places of a list of bytes, and their bytes.
-use Rattle.std.specs.Prelude.{ℕ, List}
-use Rattle.byteorder.specs.Endian.{little_bytes, little_from}
+-- Numbers at places of a list of bytes, and bits of them.
+use Rattle.std.specs.Prelude.{ℕ, ◌==◌, List, Bool, length, nat_lt, if◌then◌else◌, Option, Some, None}
+use Rattle.std.specs.Int.RustNames.{bit_and}
+use Rattle.byteorder.specs.Endian.{little_from}
 
 -- the number in the `width` bytes from place `at`, the lowest byte first
 unfoldable pub number_at : List ℕ → ℕ → ℕ → ℕ
 number_at bytes at width = little_from at width bytes
 
--- a number's two, four and eight bytes, the lowest first
-unfoldable pub half : ℕ → List ℕ
-half number = little_bytes 2 number
+-- whether all bits of a mask are set
+abbrev pub has : ℕ → ℕ → Bool
+has bits mask = bit_and bits mask == mask
 
-unfoldable pub word : ℕ → List ℕ
-word number = little_bytes 4 number
-
-unfoldable pub long : ℕ → List ℕ
-long number = little_bytes 8 number
+-- what is read of a body that has at least so many bytes
+abbrev pub at_least : {X : Type 0} → ℕ → (List ℕ → X) → List ℕ → Option X
+at_least size read body = if nat_lt (length body) size then None else Some (read body)

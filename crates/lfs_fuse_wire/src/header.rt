@@ -8,8 +8,11 @@ use crate::numbers::{long_at, word_at};
 /// The number of bytes of a header (the FUSE protocol's fuse.h).
 pub const HEADER_SIZE: usize = 40;
 
+/// The node id of the root directory.
+pub const ROOT: u64 = 1;
+
 /// A message's header.
-#[derive(Clone, Copy, Debug)]
+#[derive(Clone, Copy, PartialEq, Eq, Debug)]
 pub struct Header {
     /// The bytes of the message, these 40 among them.
     pub length: u32,
@@ -17,7 +20,7 @@ pub struct Header {
     pub opcode: u32,
     /// The message's own number, which its reply has too.
     pub unique: u64,
-    /// The node that is asked about, by the number that a reply gave it; 1 is the root.
+    /// The node that is asked about, by the id that a reply gave it; 1 is the root.
     pub node: u64,
     /// The user of the process that asks.
     pub uid: u32,

@@ -1,7 +1,7 @@
-//! Numbers at places of a message, the lowest byte first.
+//! Numbers at places of a message, the lowest byte first, and bits of them.
 
 ghost use Rattle.std.specs.Prelude.{◌≡◌, ◌+◌, ◌≤◌, length};
-ghost use Rattle.lfs_fuse_wire.specs.Numbers.{number_at};
+ghost use Rattle.lfs_fuse_wire.specs.Numbers.{has, number_at};
 
 use byteorder::{ByteOrder, LittleEndian};
 
@@ -19,4 +19,11 @@ pub(crate) fn long_at(bytes: &[u8], at: usize) -> u64
     ensures { result ≡ number_at bytes.now at 8 }
 {
     LittleEndian::read_u64(&bytes[at..])
+}
+
+/// Whether all bits of a mask are set.
+pub(crate) fn has(bits: u32, mask: u32) -> bool
+    ensures { result ≡ has bits mask }
+{
+    bits & mask == mask
 }
