@@ -12,7 +12,7 @@ use Rattle.lfs_fuse_reply.specs.declared.reply.Statfs.{Statfs}
 use Rattle.lfs_fuse_reply.specs.Attrs.{attr_bytes, entry_bytes}
 use Rattle.lfs_fuse_reply.specs.Listings.{dirent_bytes, looked_up_bytes, missing}
 use Rattle.lfs_fuse_reply.specs.Numbers.{half, long, word, words}
-use Rattle.lfs_fuse_reply.specs.Replies.{attr_body, body_of, create_body, init_body, open_body, statfs_body}
+use Rattle.lfs_fuse_reply.specs.Replies.{attr_body, body_of, create_body, init_body, open_body, reply_bytes, statfs_body, told_length}
 
 length-half : (n : ℕ) → length (half n) ≡ 2
 unfolding half
@@ -69,3 +69,7 @@ length-dirent e p padded = simp (length-append, length-long, length-word, length
 pub length-looked_up : (o : Option Entry) → length (looked_up_bytes o) ≡ 128
 length-looked_up None = simp (length-append, length-long)
 length-looked_up (Some e) = length-entry e
+
+-- a reply is as long as its head tells
+pub reply_length : (unique : ℕ) (r : Reply) → length (reply_bytes unique r) ≡ told_length r
+reply_length unique r = simp (length-append, length-long, length-word)

@@ -75,6 +75,9 @@ negated error = (2 ^ 32 - error) % 2 ^ 32
 abbrev pub head_bytes : ℕ → ℕ → ℕ → List ℕ
 head_bytes size error unique = word size ++ word (negated error) ++ long unique
 
--- a reply: the length in its head is 16 and the number of the bytes that follow
+-- the length that a reply's head tells
+abbrev pub told_length : Reply → ℕ
+told_length r = 16 + length (body_of r)
+
 abbrev pub reply_bytes : ℕ → Reply → List ℕ
-reply_bytes unique r = head_bytes (16 + length (body_of r)) (error_of r) unique ++ body_of r
+reply_bytes unique r = head_bytes (told_length r) (error_of r) unique ++ body_of r

@@ -14,6 +14,7 @@ ghost use Rattle.lfs_fuse_reply.specs.Replies.{
   open_body,
   reply_bytes,
   statfs_body,
+  told_length,
 };
 
 use crate::attr::{Attr, Entry, push_attr, push_entry};
@@ -112,9 +113,11 @@ pub enum Reply<'a> {
 
 impl Reply<'_> {
     /// Adds the reply to the message of this number.
+    #[tactic(auto, using(crate::proofs::Lengths::reply_length))]
     pub fn append(&self, out: &mut Vec<u8>, unique: u64) -> Result<(), AllocError>
         requires { IsShort self.now }
-        ensures { OnOk result (out.new.items ≡ out.old.items ++ reply_bytes unique self.now) }
+        ensures bytes { OnOk result (out.new.items ≡ out.old.items ++ reply_bytes unique self.now) }
+        ensures told { length (reply_bytes unique self.now) ≡ told_length self.now }
     {
         let size = REPLY_HEAD_SIZE + self.body_size();
         push_head(out, size, self.error(), unique)?;
