@@ -1,5 +1,5 @@
 -- The bytes of a listing's entries (the FUSE protocol's fuse.h).
-use Rattle.std.specs.Prelude.{ℕ, ◌-◌, ◌%◌, List, [], ◌∷◌, ◌++◌, length, replicate, Option, Some, None}
+use Rattle.std.specs.Prelude.{ℕ, ◌+◌, ◌-◌, ◌%◌, List, [], ◌∷◌, ◌++◌, Bool, length, nat_le, replicate, if◌then◌else◌, Option, Some, None}
 use Rattle.lfs_fuse_wire.specs.declared.kind.FileKind.{FileKind}
 use Rattle.lfs_fuse_wire.specs.declared.kind.FileKind.TheVariants.{Regular, Directory}
 use Rattle.lfs_fuse_reply.specs.declared.attr.Entry.{Entry}
@@ -32,3 +32,11 @@ looked_up_bytes (Some e) = entry_bytes e
 
 abbrev pub plus_bytes : DirEntryPlus → List ℕ
 plus_bytes e = looked_up_bytes e.entry ++ dirent_bytes e.dirent
+
+-- whether an entry of these bytes fits behind a listing that may have so many
+abbrev pub fits_in : ℕ → List ℕ → List ℕ → Bool
+fits_in most listing entry = nat_le (length listing + length entry) most
+
+-- a listing, with the entry behind it where that fits
+abbrev pub listed : ℕ → List ℕ → List ℕ → List ℕ
+listed most listing entry = if fits_in most listing entry then listing ++ entry else listing

@@ -1,5 +1,5 @@
 -- The bytes of replies (the FUSE protocol's fuse.h).
-use Rattle.std.specs.Prelude.{⊤, ◌<◌, ℕ, ◌+◌, ◌-◌, ◌/◌, ◌%◌, ◌^◌, List, [], ◌∷◌, ◌++◌, Bool, true, false, length, replicate, if◌then◌else◌}
+use Rattle.std.specs.Prelude.{⊤, ◌<◌, ℕ, ◌+◌, ◌-◌, ◌/◌, ◌%◌, ◌^◌, List, [], ◌∷◌, ◌++◌, length, replicate, if◌then◌else◌}
 use Rattle.lfs_fuse_reply.specs.declared.attr.Attr.{Attr}
 use Rattle.lfs_fuse_reply.specs.declared.attr.Entry.{Entry}
 use Rattle.lfs_fuse_reply.specs.declared.reply.InitReply.{InitReply}

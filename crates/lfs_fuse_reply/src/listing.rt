@@ -1,10 +1,12 @@
 //! Entries of a listing, which the reply to READDIR or READDIRPLUS carries behind one another, as many as the kernel
 //! asked bytes for. One that does not fit is left for the next message.
 
-ghost use Rattle.std.specs.Prelude.{◌≡◌, ◌+◌, ◌++◌, ◌<◌, ◌≤◌, if◌then◌else◌, length, nat_le, IfOk, OnOk};
+ghost use Rattle.std.specs.Prelude.{◌≡◌, ◌+◌, ◌++◌, ◌<◌, length, nat_le, IfOk, OnOk};
 ghost use Rattle.lfs_fuse_reply.specs.Listings.{
   dirent_bytes,
   dirent_type,
+  fits_in,
+  listed,
   looked_up_bytes,
   missing,
   plus_bytes,
@@ -42,8 +44,8 @@ impl DirEntry<'_> {
     /// nothing.
     pub fn append(&self, listing: &mut Vec<u8>, most: usize) -> Result<bool, AllocError>
         requires { length self.now.name.now < 256 }
-        ensures fits { IfOk result (λ fits. fits ≡ nat_le (length listing.old.items + length (dirent_bytes self.now)) most) }
-        ensures entry { IfOk result (λ fits. listing.new.items ≡ (if fits then listing.old.items ++ dirent_bytes self.now else listing.old.items)) }
+        ensures fits { IfOk result (λ fits. fits ≡ fits_in most listing.old.items (dirent_bytes self.now)) }
+        ensures entry { OnOk result (listing.new.items ≡ listed most listing.old.items (dirent_bytes self.now)) }
     {
         if !has_room(listing, self.size(), most) {
             return Ok(false);
@@ -78,8 +80,8 @@ impl DirEntryPlus<'_> {
     /// nothing.
     pub fn append(&self, listing: &mut Vec<u8>, most: usize) -> Result<bool, AllocError>
         requires { length self.now.dirent.name.now < 256 }
-        ensures fits { IfOk result (λ fits. fits ≡ nat_le (length listing.old.items + length (plus_bytes self.now)) most) }
-        ensures entry { IfOk result (λ fits. listing.new.items ≡ (if fits then listing.old.items ++ plus_bytes self.now else listing.old.items)) }
+        ensures fits { IfOk result (λ fits. fits ≡ fits_in most listing.old.items (plus_bytes self.now)) }
+        ensures entry { OnOk result (listing.new.items ≡ listed most listing.old.items (plus_bytes self.now)) }
     {
         if !has_room(listing, self.size(), most) {
             return Ok(false);
