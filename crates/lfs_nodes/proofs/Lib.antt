@@ -1,0 +1,11 @@
+pub mod ChangeLemmas
+pub mod HoldsLemmas
+pub mod KidsLemmas
+pub mod LawLemmas
+pub mod MovedLemmas
+pub mod NamesLemmas
+pub mod NodesLemmas
+pub mod PlaceLemmas
+pub mod TableLemmas
+pub mod WayLemmas
+pub mod WholeLemmas

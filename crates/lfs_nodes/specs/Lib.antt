@@ -1,0 +1,10 @@
+pub mod Borrowed
+pub mod Changes
+pub mod Holds
+pub mod Maps
+pub mod Moves
+pub mod Nodes
+pub mod Places
+pub mod Reads
+pub mod Ways
+pub mod Whole
