@@ -1,5 +1,5 @@
 -- What nodes say of a tree.
-use Rattle.std.specs.Prelude.{◌≡◌, ℕ, Bool, true, false, Option, None, Some, IsSomeAnd, if◌then◌else◌}
+use Rattle.std.specs.Prelude.{◌≡◌, ℕ, List, Bool, true, false, Option, None, Some, IsSomeAnd, if◌then◌else◌}
 use Rattle.std.specs.Option.{option_map}
 use Rattle.lfs_nodes.specs.declared.place.Place.{Place}
 use Rattle.lfs_nodes.specs.declared.node.Hang.{Hang}
@@ -10,6 +10,10 @@ use Rattle.lfs_nodes.specs.Maps.{node_at, id_at}
 use Rattle.lfs_nodes.specs.Reads.{hang_in, number_in}
 use Rattle.lfs_nodes.specs.Places.{place_of}
 use Rattle.lfs_model.specs.World.{Rows, IsChild}
+
+-- the place of a name in a node's directory
+abbrev pub place_at : ℕ → List ℕ → Place
+place_at parent name = record { parent = parent; name = name }
 
 -- what callers see of a node: all but how many nodes hang beneath it
 abbrev pub shown : Node → Node

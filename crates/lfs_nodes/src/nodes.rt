@@ -1,6 +1,6 @@
 //! The nodes of a mount.
 
-ghost use Rattle.std.specs.Prelude.{◌≡◌, ◌≢◌, ℕ, ◌+◌, ◌-◌, ◌≤◌, List, [], Some, None, true, false, Option, IfOk, OnOk, OnErr, ◌<◌, length, IsTrue, ◌↔◌};
+ghost use Rattle.std.specs.Prelude.{◌≡◌, ◌≢◌, ℕ, ◌+◌, ◌-◌, ◌≤◌, List, [], Some, None, true, false, Option, IfOk, OnOk, OnErr, ◌<◌, length, IsTrue, IsSome, ◌↔◌};
 ghost use Rattle.std.specs.FinMap as map;
 ghost use Rattle.lfs_model.specs.World.{Rows, IsChild, IsTree, child, children};
 ghost use Rattle.lfs_model.specs.Effects.{after_rename};
@@ -15,7 +15,8 @@ ghost use Rattle.lfs_model.specs.Rules.{reached};
 ghost use Rattle.lfs_types.specs.Paths.{items_of};
 ghost use Rattle.lfs_types.specs.Tree.{World, root as root_row};
 ghost use Rattle.lfs_nodes.specs.Ways.{NamesDown};
-ghost use Rattle.lfs_nodes.specs.Nodes.{known, live_row, IsKnownAs, AreNodes};
+ghost use Rattle.lfs_nodes.specs.Moves.{moved_at};
+ghost use Rattle.lfs_nodes.specs.Nodes.{place_at, known, live_row, IsKnownAs, AreNodes};
 
 use crate::fault::{LookUpFault, PathFault};
 use crate::index::Index;
@@ -60,9 +61,10 @@ impl Nodes {
         name: Name,
         row: u32,
     ) -> Result<NodeId, LookUpFault>
-        ensures again { (id : ℕ) → IsKnownAs self.old (record { parent = parent.0; name = name }) row id → (result ≡ Ok (record { 0 = id })) × ((q : ℕ) → known self.new q ≡ changed_at id one_look_up_more (known self.old) q) }
-        ensures fresh { ((id : ℕ) → IsKnownAs self.old (record { parent = parent.0; name = name }) row id → ⊥) → IfOk result (λ id. (id.0 ≡ self.old.next) × (self.new.next ≡ self.old.next + 1) × (known self.new id.0 ≡ Some (fresh (At (record { parent = parent.0; name = name })) row))) }
+        ensures again { (id : ℕ) → IsKnownAs self.old (place_at parent.0 name) row id → (result ≡ Ok (record { 0 = id })) × ((q : ℕ) → known self.new q ≡ changed_at id one_look_up_more (known self.old) q) }
+        ensures fresh { ((id : ℕ) → IsKnownAs self.old (place_at parent.0 name) row id → ⊥) → IfOk result (λ id. (id.0 ≡ self.old.next) × (self.new.next ≡ self.old.next + 1) × (known self.new id.0 ≡ Some (fresh (At (place_at parent.0 name)) row))) }
         ensures nodes { (rows : Rows) (p : ℕ) → IsTree rows → AreNodes rows (known self.old) → live_row (known self.old parent.0) ≡ Some p → IsChild rows p name row → AreNodes rows (known self.new) }
+        ensures others { id_at self.old.index (place_at parent.0 name) ≡ None → IfOk result (λ id. (q : ℕ) → q ≢ id.0 → known self.new q ≡ known self.old q) }
         ensures failed { OnErr result ((q : ℕ) → known self.new q ≡ known self.old q) }
     {
         let place = Place {
@@ -89,8 +91,8 @@ impl Nodes {
 
     /// An Unlink or Rmdir of this name was served: its node, if one is known, is gone.
     pub fn removed(&mut self, parent: NodeId, name: Name)
-        ensures gone { (id : ℕ) → id_at self.old.index (record { parent = parent.0; name = name }) ≡ Some id → (q : ℕ) → known self.new q ≡ changed_at id (hung Gone) (known self.old) q }
-        ensures none { id_at self.old.index (record { parent = parent.0; name = name }) ≡ None → (q : ℕ) → known self.new q ≡ known self.old q }
+        ensures gone { (id : ℕ) → id_at self.old.index (place_at parent.0 name) ≡ Some id → (q : ℕ) → known self.new q ≡ changed_at id (hung Gone) (known self.old) q }
+        ensures none { id_at self.old.index (place_at parent.0 name) ≡ None → (q : ℕ) → known self.new q ≡ known self.old q }
         ensures nodes { (rows : Rows) (p n : ℕ) → IsTree rows → AreNodes rows (known self.old) → live_row (known self.old parent.0) ≡ Some p → IsChild rows p name n → children rows n ≡ [] → AreNodes (map.remove rows n) (known self.new) }
         ensures next { self.new.next ≡ self.old.next }
     {
@@ -189,6 +191,7 @@ impl Nodes {
     pub fn moved(&mut self, from: NodeId, name: Name, to: NodeId, new_name: Name, copy: Name)
         requires same { copy ≡ new_name }
         requires room { 0 < room_in self.old.index }
+        ensures moved { (place_at from.0 name ≢ place_at to.0 new_name) → IsSome (node_at self.old.table to.0) → (q : ℕ) → known self.new q ≡ moved_at (id_at self.old.index (place_at from.0 name)) (id_at self.old.index (place_at to.0 new_name)) (place_at to.0 new_name) (known self.old) q }
         ensures stays { from.0 ≡ to.0 → name ≡ new_name → (q : ℕ) → known self.new q ≡ known self.old q }
         ensures nodes { (w : World) (p t n : ℕ) → IsTree w.rows → AreNodes w.rows (known self.old) → live_row (known self.old from.0) ≡ Some p → live_row (known self.old to.0) ≡ Some t → IsChild w.rows p name n → ((m : ℕ) → child w.rows t new_name ≡ Some m → m ≢ n → children w.rows m ≡ []) → AreNodes (after_rename w n (child w.rows t new_name) t new_name).rows (known self.new) }
         ensures next { self.new.next ≡ self.old.next }
