@@ -85,7 +85,7 @@ module _ (w v : World) (n : ℕ) (same : map.get w.rows n ≡ map.get v.rows n) 
   place_same (Some r) m parent name = put_same m (record r { parent = parent; name = name })
 
 -- the least unused number
-least_same : (rows others : Rows) → ((n : ℕ) → is_some (map.get rows n) ≡ is_some (map.get others n)) → (count n : ℕ) → least_unused rows count n ≡ least_unused others count n
+pub least_same : (rows others : Rows) → ((n : ℕ) → is_some (map.get rows n) ≡ is_some (map.get others n)) → (count n : ℕ) → least_unused rows count n ≡ least_unused others count n
 unfolding least_unused
 least_same rows others used zero n = refl
 least_same rows others used (suc count) n = λ i. cond (used n i) (least_same rows others used count (n + 1) i) n

@@ -103,7 +103,7 @@ module _ (caller : Caller) (w v : World) (tree : IsTree w.rows) (differ : Differ
   numbers_same : map.keys w.rows ≡ map.keys v.rows
   numbers_same = same_keys w.rows v.rows (λ n. alike_some caller (Reaches w.rows caller n) _ _ (differ.rows n))
 
-  child_same : child w.rows ≡ child v.rows
+  pub child_same : child w.rows ≡ child v.rows
   unfolding child
   child_same = λ i parent name. find (λ n. alike_as caller (Reaches w.rows caller n) parent name n _ _ (differ.rows n) i) (numbers_same i)
 
@@ -111,7 +111,7 @@ module _ (caller : Caller) (w v : World) (tree : IsTree w.rows) (differ : Differ
   unfolding children
   children_same = λ i parent. filter (λ n. alike_in caller (Reaches w.rows caller n) parent n _ _ (differ.rows n) i) (numbers_same i)
 
-  reached_at : (at : ℕ) (names : List (List ℕ)) → reached w.rows at names ≡ reached v.rows at names
+  pub reached_at : (at : ℕ) (names : List (List ℕ)) → reached w.rows at names ≡ reached v.rows at names
   reached_at at [] = refl
   reached_at at (name ∷ names) = reached_at (next w.rows at name) names ∙ ap (λ o. reached v.rows (unwrap_or o 0) names) (λ i. child_same i at name)
 

@@ -34,6 +34,8 @@ pub mod SameKeys
 pub mod SameTests
 pub mod ServedLemmas
 pub mod SystemNames
+pub mod TwinLemmas
+pub mod UnreadRuns
 pub mod ViewLaw
 pub mod ViewLemmas
 pub mod Ways

@@ -21,7 +21,7 @@ use Rattle.lfs_laws.proofs.BetweenLemmas.{between}
 use Rattle.lfs_laws.proofs.RowLaws.{remoded_law, given_law}
 
 -- what an owner, a group and a mode grant
-abbrev granted : Caller → ℕ → ℕ → ℕ → Bit → Bool
+abbrev pub granted : Caller → ℕ → ℕ → ℕ → Bit → Bool
 granted other uid gid mode bit =
     cond (is_the_superuser other) true (cond (other.uid == uid) (has_bit mode (owner_mask bit))
     (cond (is_in_group other gid) (has_bit mode (group_mask bit)) (has_bit mode (other_mask bit))))
@@ -62,7 +62,7 @@ three : (other : Caller) (uid gid : ℕ) (a b c x y z : Bool) → a ≡ x → b 
 three other uid gid a b c x y z p q r = λ i. cond (is_the_superuser other) true (cond (other.uid == uid) (p i) (cond (is_in_group other gid) (q i) (r i)))
 
 -- without its set-id bits a mode grants the same
-cleared_grants : (other : Caller) (uid gid mode : ℕ) (bit : Bit) → granted other uid gid (set_id_cleared mode) bit ≡ granted other uid gid mode bit
+pub cleared_grants : (other : Caller) (uid gid mode : ℕ) (bit : Bit) → granted other uid gid (set_id_cleared mode) bit ≡ granted other uid gid mode bit
 cleared_grants other uid gid mode Read = three other uid gid _ _ _ _ _ _ (kept_400 mode) (kept_40 mode) (kept_4 mode)
 cleared_grants other uid gid mode Write = three other uid gid _ _ _ _ _ _ (kept_200 mode) (kept_20 mode) (kept_2 mode)
 cleared_grants other uid gid mode Search = three other uid gid _ _ _ _ _ _ (kept_100 mode) (kept_10 mode) (kept_1 mode)

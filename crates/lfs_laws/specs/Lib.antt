@@ -36,6 +36,7 @@ pub mod LawShown
 pub mod LawSystemNames
 pub mod LawTrees
 pub mod LawUnread
+pub mod LawUnreadRuns
 pub mod LawView
 pub mod LawsBytes
 pub mod LawsFlags

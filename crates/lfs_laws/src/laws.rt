@@ -46,6 +46,7 @@ ghost use Rattle.lfs_laws.specs.LawShown.{Shown};
 ghost use Rattle.lfs_laws.specs.LawSystemNames.{NoSystemNameComes, SystemNamesStay, SystemPathStays};
 ghost use Rattle.lfs_laws.specs.LawTrees.{LeavesTree};
 ghost use Rattle.lfs_laws.specs.LawUnread.{NobodyReads};
+ghost use Rattle.lfs_laws.specs.LawUnreadRuns.{NobodyReadsInRun};
 ghost use Rattle.lfs_laws.specs.LawView.{View};
 ghost use Rattle.lfs_laws.specs.LawsBytes.{LastWritten, LastWrittenSinceOpening};
 ghost use Rattle.lfs_laws.specs.LawsFlags.{ImmutableStays, AppendOnlyGrows, SystemImmutableStays, SystemAppendOnlyGrows};
@@ -242,7 +243,8 @@ pub fn same_answers()
 /// By a call whoever isn't granted to read a file learns nothing of its bytes but how many they are: with other bytes in it, each
 /// answer that the call may have it may have still, NoInodes, DirectoryFull and NoSpace among them.
 pub fn nobody_reads()
-    ensures { NobodyReads }
+    ensures call { NobodyReads }
+    ensures run { NobodyReadsInRun }
 {}
 
 /// Each byte of a file is what the last call of a run that set it made of it: a Write that covers the byte puts its own there; a
