@@ -54,9 +54,10 @@ open_differ caller w v t = unread_twins Open caller w v (λ m. inr (λ h. h)) t 
 open_run : (numbers segments : ℕ) (entries : List Entry) (w v : World) → IsTree w.rows → Twins Open w v → IsLegal numbers segments entries w → IsLegal numbers segments entries v
 open_run numbers segments [] w v tree t legal = tt
 open_run numbers segments (e ∷ es) w v tree t legal =
-    let differ = λ (request : Request) (answer : _) (is : e.event ≡ User request answer). open_differ e.cred w v t in
-    (same_event Open numbers segments w v e.cred tree t e.event differ legal.0,
-    open_run numbers segments es _ _ (event_tree numbers segments w e.cred e.event tree legal.0) (twin_event Open numbers segments w v e.cred tree t e.event differ) legal.1)
+    let differ = λ (request : Request) (answer : _) (is : e.event ≡ User request answer). open_differ e.cred w v t in (
+      same_event Open numbers segments w v e.cred tree t e.event differ legal.0,
+      open_run numbers segments es _ _ (event_tree numbers segments w e.cred e.event tree legal.0) (twin_event Open numbers segments w v e.cred tree t e.event differ) legal.1,
+    )
 
 -- ---- where one file's bytes are
 
@@ -149,10 +150,11 @@ module _ (numbers segments n : ℕ) where
       let differ = sees_same w v r there t e.cred e.event unread.0 in
       let after = after_event numbers w e.cred e.event in
       let twins = twin_event Shut numbers segments w v e.cred tree t e.event differ in
-      let below = event_tree numbers segments w e.cred e.event tree legal.0 in
-      (same_event Shut numbers segments w v e.cred tree t e.event differ legal.0,
-      on_from es after _ below twins legal.1
-      (λ s is. shut_run es after _ s below is twins (still_unread r s (still_after w e.cred e.event r s tree legal.0 unread.0 there is) es unread.1) legal.1) _ refl)
+      let below = event_tree numbers segments w e.cred e.event tree legal.0 in (
+        same_event Shut numbers segments w v e.cred tree t e.event differ legal.0,
+        on_from es after _ below twins legal.1
+            (λ s is. shut_run es after _ s below is twins (still_unread r s (still_after w e.cred e.event r s tree legal.0 unread.0 there is) es unread.1) legal.1) _ refl,
+      )
 
 -- ---- the worlds that a run begins with
 

@@ -33,6 +33,7 @@ pub mod LawRewritten
 pub mod LawSeen
 pub mod LawServed
 pub mod LawShown
+pub mod LawStrangers
 pub mod LawSystemNames
 pub mod LawTrees
 pub mod LawUnread

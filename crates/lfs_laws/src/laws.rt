@@ -43,6 +43,7 @@ ghost use Rattle.lfs_laws.specs.LawRegranted.{RightBetween};
 ghost use Rattle.lfs_laws.specs.LawRewritten.{Rewritten};
 ghost use Rattle.lfs_laws.specs.LawServed.{ServedExactlyWhereMay};
 ghost use Rattle.lfs_laws.specs.LawShown.{Shown};
+ghost use Rattle.lfs_laws.specs.LawStrangers.{StrangersLeave};
 ghost use Rattle.lfs_laws.specs.LawSystemNames.{NoSystemNameComes, SystemNamesStay, SystemPathStays};
 ghost use Rattle.lfs_laws.specs.LawTrees.{LeavesTree};
 ghost use Rattle.lfs_laws.specs.LawUnread.{NobodyReads};
@@ -240,8 +241,10 @@ pub fn same_answers()
     ensures { SameAnswers }
 {}
 
-/// By a call whoever isn't granted to read a file learns nothing of its bytes but how many they are: with other bytes in it, each
-/// answer that the call may have it may have still, NoInodes, DirectoryFull and NoSpace among them.
+/// Whoever isn't granted to read a file learns nothing of its bytes but how many they are. By a call: with other bytes in files that
+/// he isn't granted to read or doesn't reach, each answer that it may have it may have still, NoInodes, DirectoryFull and NoSpace
+/// among them. Through a run of users whom the file grants no read and who don't own it: with other bytes in it, the same answers
+/// may come, whatever they call and the cleaner does.
 pub fn nobody_reads()
     ensures call { NobodyReads }
     ensures run { NobodyReadsInRun }
@@ -318,6 +321,12 @@ pub fn closed_door_hides()
 pub fn path_stays()
     ensures stays { PathStays }
     ensures guarded { GuardedIsLeft }
+{}
+
+/// Through any calls of users who are neither user 0 nor its owner a row keeps its kind, its owner, its group and its flags and,
+/// but for the set-id bits, its mode; or one of them removed it, who might.
+pub fn strangers_leave()
+    ensures { StrangersLeave }
 {}
 
 /// A row stays in its directory under its name through any calls of users who are not user 0, own neither of the two, and are kept
