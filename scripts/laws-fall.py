@@ -9,6 +9,7 @@ none falls with a change. It is a second reading of definitions and laws, not a 
 import random
 import sys
 
+sys.dont_write_bytecode = True
 from laws_model import END, LIMIT, Caller, Model, Row, World, bits, path_of, some_call, some_caller, some_path, some_world
 
 
