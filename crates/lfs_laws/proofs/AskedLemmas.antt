@@ -86,7 +86,8 @@ module _ (D : Denial → Type 0) (rows : Rows) (caller : Caller) (index : ℕ) (
         (λ j low high. let within : j < length path = omega (arith, high, long) in on NameThere j (low, within))
 
     -- what is asked of a directory in which a name is looked for
-    searching_each : ((rule : Rule) (at : ℕ) → OnWay path rule at → D (named rule index at)) → (dir : Attrs) → Each D (searching_tests caller index dir (length (front path)))
+    searching_each : ((rule : Rule) (at : ℕ) → OnWay path rule at → D (named rule index at)) → (dir : Attrs)
+        → Each D (searching_tests caller index dir (length (front path)))
     searching_each on dir =
         let long = length-front path filled in
         let within : length (front path) < length path = omega (arith, long) in
@@ -192,7 +193,9 @@ module _ (D : Denial → Type 0) (w : World) (caller : Caller) (from to : List (
         (λ h. end IsNoDirectory _ long tt, (λ h. end IsDirectory _ long tt, (λ h. end IsEmpty _ long tt, tt))))
         last_each)
 
-  arriving_asked : (denial : Denial) → first_failing (arriving w.rows caller to ++ moving_tests w.rows caller from to (child w.rows (reached w.rows root (front to)) (last to))) ≡ Some denial → D denial
+  arriving_asked : (denial : Denial)
+      → first_failing (arriving w.rows caller to ++ moving_tests w.rows caller from to (child w.rows (reached w.rows root (front to)) (last to))) ≡ Some denial
+      → D denial
   arriving_asked denial = fails D (not (length to == 0)) _ _
       (λ none. end IsNotRoot 0 (root_length to none) tt)
       (λ some.
@@ -224,10 +227,12 @@ module _ (Named : Rule → Type 0) (w : World) (caller : Caller) (path : List (L
   named_end : (rule : Rule) → Named rule → Along (named rule 0 (length path))
   named_end rule h = (refl, inr (inr (refl, h)))
 
-  reaching_asked : (tests : List Check) → Each Along tests → (denial : Denial) → first_failing (walk w.rows caller 0 0 root path ++ tests) ≡ Some denial → Along denial
+  reaching_asked : (tests : List Check) → Each Along tests → (denial : Denial)
+      → first_failing (walk w.rows caller 0 0 root path ++ tests) ≡ Some denial → Along denial
   reaching_asked tests h = each Along _ (each-append Along _ tests (walked_each Along w.rows caller 0 path (λ rule at on. (refl, inl on))) h)
 
-level_asked : (w : World) (caller : Caller) (level : Level) (denial : Denial) → decide w caller (SetLevel level) ≡ Some denial → IsAsked (SetLevel level) denial
+level_asked : (w : World) (caller : Caller) (level : Level) (denial : Denial) → decide w caller (SetLevel level) ≡ Some denial
+    → IsAsked (SetLevel level) denial
 level_asked w caller level =
     let told : Each (IsAsked (SetLevel level)) (level_tests caller w.level level) = (λ h. (refl, refl, tt), (λ h. (refl, refl, tt), tt)) in
     each (IsAsked (SetLevel level)) (level_tests caller w.level level) told

@@ -89,7 +89,8 @@ callers_alike w caller other request same init =
 -- ---- marks
 
 -- what doesn't ask of other flags says the same of rows that have the same locks
-by_locks : {A : Type 0} (T : Option Row → A) → ((r s : Row) → HasSameLocks r s → T (Some r) ≡ T (Some (record r { file = record r.file { flags = s.file.flags } })))
+by_locks : {A : Type 0} (T : Option Row → A)
+    → ((r s : Row) → HasSameLocks r s → T (Some r) ≡ T (Some (record r { file = record r.file { flags = s.file.flags } })))
     → (o p : Option Row) → NumberHasSameLocks o p → T o ≡ T p
 by_locks T h None None same = refl
 by_locks T h None (Some s) same = absurd same
@@ -103,7 +104,8 @@ append_alike : (r s : Row) → HasSameLocks r s → is_append_only (attrs_of r.f
 append_alike r s h = λ i. (h.user_append i == 1) || (h.system_append i == 1)
 
 module _ (w v : World) (caller : Caller) (differ : DifferInMarks w v) where
-  by_number : {A : Type 0} (T : Option Row → A) → ((r s : Row) → HasSameLocks r s → T (Some r) ≡ T (Some (record r { file = record r.file { flags = s.file.flags } })))
+  by_number : {A : Type 0} (T : Option Row → A)
+      → ((r s : Row) → HasSameLocks r s → T (Some r) ≡ T (Some (record r { file = record r.file { flags = s.file.flags } })))
       → (n : ℕ) → T (map.get w.rows n) ≡ T (map.get v.rows n)
   by_number T h n = by_locks T h (map.get w.rows n) (map.get v.rows n) (differ.rows n)
 
@@ -141,13 +143,15 @@ module _ (w v : World) (caller : Caller) (differ : DifferInMarks w v) where
 
   -- ---- flags that are set
 
-  keeps_alike : (flags n : ℕ) → keeps_system_locks w.level (attrs_at w.rows n).flags flags ≡ keeps_system_locks v.level (attrs_at v.rows n).flags flags
+  keeps_alike : (flags n : ℕ)
+      → keeps_system_locks w.level (attrs_at w.rows n).flags flags ≡ keeps_system_locks v.level (attrs_at v.rows n).flags flags
   keeps_alike flags n =
       by_number (λ o. keeps_system_locks w.level (file_at o).flags flags)
       (λ r s h i. not (is_above_zero w.level && (((h.system_immutable i == 1) && not (has_bit flags 0x2_0000)) || ((h.system_append i == 1) && not (has_bit flags 0x4_0000))))) n
       ∙ ap (λ level. keeps_system_locks level (attrs_at v.rows n).flags flags) differ.level
 
-  may_by : (flags : ℕ) (o p : Option Row) → NumberHasSameLocks o p → ((r s : Row) → o ≡ Some r → p ≡ Some s → r.file.flags / 0x1_0000 ≡ s.file.flags / 0x1_0000)
+  may_by : (flags : ℕ) (o p : Option Row) → NumberHasSameLocks o p
+      → ((r s : Row) → o ≡ Some r → p ≡ Some s → r.file.flags / 0x1_0000 ≡ s.file.flags / 0x1_0000)
       → may_set_flags caller (file_at o).flags flags ≡ may_set_flags caller (file_at p).flags flags
   may_by flags None None h same = refl
   may_by flags None (Some s) h same = absurd h
@@ -159,7 +163,8 @@ module _ (w v : World) (caller : Caller) (differ : DifferInMarks w v) where
   super_may : (flags old : ℕ) → caller.uid ≡ 0 → may_set_flags caller old flags ≡ true
   super_may flags old super = ap (λ u. (u == 0) || not (not (old / 0x1_0000 == flags / 0x1_0000) || (has_bit old 0x2_0000 || has_bit old 0x4_0000))) super
 
-  may_alike : (flags : ℕ) → (caller.uid ≢ 0 → HaveSameSystemFlags w v) → (n : ℕ) → may_set_flags caller (attrs_at w.rows n).flags flags ≡ may_set_flags caller (attrs_at v.rows n).flags flags
+  may_alike : (flags : ℕ) → (caller.uid ≢ 0 → HaveSameSystemFlags w v) → (n : ℕ)
+      → may_set_flags caller (attrs_at w.rows n).flags flags ≡ may_set_flags caller (attrs_at v.rows n).flags flags
   may_alike flags system n = ⊎_elim
       (λ super. super_may flags (attrs_at w.rows n).flags super ∙ sym (super_may flags (attrs_at v.rows n).flags super))
       (λ other. may_by flags (map.get w.rows n) (map.get v.rows n) (differ.rows n) (λ r s. system other n r s))

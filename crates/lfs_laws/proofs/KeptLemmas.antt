@@ -83,14 +83,16 @@ here : (row : Row) → IsStillHere row row
 here row = record { hangs = record { parents = refl; names = refl }; kind = refl; uid = refl; gid = refl; flags = refl; mode = inl refl }
 
 module _ (numbers segments : ℕ) (w : World) (n : ℕ) (row dir : Row) (tree : IsTree w.rows) (below : n ≢ root) (there : map.get w.rows n ≡ Some row) (above : map.get w.rows row.parent ≡ Some dir) where
-  row_event : (caller : Caller) (event : Event) → IsEvent numbers segments w caller event → IsStranger dir row caller event → IsSomeAnd (map.get (after_event numbers w caller event).rows n) (IsStillHere row)
+  row_event : (caller : Caller) (event : Event) → IsEvent numbers segments w caller event → IsStranger dir row caller event
+      → IsSomeAnd (map.get (after_event numbers w caller event).rows n) (IsStillHere row)
   row_event caller (User request (Served shown)) is strange =
       row_stays w _ caller request tree n row dir below there above strange.0 strange.1 strange.2 strange.3 (fate numbers w caller tree n row there request (Served shown) is)
   row_event caller (User request (Denied denial)) is strange = is_some_and (IsStillHere row) there (here row)
   row_event caller (User request (Refused resource)) is strange = is_some_and (IsStillHere row) there (here row)
   row_event caller (Cleaner kind outcome) is strange = is_some_and (IsStillHere row) there (here row)
 
-  dir_event : (caller : Caller) (event : Event) → IsEvent numbers segments w caller event → IsStranger dir row caller event → IsSomeAnd (map.get (after_event numbers w caller event).rows row.parent) (SameFile dir.file)
+  dir_event : (caller : Caller) (event : Event) → IsEvent numbers segments w caller event → IsStranger dir row caller event
+      → IsSomeAnd (map.get (after_event numbers w caller event).rows row.parent) (SameFile dir.file)
   dir_event caller (User request (Served shown)) is strange =
       dir_stays w _ caller request tree n row dir below there above strange.0 strange.1 strange.2 strange.3 (fate numbers w caller tree row.parent dir above request (Served shown) is)
   dir_event caller (User request (Denied denial)) is strange = is_some_and (SameFile dir.file) above refl
@@ -100,7 +102,8 @@ module _ (numbers segments : ℕ) (w : World) (n : ℕ) (row dir : Row) (tree : 
 -- ---- lists of entries
 
 -- strangers to two rows are so to what these become
-strange_still : (dir row dir_now row_now : Row) → dir_now.file ≡ dir.file → row_now.file.uid ≡ row.file.uid → (caller : Caller) (event : Event) → IsStranger dir row caller event → IsStranger dir_now row_now caller event
+strange_still : (dir row dir_now row_now : Row) → dir_now.file ≡ dir.file → row_now.file.uid ≡ row.file.uid → (caller : Caller) (event : Event)
+    → IsStranger dir row caller event → IsStranger dir_now row_now caller event
 strange_still dir row dir_now row_now d r caller (User request answer) s = (
   s.0,
   λ e. s.1 (e ∙ ap (λ (f : File). f.uid) d),
@@ -109,7 +112,8 @@ strange_still dir row dir_now row_now d r caller (User request answer) s = (
 )
 strange_still dir row dir_now row_now d r caller (Cleaner kind outcome) s = tt
 
-all_strange : (dir row dir_now row_now : Row) → dir_now.file ≡ dir.file → row_now.file.uid ≡ row.file.uid → (entries : List Entry) → AreStrangers dir row entries → AreStrangers dir_now row_now entries
+all_strange : (dir row dir_now row_now : Row) → dir_now.file ≡ dir.file → row_now.file.uid ≡ row.file.uid → (entries : List Entry)
+    → AreStrangers dir row entries → AreStrangers dir_now row_now entries
 all_strange dir row dir_now row_now d r [] s = tt
 all_strange dir row dir_now row_now d r (e ∷ es) s = (strange_still dir row dir_now row_now d r e.cred e.event s.0, all_strange dir row dir_now row_now d r es s.1)
 

@@ -22,7 +22,8 @@ module _ (rows : Rows) (tree : IsTree rows) where
   pub child_of_hangs : (at : ℕ) (name : List ℕ) (m : ℕ) → IsChild rows at name m → child rows at name ≡ Some m
   child_of_hangs at name m hangs = the_child at name m hangs _ refl
 
-  leads_on : (at n : ℕ) (name : List ℕ) (names : List (List ℕ)) → ((m : ℕ) → led rows (Some m) names ≡ Some n → Leads rows m names n) → (o : Option ℕ) → child rows at name ≡ o
+  leads_on : (at n : ℕ) (name : List ℕ) (names : List (List ℕ)) → ((m : ℕ) → led rows (Some m) names ≡ Some n → Leads rows m names n) → (o : Option ℕ)
+      → child rows at name ≡ o
       → led rows o names ≡ Some n → Leads rows at (name ∷ names) n
   leads_on at n name names rest None e h = absurd (cc (sym (led_none rows nobody tree names) ∙ h))
   leads_on at n name names rest (Some m) e h = (m, child-is rows at name m e, rest m h)

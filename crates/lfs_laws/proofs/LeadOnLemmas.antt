@@ -70,7 +70,8 @@ place_fate w v caller request n r (Gives uid gid e x) = inl (record { row = _; i
 place_fate w v caller request n r (Reflags flags e x) = inl (record { row = _; is = e; hangs = here r _ refl refl })
 
 -- by a Rename nothing of a row changes but its place
-whole : (w v : World) (caller : Caller) (from to : List (List ℕ)) (n : ℕ) (r s : Row) → map.get v.rows n ≡ Some s → Fate w caller (Rename from to) v n r → IsSomeAnd (map.get v.rows n) (DiffersInPlace r)
+whole : (w v : World) (caller : Caller) (from to : List (List ℕ)) (n : ℕ) (r s : Row) → map.get v.rows n ≡ Some s
+    → Fate w caller (Rename from to) v n r → IsSomeAnd (map.get v.rows n) (DiffersInPlace r)
 whole w v caller from to n r s is (Stays e) = is_some_and (DiffersInPlace r) e refl
 whole w v caller from to n r s is (Goes e x over) = none_there _ s e is
 whole w v caller from to n r s is (Moves parent name e x) = is_some_and (DiffersInPlace r) e refl
@@ -142,7 +143,8 @@ CutFrom w at names n (Rmdir other) = reached w.rows root other ≡ n
 CutFrom w at names n (Rename from to) = passes w.rows at names (reached w.rows root from) ≡ true
 CutFrom w at names n request = ⊥
 
-cut_further : (w : World) (at : ℕ) (name : List ℕ) (names : List (List ℕ)) (n : ℕ) (request : Request) → CutFrom w (next w.rows at name) names n request → CutFrom w at (name ∷ names) n request
+cut_further : (w : World) (at : ℕ) (name : List ℕ) (names : List (List ℕ)) (n : ℕ) (request : Request)
+    → CutFrom w (next w.rows at name) names n request → CutFrom w at (name ∷ names) n request
 cut_further w at name names n (Unlink other) h = h
 cut_further w at name names n (Rmdir other) h = h
 cut_further w at name names n (Rename from to) h = or_right _ _ h
@@ -161,7 +163,8 @@ Outcome w v request at names n =
     ⊎ ((led v.rows (Some at) names ≡ None) × CutFrom w at names n request)
     ⊎ ((m : ℕ) × (led v.rows (Some at) names ≡ Some m) × Replaces w v n m request)
 
-further : (w v : World) (request : Request) (at : ℕ) (name : List ℕ) (names : List (List ℕ)) (n : ℕ) → child v.rows at name ≡ Some (next w.rows at name)
+further : (w v : World) (request : Request) (at : ℕ) (name : List ℕ) (names : List (List ℕ)) (n : ℕ)
+    → child v.rows at name ≡ Some (next w.rows at name)
     → Outcome w v request (next w.rows at name) names n → Outcome w v request at (name ∷ names) n
 further w v request at name names n e = ⊎_elim
     (λ leads. inl (ap (λ o. led v.rows o names) e ∙ leads))
@@ -172,7 +175,8 @@ further w v request at name names n e = ⊎_elim
 
 module _ (numbers : ℕ) (w : World) (caller : Caller) (tree : IsTree w.rows) (at : ℕ) (name : List ℕ) (k : ℕ) (c : IsChild w.rows at name k) where
   -- what replaced a row hangs in its place, whole
-  taken : (from to : List (List ℕ)) (allowed : decide w caller (Rename from to) ≡ None) (room : LacksInodes numbers w (Rename from to) → ⊥) → reached w.rows root to ≡ k
+  taken : (from to : List (List ℕ)) (allowed : decide w caller (Rename from to) ≡ None) (room : LacksInodes numbers w (Rename from to) → ⊥)
+      → reached w.rows root to ≡ k
       → gone.TakesOver w (effect numbers w caller (Rename from to)) (Rename from to) c.row
       → Outcome w (effect numbers w caller (Rename from to)) (Rename from to) at (name ∷ []) k
   taken from to allowed room onto over =
@@ -194,7 +198,8 @@ module _ (numbers : ℕ) (w : World) (caller : Caller) (tree : IsTree w.rows) (a
       ))
 
   -- a row that was removed: the name leads nowhere, or to what replaced it
-  gone_case : (request : Request) (allowed : decide w caller request ≡ None) (room : LacksInodes numbers w request → ⊥) (kind : Kind) → gone.Removes w k kind request
+  gone_case : (request : Request) (allowed : decide w caller request ≡ None) (room : LacksInodes numbers w request → ⊥) (kind : Kind)
+      → gone.Removes w k kind request
       → gone.TakesOver w (effect numbers w caller request) request c.row → map.get (effect numbers w caller request).rows k ≡ None
       → Outcome w (effect numbers w caller request) request at (name ∷ []) k
   gone_case (Unlink path) allowed room Regular asked over none =
@@ -207,7 +212,8 @@ module _ (numbers : ℕ) (w : World) (caller : Caller) (tree : IsTree w.rows) (a
   gone_case request allowed room Directory asked over none = absurd asked
 
   -- a row that was moved: the name leads nowhere
-  went_case : (request : Request) (allowed : decide w caller request ≡ None) (room : LacksInodes numbers w request → ⊥) (names : List (List ℕ)) (n : ℕ) → k ≡ next w.rows at name
+  went_case : (request : Request) (allowed : decide w caller request ≡ None) (room : LacksInodes numbers w request → ⊥) (names : List (List ℕ)) (n : ℕ)
+      → k ≡ next w.rows at name
       → (parent : ℕ) (title : List ℕ) → Renames w k parent title request
       → map.get (effect numbers w caller request).rows k ≡ Some (record c.row { parent = parent; name = title })
       → (HangsStill c.row (record c.row { parent = parent; name = title }) → ⊥)
@@ -229,7 +235,8 @@ module _ (numbers : ℕ) (w : World) (caller : Caller) (tree : IsTree w.rows) (r
   after_it = effect numbers w caller request
 
   -- nothing leads on from a row in which nothing hangs
-  last_case : (at : ℕ) (name : List ℕ) (names : List (List ℕ)) (n : ℕ) (c : IsChild w.rows at name (next w.rows at name)) → led w.rows (Some (next w.rows at name)) names ≡ Some n
+  last_case : (at : ℕ) (name : List ℕ) (names : List (List ℕ)) (n : ℕ) (c : IsChild w.rows at name (next w.rows at name))
+      → led w.rows (Some (next w.rows at name)) names ≡ Some n
       → Left w after_it caller request (next w.rows at name) c.row → Outcome w after_it request at (name ∷ names) n
   last_case at name [] n c h left =
       let same : next w.rows at name ≡ n = cc in
@@ -258,7 +265,8 @@ module _ (numbers : ℕ) (w : World) (caller : Caller) (tree : IsTree w.rows) (r
       (cases_place c.row (record c.row { parent = went.parent; name = went.name })))
       more) (place_of numbers w caller tree request allowed room k c.row c.there)
 
-  leads_after : (path : List (List ℕ)) (n : ℕ) → led w.rows (Some root) path ≡ Some n → LeadsAfter w path n (User request (Served (answer_of w request))) after_it
+  leads_after : (path : List (List ℕ)) (n : ℕ) → led w.rows (Some root) path ≡ Some n
+      → LeadsAfter w path n (User request (Served (answer_of w request))) after_it
   leads_after path n h = ⊎_elim
       (λ leads. inl leads)
       (λ more. ⊎_elim (λ cut. inr (inl (cut.0, cut_whole w path n request cut.1))) (λ other. inr (inr other)) more)
@@ -266,7 +274,8 @@ module _ (numbers : ℕ) (w : World) (caller : Caller) (tree : IsTree w.rows) (r
 
 -- ---- events and runs
 
-by_event : (numbers segments : ℕ) (w : World) (caller : Caller) (event : Event) (path : List (List ℕ)) (n : ℕ) → IsTree w.rows → IsEvent numbers segments w caller event
+by_event : (numbers segments : ℕ) (w : World) (caller : Caller) (event : Event) (path : List (List ℕ)) (n : ℕ) → IsTree w.rows
+    → IsEvent numbers segments w caller event
     → led w.rows (Some root) path ≡ Some n → LeadsAfter w path n event (after_event numbers w caller event)
 by_event numbers segments w caller (User request (Served shown)) path n tree may h = leads_after numbers w caller tree request may.0 may.1 path n h
 by_event numbers segments w caller (User request (Denied denial)) path n tree may h = inl h
@@ -278,7 +287,8 @@ path_leads_on numbers segments [] entry later w path n tree legal h = by_event n
 path_leads_on numbers segments (e ∷ es) entry later w path n tree legal h =
     path_leads_on numbers segments es entry later (after_event numbers w e.cred e.event) path n (event_tree numbers segments w e.cred e.event tree legal.0) legal.1 h
 
-cut_now : (w : World) (caller : Caller) (path : List (List ℕ)) (n : ℕ) (event : Event) → led w.rows (Some root) path ≡ Some n → IsServed (CutsOff w path n) event → IsServed (CutsOffNow path w caller) event
+cut_now : (w : World) (caller : Caller) (path : List (List ℕ)) (n : ℕ) (event : Event) → led w.rows (Some root) path ≡ Some n
+    → IsServed (CutsOff w path n) event → IsServed (CutsOffNow path w caller) event
 cut_now w caller path n (User request (Served shown)) h cut = (n, h, cut)
 cut_now w caller path n (User request (Denied denial)) h cut = cut
 cut_now w caller path n (User request (Refused resource)) h cut = cut

@@ -112,7 +112,8 @@ stays_set true true dx dy = (λ h. inr (dy.0 refl), λ h. refl)
 stays_set true false dx dy = (λ h. absurd (cc), λ h. ⊎_elim (λ a. absurd (cc (dx.1 a))) (λ b. absurd (cc (dy.1 b))) h)
 stays_set false y dx dy = (λ h. inl (dx.0 refl), λ h. refl)
 
-unless_above : {C D : Type 0} (a c d : Bool) (n : ℕ) → Decides a (1 < n) → Decides (not c) C → Decides (not d) D → Decides (not (a && (c || d))) ((n ≤ 1) ⊎ (C × D))
+unless_above : {C D : Type 0} (a c d : Bool) (n : ℕ) → Decides a (1 < n) → Decides (not c) C → Decides (not d) D
+    → Decides (not (a && (c || d))) ((n ≤ 1) ⊎ (C × D))
 unless_above true true d n da dc dd = (λ h. absurd (cc), λ h. let high = da.0 refl in ⊎_elim (λ e. absurd (omega (arith, high, e))) (λ p. absurd (cc (dc.1 p.0))) h)
 unless_above true false true n da dc dd = (λ h. absurd (cc), λ h. let high = da.0 refl in ⊎_elim (λ e. absurd (omega (arith, high, e))) (λ p. absurd (cc (dd.1 p.1))) h)
 unless_above true false false n da dc dd = (λ h. inr (dc.0 refl, dd.0 refl), λ h. refl)
@@ -136,7 +137,8 @@ same_upper m n = twice (m == n) (Decides-eqb m n)
     twice false d = d
 
 -- who isn't user 0 may set these
-others_flags : (caller : Caller) (old new : ℕ) → caller.uid ≢ 0 → Decides (may_set_flags caller old new) ((old / 0x1_0000 ≡ new / 0x1_0000) × (IsOff old 0x2_0000 × IsOff old 0x4_0000))
+others_flags : (caller : Caller) (old new : ℕ) → caller.uid ≢ 0
+    → Decides (may_set_flags caller old new) ((old / 0x1_0000 ≡ new / 0x1_0000) × (IsOff old 0x2_0000 × IsOff old 0x4_0000))
 others_flags caller old new other =
     Decides-at _ _ (ap (λ b. b || not (not (old / 0x1_0000 == new / 0x1_0000) || (has_bit old 0x2_0000 || has_bit old 0x4_0000))) (ne_eqb caller.uid 0 other))
     (neither _ _ (same_upper (old / 0x1_0000) (new / 0x1_0000)) (neither _ _ (off old 0x2_0000) (off old 0x4_0000)))

@@ -52,7 +52,8 @@ names-many rows dir = length-in_byte_order (names_in rows dir) ∙ length-map (c
 module _ (w : World) (caller : Caller) (tree : IsTree w.rows) where
   -- a directory with so many rows in it has so many names
   is_full : (path : List (List ℕ)) → LeadsTo w.rows path (reached w.rows root (front path)) (last path)
-      → child w.rows (reached w.rows root (front path)) (last path) ≡ None → FILE_BLOCKS ≤ length (children w.rows (reached w.rows root (front path))) → IsFull w.rows path
+      → child w.rows (reached w.rows root (front path)) (last path) ≡ None → FILE_BLOCKS ≤ length (children w.rows (reached w.rows root (front path)))
+      → IsFull w.rows path
   is_full path leads free many =
       let dir = reached w.rows root (front path) in
       let count = names-many w.rows dir in
@@ -104,7 +105,8 @@ writes (Names path) h = h
 writes (SetLevel level) h = h
 writes request h = h
 
-lacked : (numbers : ℕ) (w : World) (caller : Caller) (request : Request) (resource : Resource) → IsTree w.rows → decide w caller request ≡ None → MayLack numbers w request resource
+lacked : (numbers : ℕ) (w : World) (caller : Caller) (request : Request) (resource : Resource) → IsTree w.rows → decide w caller request ≡ None
+    → MayLack numbers w request resource
     → Lacked numbers w request resource
 lacked numbers w caller request NoInodes tree allowed h = lacks_number numbers w request h
 lacked numbers w caller request DirectoryFull tree allowed h = fills_up w caller tree request allowed h.1

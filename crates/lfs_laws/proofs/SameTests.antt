@@ -137,7 +137,8 @@ module _ (w v : World) (c d : Caller) (same : SameTests w.rows v.rows c d) where
       ∷ asks (length (same.children i m) == 0) IsEmpty 1 (k + 1)
       ∷ [])) ++ last_same from to i)
 
-  named_same : (names : List (List ℕ)) → child w.rows (reached w.rows root (front names)) (last names) ≡ child v.rows (reached v.rows root (front names)) (last names)
+  named_same : (names : List (List ℕ))
+      → child w.rows (reached w.rows root (front names)) (last names) ≡ child v.rows (reached v.rows root (front names)) (last names)
   named_same names = λ i. same.child i (reached_same i root (front names)) (last names)
 
   -- what is asked behind the walk of a Chflags, and of a SetLevel

@@ -27,7 +27,8 @@ use Rattle.lfs_laws.proofs.LegalTrees.{event_tree}
 use Rattle.lfs_laws.proofs.RowLaws.{row_of}
 use Rattle.lfs_types.proofs.Somewhere.{is_some_and, none_there, some_and}
 
-whose_by : (r x s : Row) → s ≡ x → x.file.kind ≡ r.file.kind → x.file.uid ≡ r.file.uid → x.file.gid ≡ r.file.gid → x.file.flags ≡ r.file.flags → KeepsMode r.file.mode x.file.mode → IsStillWhose r s
+whose_by : (r x s : Row) → s ≡ x → x.file.kind ≡ r.file.kind → x.file.uid ≡ r.file.uid → x.file.gid ≡ r.file.gid → x.file.flags ≡ r.file.flags
+    → KeepsMode r.file.mode x.file.mode → IsStillWhose r s
 whose_by r x s e kind uid gid flags mode = subst (IsStillWhose r) (sym e) (record { kind = kind; uid = uid; gid = gid; flags = flags; mode = mode })
 
 whose_on : (x y z : Row) → IsStillWhose x y → IsStillWhose y z → IsStillWhose x z
@@ -65,7 +66,8 @@ still_foreign r s same (e ∷ es) h = (by e.event h.0, still_foreign r s same es
     by (Cleaner kind outcome) u = u
 
 module _ (numbers segments n : ℕ) where
-  whose_event : (w : World) (caller : Caller) (event : Event) (r s : Row) → IsTree w.rows → IsEvent numbers segments w caller event → IsNotOwner r caller event
+  whose_event : (w : World) (caller : Caller) (event : Event) (r s : Row) → IsTree w.rows → IsEvent numbers segments w caller event
+      → IsNotOwner r caller event
       → map.get w.rows n ≡ Some r → map.get (after_event numbers w caller event).rows n ≡ Some s → IsStillWhose r s
   whose_event w caller (User request (Served shown)) r s tree may u there is = whose_fate w _ caller request n r s there is u.0 u.1 (fate numbers w caller tree n r there request (Served shown) may)
   whose_event w caller (User request (Denied denial)) r s tree may u there is = whose_by r _ s (row_of _ _ s there is) refl refl refl refl (inl refl)
@@ -103,7 +105,8 @@ module _ (numbers segments n : ℕ) where
   abbrev Left : Row → List Entry → World → Type 0
   Left r entries w = IsSomeAnd (map.get (world_after numbers entries w).rows n) (IsStillWhose r) ⊎ Removed entries w
 
-  by_row : (e : Entry) (es : List Entry) (w : World) (r : Row) → IsTree w.rows → IsLegal numbers segments (e ∷ es) w → map.get w.rows n ≡ Some r → IsNotOwner r e.cred e.event
+  by_row : (e : Entry) (es : List Entry) (w : World) (r : Row) → IsTree w.rows → IsLegal numbers segments (e ∷ es) w → map.get w.rows n ≡ Some r
+      → IsNotOwner r e.cred e.event
       → ((s : Row) → map.get (after_event numbers w e.cred e.event).rows n ≡ Some s → IsStillWhose r s → Left s es (after_event numbers w e.cred e.event))
       → (o : Option Row) → map.get (after_event numbers w e.cred e.event).rows n ≡ o → Left r (e ∷ es) w
   by_row e es w r tree legal there foreign rest None is = inr (among_more (e ∷ []) es w (gone_between numbers segments (e ∷ []) w n r tree (legal.0, tt) there is))
@@ -114,7 +117,8 @@ module _ (numbers segments n : ℕ) where
       (λ removed. inr (later_on e es w removed))
       (rest s is whose)
 
-  leave : (entries : List Entry) (w : World) (r : Row) → IsTree w.rows → IsLegal numbers segments entries w → map.get w.rows n ≡ Some r → AreNotOwners r entries → Left r entries w
+  leave : (entries : List Entry) (w : World) (r : Row) → IsTree w.rows → IsLegal numbers segments entries w → map.get w.rows n ≡ Some r
+      → AreNotOwners r entries → Left r entries w
   leave [] w r tree legal there foreign = inl (is_some_and (IsStillWhose r) there (whose_by r r r refl refl refl refl refl (inl refl)))
   leave (e ∷ es) w r tree legal there foreign =
       by_row e es w r tree legal there foreign.0

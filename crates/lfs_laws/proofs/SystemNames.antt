@@ -42,20 +42,23 @@ abbrev HasFirst : Row → Type 0
 HasFirst r = has_bit r.file.flags 0x2_0000 ≡ true
 
 module _ (numbers segments d : ℕ) where
-  above_still : (w : World) (caller : Caller) (event : Event) → IsEvent numbers segments w caller event → Above w → (IsServed (DropsLevel w caller) event → ⊥) → Above (after_event numbers w caller event)
+  above_still : (w : World) (caller : Caller) (event : Event) → IsEvent numbers segments w caller event → Above w
+      → (IsServed (DropsLevel w caller) event → ⊥) → Above (after_event numbers w caller event)
   above_still w caller (User request (Served shown)) is above none = above_event numbers w caller request is.0 above none
   above_still w caller (User request (Denied denial)) is above none = above
   above_still w caller (User request (Refused resource)) is above none = above
   above_still w caller (Cleaner kind outcome) is above none = above
 
   -- by one entry SF_IMMUTABLE stays, and so does either lock
-  first_still : (w : World) (e : Entry) (dir : Row) → IsEvent numbers segments w e.cred e.event → (IsServed (DropsLevel w e.cred) e.event → ⊥) → Above w → map.get w.rows d ≡ Some dir → HasFirst dir
+  first_still : (w : World) (e : Entry) (dir : Row) → IsEvent numbers segments w e.cred e.event → (IsServed (DropsLevel w e.cred) e.event → ⊥)
+      → Above w → map.get w.rows d ≡ Some dir → HasFirst dir
       → IsSomeAnd (map.get (after_event numbers w e.cred e.event).rows d) HasFirst
   first_still w e dir is none above there set =
       let s = some_and _ (λ s. DiffersInFlags dir s × HasFirst s) (system_immutable_stays numbers segments (e ∷ []) w d dir (is, tt) (none, tt) above there set) in
       is_some_and HasFirst s.is s.holds.1
 
-  lock_still : (w : World) (e : Entry) (dir : Row) → IsEvent numbers segments w e.cred e.event → (IsServed (DropsLevel w e.cred) e.event → ⊥) → Above w → map.get w.rows d ≡ Some dir → HasLock dir
+  lock_still : (w : World) (e : Entry) (dir : Row) → IsEvent numbers segments w e.cred e.event → (IsServed (DropsLevel w e.cred) e.event → ⊥)
+      → Above w → map.get w.rows d ≡ Some dir → HasLock dir
       → IsSomeAnd (map.get (after_event numbers w e.cred e.event).rows d) HasLock
   lock_still w e dir is none above there set = ⊎_elim
       (λ first. let s = some_and _ HasFirst (first_still w e dir is none above there first) in is_some_and HasLock s.is (or_left _ _ s.holds))
@@ -64,7 +67,8 @@ module _ (numbers segments d : ℕ) where
       is_some_and HasLock s.is (or_right _ _ s.holds.1))
       (or_cases (has_bit dir.file.flags 0x2_0000) (has_bit dir.file.flags 0x4_0000) set)
 
-  stay : (entries : List Entry) (w : World) (dir : Row) (name : List ℕ) (n : ℕ) → IsTree w.rows → IsLegal numbers segments entries w → NoneServed DropsLevel numbers entries w → Above w
+  stay : (entries : List Entry) (w : World) (dir : Row) (name : List ℕ) (n : ℕ) → IsTree w.rows → IsLegal numbers segments entries w
+      → NoneServed DropsLevel numbers entries w → Above w
       → map.get w.rows d ≡ Some dir → HasLock dir → IsChild w.rows d name n → IsChild (world_after numbers entries w).rows d name n
   stay [] w dir name n tree legal none above there set c = c
   stay (e ∷ es) w dir name n tree legal none above there set c =
@@ -73,7 +77,8 @@ module _ (numbers segments d : ℕ) where
       (above_still w e.cred e.event legal.0 above none.0) next_dir.is next_dir.holds
       (name_event numbers segments d w e.cred e.event dir name n tree legal.0 there (fixed dir set) c)
 
-  comes : (entries : List Entry) (w : World) (dir : Row) (name : List ℕ) (n : ℕ) → IsTree w.rows → IsLegal numbers segments entries w → NoneServed DropsLevel numbers entries w → Above w
+  comes : (entries : List Entry) (w : World) (dir : Row) (name : List ℕ) (n : ℕ) → IsTree w.rows → IsLegal numbers segments entries w
+      → NoneServed DropsLevel numbers entries w → Above w
       → map.get w.rows d ≡ Some dir → HasFirst dir → IsChild (world_after numbers entries w).rows d name n → IsChild w.rows d name n
   comes [] w dir name n tree legal none above there set c = c
   comes (e ∷ es) w dir name n tree legal none above there set c =
@@ -89,7 +94,8 @@ pub no_system_name_comes : NoSystemNameComes
 no_system_name_comes numbers segments entries w d dir name n tree legal none above there set c = comes numbers segments d entries w dir name n tree legal none above there set c
 
 module _ (numbers segments : ℕ) (entries : List Entry) (w : World) (tree : IsTree w.rows) (legal : IsLegal numbers segments entries w) (none : NoneServed DropsLevel numbers entries w) (above : Above w) where
-  leads_still : (path : List (List ℕ)) (at n : ℕ) → led w.rows (Some at) path ≡ Some n → IsLockedWay w.rows at path → led (world_after numbers entries w).rows (Some at) path ≡ Some n
+  leads_still : (path : List (List ℕ)) (at n : ℕ) → led w.rows (Some at) path ≡ Some n → IsLockedWay w.rows at path
+      → led (world_after numbers entries w).rows (Some at) path ≡ Some n
   leads_still [] at n h locked = h
   leads_still (name ∷ names) at n h locked =
       let after = world_after numbers entries w in

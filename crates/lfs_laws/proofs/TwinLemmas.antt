@@ -58,7 +58,8 @@ twin_attrs hidden f g t = (λ i. record { kind = f.kind; uid = f.uid; gid = f.gi
 abbrev Respects : Type 0 → (File → File) → Type 0
 Respects hidden change = (f : File) (bytes : List ℕ) → length f.bytes ≡ length bytes → ((hidden → ⊥) → f.bytes ≡ bytes) → FileTwin hidden (change f) (change (record f { bytes = bytes }))
 
-changed_twin : (hidden : Type 0) (change : File → File) → Respects hidden change → (f g : File) → FileTwin hidden f g → FileTwin hidden (change f) (change g)
+changed_twin : (hidden : Type 0) (change : File → File) → Respects hidden change → (f g : File) → FileTwin hidden f g
+    → FileTwin hidden (change f) (change g)
 changed_twin hidden change respects f g t = subst (λ (x : File). FileTwin hidden (change f) (change x)) (sym t.rest) (respects f g.bytes t.size t.same)
 
 spliced_size : (place : Place) (old other : List ℕ) (b : ℕ) (bs : List ℕ) → length old ≡ length other
@@ -92,7 +93,8 @@ module _ (Hidden : ℕ → Type 0) where
   abbrev RowsTwin : Rows → Rows → Type 0
   RowsTwin rows others = (m : ℕ) → NumberTwin (Hidden m) (map.get rows m) (map.get others m)
 
-  insert_twin : (rows others : Rows) (k : ℕ) (x y : Row) → RowTwin (Hidden k) x y → RowsTwin rows others → RowsTwin (map.insert rows k x) (map.insert others k y)
+  insert_twin : (rows others : Rows) (k : ℕ) (x y : Row) → RowTwin (Hidden k) x y → RowsTwin rows others
+      → RowsTwin (map.insert rows k x) (map.insert others k y)
   insert_twin rows others k x y t all m = ⊎_elim
       (λ same. subst (λ j. NumberTwin (Hidden j) (map.get (map.insert rows k x) j) (map.get (map.insert others k y) j)) (sym same)
       (subst (λ o. NumberTwin (Hidden k) o (map.get (map.insert others k y) k)) (sym (get-insert_same rows k x))
@@ -110,7 +112,8 @@ module _ (Hidden : ℕ → Type 0) where
       (subst (λ o. NumberTwin (Hidden m) (map.get rows m) o) (sym (get-remove_other others k m other)) (all m)))
       (cases_eq m k)
 
-  file_twin : (w v : World) (k : ℕ) (change : File → File) → Respects (Hidden k) change → Twins Hidden w v → (o p : Option Row) → NumberTwin (Hidden k) o p
+  file_twin : (w v : World) (k : ℕ) (change : File → File) → Respects (Hidden k) change → Twins Hidden w v → (o p : Option Row)
+      → NumberTwin (Hidden k) o p
       → Twins Hidden (with_file o k change w) (with_file p k change v)
   file_twin w v k change respects t None None h = t
   file_twin w v k change respects t None (Some s) h = absurd h
@@ -120,7 +123,8 @@ module _ (Hidden : ℕ → Type 0) where
     rows = insert_twin w.rows v.rows k _ _ (record { parents = h.parents; names = h.names; file = changed_twin (Hidden k) change respects r.file s.file h.file }) t.rows;
   }
 
-  place_twin : (w v : World) (k parent : ℕ) (name : List ℕ) → Twins Hidden w v → (o p : Option Row) → NumberTwin (Hidden k) o p → Twins Hidden (with_place o k parent name w) (with_place p k parent name v)
+  place_twin : (w v : World) (k parent : ℕ) (name : List ℕ) → Twins Hidden w v → (o p : Option Row) → NumberTwin (Hidden k) o p
+      → Twins Hidden (with_place o k parent name w) (with_place p k parent name v)
   place_twin w v k parent name t None None h = t
   place_twin w v k parent name t None (Some s) h = absurd h
   place_twin w v k parent name t (Some r) None h = absurd h
@@ -136,7 +140,8 @@ module _ (Hidden : ℕ → Type 0) where
   either_twin true w v x y a c = a
   either_twin false w v x y a c = c
 
-  rename_twin : (w v : World) (k parent : ℕ) (name : List ℕ) → Twins Hidden w v → (o : Option ℕ) → Twins Hidden (after_rename w k o parent name) (after_rename v k o parent name)
+  rename_twin : (w v : World) (k parent : ℕ) (name : List ℕ) → Twins Hidden w v → (o : Option ℕ)
+      → Twins Hidden (after_rename w k o parent name) (after_rename v k o parent name)
   rename_twin w v k parent name t None = place_twin w v k parent name t _ _ (t.rows k)
   rename_twin w v k parent name t (Some m) = either_twin (m == k) w v _ _ t (place_twin (without_row m w) (without_row m v) k parent name (without_twin w v m t) _ _ (t.rows k))
 

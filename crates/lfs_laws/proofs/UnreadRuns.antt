@@ -33,11 +33,13 @@ use Rattle.lfs_types.proofs.Somewhere.{none_there}
 -- ---- one event, where the caller sees the same
 
 module _ (Hidden : ℕ → Type 0) (numbers segments : ℕ) (w v : World) (caller : Caller) (tree : IsTree w.rows) (t : Twins Hidden w v) where
-  same_event : (event : Event) → ((request : Request) → (answer : _) → event ≡ User request answer → DifferUnread caller w v) → IsEvent numbers segments w caller event → IsEvent numbers segments v caller event
+  same_event : (event : Event) → ((request : Request) → (answer : _) → event ≡ User request answer → DifferUnread caller w v)
+      → IsEvent numbers segments w caller event → IsEvent numbers segments v caller event
   same_event (User request answer) differ is = answers_alike caller w v tree (differ request answer refl) numbers request answer is
   same_event (Cleaner kind outcome) differ is = is
 
-  twin_event : (event : Event) → ((request : Request) → (answer : _) → event ≡ User request answer → DifferUnread caller w v) → Twins Hidden (after_event numbers w caller event) (after_event numbers v caller event)
+  twin_event : (event : Event) → ((request : Request) → (answer : _) → event ≡ User request answer → DifferUnread caller w v)
+      → Twins Hidden (after_event numbers w caller event) (after_event numbers v caller event)
   twin_event (User request (Served shown)) differ = effect_twin Hidden numbers w v caller tree t (differ request (Served shown) refl) request
   twin_event (User request (Denied denial)) differ = t
   twin_event (User request (Refused resource)) differ = t
@@ -51,7 +53,8 @@ Open m = ⊥
 open_differ : (caller : Caller) (w v : World) → Twins Open w v → DifferUnread caller w v
 open_differ caller w v t = unread_twins Open caller w v (λ m. inr (λ h. h)) t (λ m h. absurd h)
 
-open_run : (numbers segments : ℕ) (entries : List Entry) (w v : World) → IsTree w.rows → Twins Open w v → IsLegal numbers segments entries w → IsLegal numbers segments entries v
+open_run : (numbers segments : ℕ) (entries : List Entry) (w v : World) → IsTree w.rows → Twins Open w v → IsLegal numbers segments entries w
+    → IsLegal numbers segments entries v
 open_run numbers segments [] w v tree t legal = tt
 open_run numbers segments (e ∷ es) w v tree t legal =
     let differ = λ (request : Request) (answer : _) (is : e.event ≡ User request answer). open_differ e.cred w v t in (
@@ -120,7 +123,8 @@ module _ (numbers segments n : ℕ) where
   abbrev Shut : ℕ → Type 0
   Shut m = m ≡ n
 
-  shut_differ : (caller : Caller) (w v : World) (r : Row) → map.get w.rows n ≡ Some r → Twins Shut w v → grants_of caller (attrs_of r.file) bits.Read ≡ false → DifferUnread caller w v
+  shut_differ : (caller : Caller) (w v : World) (r : Row) → map.get w.rows n ≡ Some r → Twins Shut w v
+      → grants_of caller (attrs_of r.file) bits.Read ≡ false → DifferUnread caller w v
   shut_differ caller w v r there t unread =
       unread_twins Shut caller w v (λ m. cases_eq m n) t
       (λ m here x at. ap (λ (y : Row). grants_of caller (attrs_of y.file) bits.Read) (row_of _ _ x there (ap (map.get w.rows) (sym here) ∙ at)) ∙ unread)
@@ -129,7 +133,8 @@ module _ (numbers segments n : ℕ) where
       → (request : Request) → (answer : _) → event ≡ User request answer → DifferUnread caller w v
   sees_same w v r there t caller event u request answer is = let h = subst (IsUnread r caller) is u in shut_differ caller w v r there t h.0
 
-  still_after : (w : World) (caller : Caller) (event : Event) (r s : Row) → IsTree w.rows → IsEvent numbers segments w caller event → IsUnread r caller event
+  still_after : (w : World) (caller : Caller) (event : Event) (r s : Row) → IsTree w.rows → IsEvent numbers segments w caller event
+      → IsUnread r caller event
       → map.get w.rows n ≡ Some r → map.get (after_event numbers w caller event).rows n ≡ Some s → Still r s
   still_after w caller (User request (Served shown)) r s tree may u there is = still w _ caller request n r s there is u.0 u.1 (fate numbers w caller tree n r there request (Served shown) may)
   still_after w caller (User request (Denied denial)) r s tree may u there is = still_by r _ s (row_of _ _ s there is) refl refl (inl refl)
@@ -137,14 +142,16 @@ module _ (numbers segments n : ℕ) where
   still_after w caller (Cleaner kind outcome) r s tree may u there is = still_by r _ s (row_of _ _ s there is) refl refl (inl refl)
 
   -- once the file is gone, nothing is hidden
-  on_from : (es : List Entry) (w v : World) → IsTree w.rows → Twins Shut w v → IsLegal numbers segments es w → ((s : Row) → map.get w.rows n ≡ Some s → IsLegal numbers segments es v)
+  on_from : (es : List Entry) (w v : World) → IsTree w.rows → Twins Shut w v → IsLegal numbers segments es w
+      → ((s : Row) → map.get w.rows n ≡ Some s → IsLegal numbers segments es v)
       → (o : Option Row) → map.get w.rows n ≡ o → IsLegal numbers segments es v
   on_from es w v tree t legal rest None e =
       open_run numbers segments es w v tree
       (record { level = t.level; rows = λ m. opened (Shut m) _ _ (t.rows m) (λ here. ap (map.get w.rows) here ∙ e) }) legal
   on_from es w v tree t legal rest (Some s) e = rest s e
 
-  shut_run : (entries : List Entry) (w v : World) (r : Row) → IsTree w.rows → map.get w.rows n ≡ Some r → Twins Shut w v → AreUnread r entries → IsLegal numbers segments entries w → IsLegal numbers segments entries v
+  shut_run : (entries : List Entry) (w v : World) (r : Row) → IsTree w.rows → map.get w.rows n ≡ Some r → Twins Shut w v → AreUnread r entries
+      → IsLegal numbers segments entries w → IsLegal numbers segments entries v
   shut_run [] w v r tree there t unread legal = tt
   shut_run (e ∷ es) w v r tree there t unread legal =
       let differ = sees_same w v r there t e.cred e.event unread.0 in

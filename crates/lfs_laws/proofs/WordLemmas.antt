@@ -30,14 +30,16 @@ use Rattle.lfs_laws.proofs.IdleLemmas.{number_decides}
 
 -- ---- tests
 
-pub met_by : {P Q : Type 0} (met : Bool) (denial : Denial) (rest : Option Denial) → Decides met P → (rest ≡ None) ↔ Q → (cond met rest (Some denial) ≡ None) ↔ (P × Q)
+pub met_by : {P Q : Type 0} (met : Bool) (denial : Denial) (rest : Option Denial) → Decides met P → (rest ≡ None) ↔ Q
+    → (cond met rest (Some denial) ≡ None) ↔ (P × Q)
 met_by met denial rest d q = (
   λ h. let both = met_first met denial rest h in (d.0 both.0, q.0 both.1),
   λ h. ap (λ b. cond b rest (Some denial)) (d.1 h.0) ∙ q.1 h.1,
 )
 
 -- a test before others that are met
-pub met_before : {P : Type 0} (met : Bool) (denial : Denial) (rest : Option Denial) → Decides met P → rest ≡ None → (cond met rest (Some denial) ≡ None) ↔ P
+pub met_before : {P : Type 0} (met : Bool) (denial : Denial) (rest : Option Denial) → Decides met P → rest ≡ None
+    → (cond met rest (Some denial) ≡ None) ↔ P
 met_before met denial rest d e = (
   λ h. d.0 (met_first met denial rest h).0,
   λ h. ap (λ b. cond b rest (Some denial)) (d.1 h) ∙ e,
@@ -51,7 +53,8 @@ met_last met denial d = (
 )
 
 -- a test that is met decides nothing
-pub met_always : {Q : Type 0} (met : Bool) (denial : Denial) (rest : Option Denial) → met ≡ true → (rest ≡ None) ↔ Q → (cond met rest (Some denial) ≡ None) ↔ Q
+pub met_always : {Q : Type 0} (met : Bool) (denial : Denial) (rest : Option Denial) → met ≡ true → (rest ≡ None) ↔ Q
+    → (cond met rest (Some denial) ≡ None) ↔ Q
 met_always met denial rest e q = (
   λ h. q.0 (met_first met denial rest h).1,
   λ h. ap (λ b. cond b rest (Some denial)) e ∙ q.1 h,
@@ -111,7 +114,8 @@ module _ {S O M X Y Z : Type 0} where
     λ h. ⊎_elim (λ a. absurd (cc (ds.1 a))) (λ b. ⊎_elim (λ c. absurd (cc (dw.1 c.0))) (λ d. ⊎_elim (λ e. absurd (cc (dm.1 e.1))) (λ e. dz.1 e.2) d) b) h,
   )
 
-pub granted : (caller : Caller) (attrs : Attrs) (bit : Bit) → Decides (grants_of caller attrs bit) (IsGranted caller attrs (owner_mask bit) (group_mask bit) (other_mask bit))
+pub granted : (caller : Caller) (attrs : Attrs) (bit : Bit)
+    → Decides (grants_of caller attrs bit) (IsGranted caller attrs (owner_mask bit) (group_mask bit) (other_mask bit))
 granted caller attrs bit =
     class_of (caller.uid == 0) (caller.uid == attrs.uid) (is_in_group caller attrs.gid) _ _ _
     (Decides-eqb caller.uid 0) (Decides-eqb caller.uid attrs.uid) (member caller attrs.gid)
