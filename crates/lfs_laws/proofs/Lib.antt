@@ -33,6 +33,7 @@ pub mod RowLaws
 pub mod SameKeys
 pub mod SameTests
 pub mod ServedLemmas
+pub mod SetIdLemmas
 pub mod StrangerLemmas
 pub mod SystemNames
 pub mod TwinLemmas

@@ -32,6 +32,7 @@ pub mod LawRegranted
 pub mod LawRewritten
 pub mod LawSeen
 pub mod LawServed
+pub mod LawSetIds
 pub mod LawShown
 pub mod LawStrangers
 pub mod LawSystemNames

@@ -42,6 +42,7 @@ ghost use Rattle.lfs_laws.specs.LawRefused.{RefusedTruly};
 ghost use Rattle.lfs_laws.specs.LawRegranted.{RightBetween};
 ghost use Rattle.lfs_laws.specs.LawRewritten.{Rewritten};
 ghost use Rattle.lfs_laws.specs.LawServed.{ServedExactlyWhereMay};
+ghost use Rattle.lfs_laws.specs.LawSetIds.{SetIdsAreFresh};
 ghost use Rattle.lfs_laws.specs.LawShown.{Shown};
 ghost use Rattle.lfs_laws.specs.LawStrangers.{StrangersLeave};
 ghost use Rattle.lfs_laws.specs.LawSystemNames.{NoSystemNameComes, SystemNamesStay, SystemPathStays};
@@ -407,9 +408,12 @@ pub fn opens_by_number()
     ensures level { OpensInsecure }
 {}
 
-/// A mode that another call than a Chmod changes loses 04000 and 02000, and keeps its ten lower bits; by another than user 0.
+/// A mode that another call than a Chmod changes loses 04000 and 02000, and keeps its ten lower bits; by another than user 0. A
+/// set-id bit is fresh: where another than user 0 wrote a byte to a row, gave it a length, or an owner and a group, and it has one
+/// of the two at the end of a run, somebody set it since, by a Chmod, who might; or removed the row, who might.
 pub fn set_ids_by_bits()
-    ensures { SetIdsGo }
+    ensures go { SetIdsGo }
+    ensures fresh { SetIdsAreFresh }
 {}
 
 /// A path leads name by name, from the root, to what hangs in the row before under each; and a Stat of it shows that row.
