@@ -1,5 +1,5 @@
 //! Worked cases of the rules, bytes that are written out by hand, ranges, a log that is written, opened and read again,
-//! stores after some use, and texts.
+//! stores after some use, trees, and texts.
 
 mod directories;
 mod ifile;
@@ -9,6 +9,7 @@ mod rules;
 mod segments;
 mod stores;
 mod texts;
+mod trees;
 
 ghost use Rattle.std.specs.Prelude.{◌<◌};
 
