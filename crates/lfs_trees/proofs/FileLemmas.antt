@@ -1,6 +1,6 @@
 -- What the attributes of a number say of its file.
-use Rattle.std.proofs.Common.{◌≡◌, ◌≤◌, ◌/◌, ◌%◌, ℕ, true, false, length, Option, None, Some, refl, sym, ap, subst, ◌∙◌}
-use Rattle.std.specs.Prelude.{option_map, is_some}
+use Rattle.std.proofs.Common.{◌≡◌, ◌≤◌, ◌/◌, ◌%◌, ℕ, true, length, Option, None, Some, refl, sym, ap, subst, ◌∙◌}
+use Rattle.std.specs.Prelude.{option_map}
 use Rattle.std.specs.FinMap as map
 use Rattle.lfs_types.specs.Kinds.{is_directory_kind}
 use Rattle.lfs_types.specs.declared.attrs.Attrs.{Attrs}
@@ -9,7 +9,7 @@ use Rattle.lfs_types.specs.declared.attrs.Kind.TheVariants.{File as Regular, Dir
 use Rattle.lfs_types.specs.Changes.{IsLength}
 use Rattle.lfs_types.specs.Stored.{bytes_of, bytes_of_file, shown_attrs}
 use Rattle.lfs_types.specs.Tree.{Content, File, attrs_of}
-use Rattle.lfs_types.proofs.Somewhere.{is_some_and, some_and}
+use Rattle.lfs_types.proofs.Somewhere.{is_some_and}
 use Rattle.lfs_calls.specs.Content.{IsDirectoryAt}
 use Rattle.lfs_trees.specs.Files.{AreFiles, HasWhole, MayStand}
 
@@ -18,11 +18,13 @@ pub attrs_here : (c : Content) (n : ℕ) (f : File) (o : Option Attrs) → o ≡
 attrs_here c n f o shown e = shown ∙ ap (option_map attrs_of) e
 
 -- where they may stand there the file may
-pub stands_here : (c : Content) (n : ℕ) (a : Attrs) → Some a ≡ shown_attrs c n → MayStand n a.kind a.size → (f : File) → map.get c n ≡ Some f → MayStand n f.kind (length f.bytes)
+pub stands_here : (c : Content) (n : ℕ) (a : Attrs) → Some a ≡ shown_attrs c n → MayStand n a.kind a.size
+    → (f : File) → map.get c n ≡ Some f → MayStand n f.kind (length f.bytes)
 stands_here c n a shown may f e =
     let same : a ≡ attrs_of f = cc (attrs_here c n f (Some a) shown e) in
     subst (λ (x : Attrs). MayStand n x.kind x.size) same may
 
+-- attributes that are those of a number's file
 pub record Shown (c : Content) (n : ℕ) (a : Attrs) : Type 0 where
   pub file : File
   pub stored : map.get c n ≡ Some file
@@ -36,14 +38,7 @@ shown_as c n a (Some f) e h = record { file = f; stored = e; same = cc }
 pub file_of_attrs : (c : Content) (n : ℕ) (a : Attrs) → Some a ≡ shown_attrs c n → Shown c n a
 file_of_attrs c n a h = shown_as c n a (map.get c n) refl h
 
--- a number is in use where it has attributes
-pub used_from : (c : Content) (n : ℕ) (o : Option Attrs) → o ≡ shown_attrs c n → is_some o ≡ is_some (map.get c n)
-used_from c n o h = ap is_some h ∙ same (map.get c n)
-  where
-    same : (p : Option File) → is_some (option_map attrs_of p) ≡ is_some p
-    same None = refl
-    same (Some f) = refl
-
+-- a kind that is tested to be a directory's is one
 pub directory_kind : (k : Kind) → is_directory_kind k ≡ true → k ≡ Directory
 directory_kind Regular h = absurd (cc)
 directory_kind Directory h = refl
@@ -54,23 +49,9 @@ directory_at c n a shown kind =
     let f = file_of_attrs c n a shown in
     is_some_and (λ (x : File). x.kind ≡ Directory) f.stored (ap (λ (x : Attrs). x.kind) (sym f.same) ∙ directory_kind a.kind kind)
 
--- and any other isn't
-pub no_directory_at : (c : Content) (n : ℕ) (a : Attrs) → Some a ≡ shown_attrs c n → is_directory_kind a.kind ≡ false → IsDirectoryAt c n → ⊥
-no_directory_at c n a shown kind directory =
-    let f = file_of_attrs c n a shown in
-    let g = some_and (map.get c n) (λ (x : File). x.kind ≡ Directory) directory in
-    let same : f.file ≡ g.value = (let x = f.stored in let y = g.is in cc) in
-    let is : a.kind ≡ Directory = ap (λ (x : Attrs). x.kind) f.same ∙ ap (λ (x : File). x.kind) same ∙ g.holds in
-    let yes : is_directory_kind a.kind ≡ true = ap is_directory_kind is in
-    absurd (cc)
-
-pub nothing_at : (c : Content) (n : ℕ) → None ≡ shown_attrs c n → IsDirectoryAt c n → ⊥
-nothing_at c n none directory =
-    let g = some_and (map.get c n) (λ (x : File). x.kind ≡ Directory) directory in
-    absurd (cc (attrs_here c n g.value None none g.is))
-
 -- the blocks of a directory among files that may stand where they do
-pub has_whole : (c : Content) (n : ℕ) (a : Attrs) → AreFiles c → Some a ≡ shown_attrs c n → is_directory_kind a.kind ≡ true → HasWhole c n (a.size / 512)
+pub has_whole : (c : Content) (n : ℕ) (a : Attrs) → AreFiles c → Some a ≡ shown_attrs c n → is_directory_kind a.kind ≡ true
+    → HasWhole c n (a.size / 512)
 has_whole c n a files shown kind =
     let f = file_of_attrs c n a shown in
     let is : f.file.kind ≡ Directory = ap (λ (x : Attrs). x.kind) (sym f.same) ∙ directory_kind a.kind kind in

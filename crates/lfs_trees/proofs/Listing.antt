@@ -4,7 +4,7 @@ use Rattle.std.specs.Prelude.{is_some, bytes_eq, ◌||◌}
 use Rattle.std.proofs.lemmas.Bool.{cases_Bool}
 use Rattle.lfs_dirs.specs.Directory.{Entry, AreEntries, has_name, number_in}
 use Rattle.lfs_dirs.specs.Reading.{entries_of}
-use Rattle.lfs_dirs.proofs.Changes.{AreEntries-middle, number_in-nil, number_in-here, number_in-later, number_in-append, has_name-same, has_name-other}
+use Rattle.lfs_dirs.proofs.Changes.{AreEntries-middle, number_in-here, number_in-later, number_in-append, has_name-same, has_name-other}
 use Rattle.lfs_calls.specs.Content.{all_entries, block_at, entries_below}
 use Rattle.lfs_calls.proofs.Listings.{entries_from, old_listed, behind}
 use Rattle.lfs_trees.specs.Faults.{StandsAgain}
@@ -15,14 +15,6 @@ again_twice es number h are =
     let none = (AreEntries-middle h.before (number, h.name) h.behind (subst AreEntries h.parts are)).1 in
     let some = h.again in
     absurd (cc (ap is_some none))
-
--- where a name is found it is found first
-pub found_first : (name : List ℕ) (n : ℕ) (xs ys : List Entry) → number_in name xs ≡ Some n → number_in name (xs ++ ys) ≡ Some n
-found_first name n [] ys h = let none = number_in-nil name in absurd (cc)
-found_first name n (x ∷ xs) ys h = ⊎_elim
-    (λ t. number_in-here name x (xs ++ ys) t ∙ sym (number_in-here name x xs t) ∙ h)
-    (λ t. number_in-later name x (xs ++ ys) t ∙ found_first name n xs ys (sym (number_in-later name x xs t) ∙ h))
-    (cases_Bool (has_name name x))
 
 -- an entry behind others is found under its name, if none of them has it
 pub found_behind : (e : Entry) (xs ys : List Entry) → number_in e.1 xs ≡ None → number_in e.1 (xs ++ e ∷ ys) ≡ Some e.0
@@ -37,14 +29,16 @@ other_behind name e (x ∷ xs) apart = ⊎_elim
     (cases_Bool (has_name name x))
 
 -- the names with one more
-pub named_behind : (name : List ℕ) (e : Entry) (xs : List Entry) → is_some (number_in name (xs ++ e ∷ [])) ≡ (bytes_eq e.1 name || is_some (number_in name xs))
+pub named_behind : (name : List ℕ) (e : Entry) (xs : List Entry)
+    → is_some (number_in name (xs ++ e ∷ [])) ≡ (bytes_eq e.1 name || is_some (number_in name xs))
 named_behind name e [] = ⊎_elim
     (λ t. ap is_some (number_in-here name e [] t) ∙ sym (ap (λ b. b || is_some (number_in name [])) t))
     (λ t. ap is_some (number_in-later name e [] t) ∙ sym (ap (λ b. b || is_some (number_in name [])) t))
     (cases_Bool (has_name name e))
 named_behind name e (x ∷ xs) = ⊎_elim
     (λ t. ap is_some (number_in-here name x (xs ++ e ∷ []) t) ∙ sym (or_true _ _ (ap is_some (number_in-here name x xs t))))
-    (λ t. ap is_some (number_in-later name x (xs ++ e ∷ []) t) ∙ named_behind name e xs ∙ ap (λ o. bytes_eq e.1 name || is_some o) (sym (number_in-later name x xs t)))
+    (λ t. ap is_some (number_in-later name x (xs ++ e ∷ []) t) ∙ named_behind name e xs
+    ∙ ap (λ o. bytes_eq e.1 name || is_some o) (sym (number_in-later name x xs t)))
     (cases_Bool (has_name name x))
   where
     or_true : (a b : Bool) → b ≡ true → (a || b) ≡ true

@@ -24,10 +24,6 @@ or_both : (a b : Bool) → a ≡ false → b ≡ false → (a || b) ≡ false
 or_both true b h i = absurd (cc)
 or_both false b h i = i
 
-or_cases : (a b : Bool) → (a || b) ≡ false → (a ≡ false) × (b ≡ false)
-or_cases true b h = absurd (cc)
-or_cases false b h = (refl, h)
-
 -- the number itself is among them then
 pub among-same : (ns : List ℕ) (n : ℕ) → is_among (ns ++ n ∷ []) n ≡ true
 among-same ns n = list_any-append (nat_eq n) ns (n ∷ []) ∙ or_right _ _ (ap (λ b. b || false) (eq-eqb n n refl))
@@ -69,7 +65,8 @@ unmarked numbers order marks none all = subst (λ ns. AreMarked ns marks) (sym n
 }))
 
 -- one more number is reached and marked
-pub marked_more : (order : List ℕ) (marks : List Bool) (n : ℕ) → AreMarked order marks → n < length marks → is_among order n ≡ false → AreMarked (order ++ n ∷ []) (set marks n true)
+pub marked_more : (order : List ℕ) (marks : List Bool) (n : ℕ) → AreMarked order marks → n < length marks → is_among order n ≡ false
+    → AreMarked (order ++ n ∷ []) (set marks n true)
 marked_more order marks n h within apart = record {
   marked = λ m inside. ⊎_elim
       (λ same. subst (λ k. get_or (set marks n true) k false ≡ is_among (order ++ n ∷ []) k) (sym same)

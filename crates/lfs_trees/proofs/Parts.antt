@@ -1,5 +1,5 @@
 -- A block of a directory, entry by entry.
-use Rattle.std.proofs.Common.{◌≡◌, ◌+◌, ◌<◌, ℕ, true, false, List, [], ◌∷◌, ◌++◌, length, take, get_or, None, Some, sym, ap, subst, ◌∙◌, arith, append_assoc, append-nil, length-append}
+use Rattle.std.proofs.Common.{◌≡◌, ◌+◌, ◌<◌, ℕ, true, false, List, [], ◌∷◌, ◌++◌, length, take, get_or, None, Some, sym, ap, subst, ◌∙◌, arith, append_assoc, length-append}
 use Rattle.std.specs.Prelude.{bytes_eq, ◌||◌}
 use Rattle.std.proofs.lemmas.List.{get_or_append_left}
 use Rattle.std.specs.FinMap as map
@@ -30,13 +30,6 @@ pub record HasPart (c : Content) (old new : Walk) (names : Names) (dir : ℕ) (a
   pub reading : IsReading c old new dir read
   pub named : HasNames names read
   pub entries : AreEntries left
-
--- where none is left, all were read
-pub part_all : (c : Content) (old new : Walk) (names : Names) (dir : ℕ) (all left : List Entry) → HasPart c old new names dir all left → left ≡ []
-    → IsReading c old new dir all × HasNames names all
-part_all c old new names dir all left h none =
-    let same : h.read ≡ all = sym (append-nil h.read) ∙ ap (λ es. h.read ++ es) (sym none) ∙ h.parts in
-    (subst (IsReading c old new dir) same h.reading, subst (HasNames names) same h.named)
 
 module _ (c : Content) (old walk : Walk) (names : Names) (dir : ℕ) (all left rest behind : List Entry) (e : Entry)
     (h : HasPart c old walk names dir all left) (first : left ≡ e ∷ rest) (whole : all_entries (bytes_of c dir) ≡ all ++ behind) where
@@ -78,7 +71,8 @@ module _ (c : Content) (old walk : Walk) (names : Names) (dir : ℕ) (all left r
         first = reached.listed n row.value row.is w.2;
         second = subst (Lists c dir e.1) (sym w.0) (lists w.3);
         apart = λ parents named.
-            let found = child-answer rows reached.tree.unique dir e.1 (Some n) (record { row = row.value; there = row.is; below = w.2; hangs = parents; named = named }) in
+            let found = child-answer rows reached.tree.unique dir e.1 (Some n)
+            (record { row = row.value; there = row.is; below = w.2; hangs = parents; named = named }) in
             let none = reached.later dir h.reading.apart e.1 ∙ ap (number_in e.1) (so_far-here dir h.read) ∙ no_name w.3 in
             absurd (cc);
       }
@@ -94,7 +88,8 @@ module _ (c : Content) (old walk : Walk) (names : Names) (dir : ℕ) (all left r
 
     same_done : done_of new ≡ done_of walk
     same_done =
-        ap (λ k. take k new.order.items) w.done ∙ ap (take walk.done) w.order ∙ read_same walk.order.items walk.done e.0 (let inside = h.reading.within in omega arith)
+        ap (λ k. take k new.order.items) w.done ∙ ap (take walk.done) w.order
+        ∙ read_same walk.order.items walk.done e.0 (let inside = h.reading.within in omega arith)
 
     reaches : Reaches c new.order.items (done_of new) dir (h.read ++ e ∷ [])
     reaches =

@@ -63,7 +63,8 @@ module _ (c : Content) (f : File) (stored : map.get c root ≡ Some f) (kind : f
       shown = each (λ n r. IsSomeAnd (map.get c n) (λ g. visible g ≡ r.file)) (is_some_and (λ g. visible g ≡ visible f) stored refl);
       listed = λ n r there apart. absurd (apart (alone n r there));
       complete = λ d among. absurd (cc);
-      later = λ d none name. child-answer rows one_row.unique d name None (childless d name) ∙ sym (ap (number_in name) (so_far-none 0 d) ∙ number_in-nil name);
+      later = λ d none name. child-answer rows one_row.unique d name None (childless d name)
+          ∙ sym (ap (number_in name) (so_far-none 0 d) ∙ number_in-nil name);
     },
   )
 

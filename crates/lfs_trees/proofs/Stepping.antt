@@ -48,7 +48,8 @@ from_here c old new dir es h = record {
 }
 
 -- one that goes on reads it since it began
-pub further : (c : Content) (old mid new : Walk) (dir : ℕ) (es fs : List Entry) → IsReading c old mid dir es → IsReading c mid new dir fs → IsReading c old new dir fs
+pub further : (c : Content) (old mid new : Walk) (dir : ℕ) (es fs : List Entry)
+    → IsReading c old mid dir es → IsReading c mid new dir fs → IsReading c old new dir fs
 further c old mid new dir es fs h k = record {
   bounded = k.bounded;
   files = k.files;
@@ -85,10 +86,12 @@ module _ (c : Content) (w : Walk) (number : ℕ) (stands : Stands c w) (next : s
   }
 
   -- what comes next and is no directory is passed by
-  pub passes_file : (new : Walk) → (IsDirectoryAt c number → ⊥) → new.done ≡ w.done + 1 → new.order.items ≡ w.order.items → length new.marks.items ≡ length w.marks.items → Steps c w new
+  pub passes_file : (new : Walk) → (IsDirectoryAt c number → ⊥) → new.done ≡ w.done + 1 → new.order.items ≡ w.order.items
+      → length new.marks.items ≡ length w.marks.items → Steps c w new
   passes_file new none done order numbers = record {
     stands =
-        let before : done_of new ≡ done_of w ++ number ∷ [] = ap (λ k. take k new.order.items) done ∙ ap (take (w.done + 1)) order ∙ read_more w.order.items w.done number inside here in
+        let before : done_of new ≡ done_of w ++ number ∷ [] =
+        ap (λ k. take k new.order.items) done ∙ ap (take (w.done + 1)) order ∙ read_more w.order.items w.done number inside here in
         subst (λ ns. Reaches c ns (done_of new) 0 []) (sym order) (subst (λ ns. Reaches c w.order.items ns 0 []) (sym before)
         (pass_file c w.order.items (done_of w) number none stands));
     done = done;
@@ -100,7 +103,8 @@ pub passes_directory : (c : Content) (old w new : Walk) (dir : ℕ) → IsReadin
     → new.done ≡ w.done + 1 → new.order.items ≡ w.order.items → length new.marks.items ≡ length w.marks.items → Steps c old new
 passes_directory c old w new dir h blocks done order numbers = record {
   stands =
-      let before : done_of new ≡ done_of w ++ dir ∷ [] = ap (λ k. take k new.order.items) done ∙ ap (take (w.done + 1)) order ∙ read_more w.order.items w.done dir h.within h.next in
+      let before : done_of new ≡ done_of w ++ dir ∷ [] =
+      ap (λ k. take k new.order.items) done ∙ ap (take (w.done + 1)) order ∙ read_more w.order.items w.done dir h.within h.next in
       subst (λ ns. Reaches c ns (done_of new) 0 []) (sym order) (subst (λ ns. Reaches c w.order.items ns 0 []) (sym before)
       (pass_directory c w.order.items (done_of w) dir h.apart blocks h.entries h.reaches));
   done = done ∙ ap (λ n. n + 1) h.done;

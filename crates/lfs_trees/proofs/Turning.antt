@@ -1,7 +1,7 @@
 -- A walk that goes on to the next number.
-use Rattle.std.proofs.Common.{◌≡◌, ℕ, true, false, cond, List, [], ◌∷◌, ◌++◌, refl, sym, ap, subst, ◌∙◌, ⊎_elim}
+use Rattle.std.proofs.Common.{◌≡◌, ℕ, Bool, true, false, cond, List, [], ◌∷◌, ◌++◌, refl, sym, ap, subst, ◌∙◌, ⊎_elim}
 use Rattle.std.specs.Prelude.{nat_eq}
-use Rattle.std.proofs.lemmas.Bool.{cases_eq, cases_Bool, eq-eqb, ne_eqb}
+use Rattle.std.proofs.lemmas.Bool.{cases_eq, eq-eqb, ne_eqb}
 use Rattle.std.specs.FinMap as map
 use Rattle.lfs_types.specs.declared.attrs.Kind.TheVariants.{Directory}
 use Rattle.lfs_types.specs.Stored.{bytes_of, bytes_of_file}
@@ -23,7 +23,11 @@ so_far-other dir es d apart = ap (λ b. cond b es []) (ne_eqb d dir apart)
 
 -- where nothing was read, no directory lists anything
 pub so_far-none : (dir d : ℕ) → so_far dir [] d ≡ []
-so_far-none dir d = ⊎_elim (λ t. ap (λ b. cond {A = List Entry} b [] []) t) (λ t. ap (λ b. cond {A = List Entry} b [] []) t) (cases_Bool (nat_eq d dir))
+so_far-none dir d = none (nat_eq d dir)
+  where
+    none : (b : Bool) → cond {A = List Entry} b [] [] ≡ []
+    none true = refl
+    none false = refl
 
 -- a walk between two numbers may begin to read any
 pub turn : (c : Content) (order before : List ℕ) (old new : ℕ) → Reaches c order before old [] → Reaches c order before new []

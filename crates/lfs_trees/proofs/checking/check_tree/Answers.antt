@@ -22,7 +22,8 @@ no_world_of s r fault is h = subst (λ x. IfErr x (λ f. (f ≡ Memory → ⊥) 
 pub returns-in_err-check_root-clause-no_world : goal.returns-in_err-check_root-clause-no_world
 returns-in_err-check_root-clause-no_world g c =
     let p = err_from_is_err_and c.from_residual.result c.from_residual.ensures.1 in
-    no_world_of (g.F.FileStore.state c.args.store.now) c.from_residual.result c.in_err-check_root.field-0.0 (p.1 ∙ ap Err p.2) c.in_err-check_root.ensures.fault
+    no_world_of (g.F.FileStore.state c.args.store.now) c.from_residual.result c.in_err-check_root.field-0.0 (p.1 ∙ ap Err p.2)
+    c.in_err-check_root.ensures.fault
 
 pub returns-in_err-check_files-clause-no_world : goal.returns-in_err-check_files-clause-no_world
 returns-in_err-check_files-clause-no_world g c =
@@ -33,7 +34,8 @@ returns-in_err-check_files-clause-no_world g c =
 pub returns-in_err-walk-clause-no_world : goal.returns-in_err-walk-clause-no_world
 returns-in_err-walk-clause-no_world g c =
     let p = err_from_is_err_and c.from_residual-in_err-walk.result c.from_residual-in_err-walk.ensures.1 in
-    no_world_of (g.F.FileStore.state c.args.store.now) c.from_residual-in_err-walk.result c.in_err-walk.field-0.0 (p.1 ∙ ap Err p.2) c.in_err-walk.ensures.fault
+    no_world_of (g.F.FileStore.state c.args.store.now) c.from_residual-in_err-walk.result c.in_err-walk.field-0.0 (p.1 ∙ ap Err p.2)
+    c.in_err-walk.ensures.fault
 
 pub returns-clause-ok : goal.returns-clause-ok
 returns-clause-ok g c =
@@ -42,7 +44,8 @@ returns-clause-ok g c =
     let same = c.in_ok-walk.ensures.state in
     on_ok_weaker c.check_reached.result
     (λ all. subst HasWorld (sym same)
-    (has_world state walk.order.items c.in_ok-walk.ensures.read c.in_ok-check_files.ensures.ok (subst (λ (x : Content). HasAll x walk) (same_content same) all)))
+    (has_world state walk.order.items c.in_ok-walk.ensures.read c.in_ok-check_files.ensures.ok
+    (subst (λ (x : Content). HasAll x walk) (same_content same) all)))
     c.check_reached.ensures.all
 
 -- what the last check says

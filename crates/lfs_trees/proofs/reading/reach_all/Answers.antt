@@ -33,4 +33,5 @@ loop-number-preserved g c =
 
 pub returns-clause-read : goal.returns-clause-read
 returns-clause-read g c =
-    all_read (g.F.FileStore.state c.args.store.now).content c.loop-number.walk (sym c.next.ensures.next ∙ c.in_default.is) c.loop-number.invariant.stands
+    all_read (g.F.FileStore.state c.args.store.now).content c.loop-number.walk (sym c.next.ensures.next ∙ c.in_default.is)
+    c.loop-number.invariant.stands

@@ -3,7 +3,7 @@ use Rattle.std.proofs.lemmas.Result.{err_from_is_err_and}
 use Rattle.std.specs.Prelude.{IfErr}
 use Rattle.lfs_types.specs.Stored.{bytes_of}
 use Rattle.lfs_types.specs.Tree.{Content}
-use Rattle.lfs_dirs.specs.Directory.{AreEntries}
+use Rattle.lfs_dirs.specs.Directory.{Entry, AreEntries}
 use Rattle.lfs_dirs.specs.Reading.{entries_of}
 use Rattle.lfs_calls.specs.Content.{entries_below}
 use Rattle.lfs_calls.proofs.StateLemmas.{same_content}
@@ -36,14 +36,15 @@ loop-number-preserved g c =
     let content = (g.F.FileStore.state c.args.store.now).content in
     let bytes = bytes_of content c.args.directory in
     let whole = c.requires.whole in
+    let entry : Entry = (c.in-Some.number, c.in-Some.name.now) in
     let behind = by_block bytes c.args.index whole.whole (subst (λ n. c.args.index < n) whole.counted c.requires.within) in
     record {
       can_next = tt;
       is_finite = tt;
       part = part_more content c.args.walk.now c.loop-number.walk c.loop-number.names c.args.directory (entries_below bytes (c.args.index + 1))
-          c.loop-number.number-iterator c.next.new.self behind.0 (c.in-Some.number, c.in-Some.name.now) c.loop-number.invariant.part
+          c.loop-number.number-iterator c.next.new.self behind.0 entry c.loop-number.invariant.part
           c.in-Some.ensures.steps behind.1 c.enter.new.walk c.enter.new.names
-          (subst (λ (x : Content). IsEntered x c.loop-number.walk c.loop-number.names (c.in-Some.number, c.in-Some.name.now) c.enter.new.walk c.enter.new.names)
+          (subst (λ (x : Content). IsEntered x c.loop-number.walk c.loop-number.names entry c.enter.new.walk c.enter.new.names)
           (same_content c.loop-number.invariant.state) c.in_ok-enter.ensures.entered);
       state = c.loop-number.invariant.state;
     }
@@ -53,11 +54,13 @@ returns-in_err-enter-clause-fault g c =
     let content = (g.F.FileStore.state c.args.store.now).content in
     let bytes = bytes_of content c.args.directory in
     let whole = c.requires.whole in
+    let entry : Entry = (c.in-Some.number, c.in-Some.name.now) in
     let behind = by_block bytes c.args.index whole.whole (subst (λ n. c.args.index < n) whole.counted c.requires.within) in
     let p = err_from_is_err_and c.from_residual.result c.from_residual.ensures.1 in
-    let fault = subst (λ (x : Content). IsEntryFault x c.loop-number.walk c.loop-number.names c.args.directory (c.in-Some.number, c.in-Some.name.now) c.in_err-enter.field-0.0)
+    let fault = subst
+    (λ (x : Content). IsEntryFault x c.loop-number.walk c.loop-number.names c.args.directory entry c.in_err-enter.field-0.0)
     (same_content c.loop-number.invariant.state) c.in_err-enter.ensures.fault in
     let is = part_fault content c.args.walk.now c.loop-number.walk c.loop-number.names c.args.directory (entries_below bytes (c.args.index + 1))
-    c.loop-number.number-iterator c.next.new.self behind.0 (c.in-Some.number, c.in-Some.name.now) c.loop-number.invariant.part
+    c.loop-number.number-iterator c.next.new.self behind.0 entry c.loop-number.invariant.part
     c.in-Some.ensures.steps behind.1 c.in_err-enter.field-0.0 fault in
     subst (λ r. IfErr r (IsTreeFaultOf content)) (sym p.1) (subst (IsTreeFaultOf content) (sym p.2) is)

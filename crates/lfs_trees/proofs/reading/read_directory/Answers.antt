@@ -31,7 +31,8 @@ read_block-requires-clause-whole g c =
 
 pub read_block-requires-clause-reading : goal.read_block-requires-clause-reading
 read_block-requires-clause-reading g c =
-    subst (λ (x : Content). IsReading x c.loop-index.walk c.loop-index.walk c.args.directory (entries_below (bytes_of x c.args.directory) c.loop-index.index))
+    subst (λ (x : Content). IsReading x c.loop-index.walk c.loop-index.walk c.args.directory
+    (entries_below (bytes_of x c.args.directory) c.loop-index.index))
     (sym (same_content c.loop-index.invariant.state))
     (from_here _ c.args.walk.now c.loop-index.walk c.args.directory _ c.loop-index.invariant.reading)
 
@@ -44,13 +45,15 @@ pub loop-index-preserved : goal.loop-index-preserved
 loop-index-preserved g c =
     let same = same_content c.loop-index.invariant.state in
     let read = c.in_ok-read_block.ensures in
+    let dir = c.args.directory in
+    let k = c.loop-index.index in
     record {
       reading = further _ c.args.walk.now c.loop-index.walk c.read_block.new.walk c.args.directory _ _ c.loop-index.invariant.reading
-          (subst (λ (x : Content). IsReading x c.loop-index.walk c.read_block.new.walk c.args.directory (entries_below (bytes_of x c.args.directory) (c.loop-index.index + 1)))
+          (subst (λ (x : Content). IsReading x c.loop-index.walk c.read_block.new.walk dir (entries_below (bytes_of x dir) (k + 1)))
           same read.read);
-      named = subst (λ (x : Content). HasNames c.read_block.new.names (entries_below (bytes_of x c.args.directory) (c.loop-index.index + 1))) same read.named;
+      named = subst (λ (x : Content). HasNames c.read_block.new.names (entries_below (bytes_of x dir) (k + 1))) same read.named;
       blocks = below_more _ _ c.loop-index.invariant.blocks
-          (subst (λ (x : Content). IsDirectoryBlock (block_at (bytes_of x c.args.directory) c.loop-index.index) (entries_of (block_at (bytes_of x c.args.directory) c.loop-index.index)))
+          (subst (λ (x : Content). IsDirectoryBlock (block_at (bytes_of x dir) k) (entries_of (block_at (bytes_of x dir) k)))
           same read.block);
       state = read.state ∙ c.loop-index.invariant.state;
     }
