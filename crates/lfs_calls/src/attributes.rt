@@ -18,7 +18,7 @@ use lfs_types::level::Level;
 use lfs_types::mode::Mode;
 use lfs_types::path::Path;
 use lfs_types::request::Request;
-use lfs_types::store::{Change, FileStore, StoreRefusal};
+use lfs_types::store::{Change, FileStore, Reserve, StoreRefusal};
 
 /// Sets the mode.
 pub fn chmod<F: FileStore>(
@@ -33,7 +33,12 @@ pub fn chmod<F: FileStore>(
 {
     let file = find(store, cred, path)?;
     may_chmod(&file.attrs, cred, depth(path))?;
-    set_attrs(store, file.number, Attrs { mode, ..file.attrs })?;
+    set_attrs(
+        store,
+        Reserve::of(cred),
+        file.number,
+        Attrs { mode, ..file.attrs },
+    )?;
     Ok(Served::Done)
 }
 
@@ -59,7 +64,7 @@ pub fn chown<F: FileStore>(
         mode,
         ..file.attrs
     };
-    set_attrs(store, file.number, attrs)?;
+    set_attrs(store, Reserve::of(cred), file.number, attrs)?;
     Ok(Served::Done)
 }
 
@@ -78,13 +83,15 @@ pub fn chflags<F: FileStore>(
     let file = find(store, cred, path)?;
     may_chflags(&file.attrs, cred, level, flags, depth(path))?;
     let Reached { number, attrs } = file;
-    set_attrs(store, number, Attrs { flags, ..attrs })?;
+    let by = Reserve::of(cred);
+    set_attrs(store, by, number, Attrs { flags, ..attrs })?;
     Ok(Served::Done)
 }
 
 /// Gives a file these attributes, of its kind; its bytes stay.
 fn set_attrs<F: FileStore>(
     store: &mut Tree<F>,
+    by: Reserve,
     number: u32,
     attrs: Attrs,
 ) -> Result<(), StoreRefusal>
@@ -93,5 +100,5 @@ fn set_attrs<F: FileStore>(
         (λ after. SetsAttrs (F.state store.old).content after number attrs) result
         (F.state store.new) }
 {
-    store.apply(&[Change::SetAttrs { ino: number, attrs }])
+    store.apply(&[Change::SetAttrs { ino: number, attrs }], by)
 }

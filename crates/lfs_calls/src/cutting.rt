@@ -19,7 +19,7 @@ use lfs_types::attrs::Attrs;
 use lfs_types::cred::Cred;
 use lfs_types::path::Path;
 use lfs_types::request::Request;
-use lfs_types::store::{Change, FileStore, StoreRefusal};
+use lfs_types::store::{Change, FileStore, Reserve, StoreRefusal};
 
 /// Cuts a file, or adds zeros to it.
 pub fn set_length<F: FileStore>(
@@ -56,11 +56,12 @@ fn cut<F: FileStore>(
 {
     let Reached { number, attrs } = *file;
     let mode = mode_after(cred, attrs.mode);
-    store.apply(&[
+    let changes = [
         Change::SetLength { ino: number, len },
         Change::SetAttrs {
             ino: number,
             attrs: Attrs { mode, ..attrs },
         },
-    ])
+    ];
+    store.apply(&changes, Reserve::of(cred))
 }

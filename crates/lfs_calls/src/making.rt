@@ -27,7 +27,7 @@ use lfs_types::name::{NAME_MAX, Name};
 use lfs_types::path::Path;
 use lfs_types::request::Request;
 use lfs_types::rule::{Denial, Rule};
-use lfs_types::store::{Change, FileStore, StoreRefusal};
+use lfs_types::store::{Change, FileStore, Reserve, StoreRefusal};
 
 /// The directory in which a new name may be put, or the first rule that fails.
 pub(crate) fn judge_make<F: FileStore>(
@@ -79,6 +79,7 @@ fn may_make<F: FileStore>(
 /// Makes a file under a number and writes the block of its directory that lists it under a name.
 fn put_new<F: FileStore>(
     store: &mut Tree<F>,
+    by: Reserve,
     number: u32,
     attrs: Attrs,
     dir: u32,
@@ -102,7 +103,7 @@ fn put_new<F: FileStore>(
             bytes: &room.block,
         },
     ];
-    store.apply_naming(&changes, dir, name, Some(number))
+    store.apply_naming(&changes, by, dir, name, Some(number))
 }
 
 /// Makes an empty file.
@@ -163,6 +164,7 @@ fn make<F: FileStore>(
         flags: FileFlags::none(),
         size: 0,
     };
-    put_new(store, number, attrs, dir.number, &room, name)?;
+    let by = Reserve::of(cred);
+    put_new(store, by, number, attrs, dir.number, &room, name)?;
     Ok(Served::Done)
 }

@@ -24,7 +24,7 @@ use lfs_types::name::Name;
 use lfs_types::path::Path;
 use lfs_types::request::Request;
 use lfs_types::rule::{Denial, Rule};
-use lfs_types::store::{Change, FileStore, StoreRefusal};
+use lfs_types::store::{Change, FileStore, Reserve, StoreRefusal};
 
 /// A row whose name may be taken away: the row, and the directory in which it hangs.
 #[derive(Clone, Copy)]
@@ -65,6 +65,7 @@ pub(crate) fn judge_remove<F: FileStore>(
 /// Takes away a row: its name from the directory, and the file under its number.
 fn take_row<F: FileStore>(
     store: &mut Tree<F>,
+    by: Reserve,
     removal: &Removal,
     name: &Name,
 ) -> Result<(), StoreRefusal>
@@ -87,7 +88,7 @@ fn take_row<F: FileStore>(
             ino: removal.file.number,
         },
     ];
-    store.apply_naming(&changes, number, name, None)
+    store.apply_naming(&changes, by, number, name, None)
 }
 
 /// Removes a file.
@@ -129,7 +130,7 @@ fn remove<F: FileStore>(
 {
     let names = path.names();
     let removal = judge_removal(store, cred, names, kind)?;
-    take_row(store, &removal, last_name(names))?;
+    take_row(store, Reserve::of(cred), &removal, last_name(names))?;
     Ok(Served::Done)
 }
 

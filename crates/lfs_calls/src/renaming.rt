@@ -37,7 +37,7 @@ use lfs_types::name::{NAME_MAX, Name};
 use lfs_types::path::Path;
 use lfs_types::request::Request;
 use lfs_types::rule::{Denial, Rule};
-use lfs_types::store::{Change, FileStore, StoreRefusal};
+use lfs_types::store::{Change, FileStore, Reserve, StoreRefusal};
 
 /// What has the new name.
 #[derive(Clone, Copy)]
@@ -70,9 +70,11 @@ struct Places {
     room: Room,
 }
 
-/// The names that a Rename takes away and gives, and the number that has them.
+/// The names that a Rename takes away and gives, the number that has them, and on whose behalf.
 #[derive(Clone, Copy)]
 struct Renaming<'a> {
+    /// On whose behalf.
+    by: Reserve,
     /// The old name.
     old: &'a Name,
     /// The new name.
@@ -267,14 +269,14 @@ fn put_blocks<F: FileStore>(
     };
     let (from, to) = ((old_dir, names.old), (dir, names.new));
     if old_dir == dir && taken.off == room.off {
-        return store.apply_moving(&[put], from, to, names.number);
+        return store.apply_moving(&[put], names.by, from, to, names.number);
     }
     let take = Change::Put {
         ino: old_dir,
         off: taken.off,
         bytes: &taken.block,
     };
-    store.apply_moving(&[take, put], from, to, names.number)
+    store.apply_moving(&[take, put], names.by, from, to, names.number)
 }
 
 /// The blocks that list a row under a name that another row has, and no more under the old one.
@@ -362,14 +364,14 @@ fn put_swapped<F: FileStore>(
     let remove = Change::Remove { ino: gone };
     let (from, to) = ((old_dir, names.old), (dir, names.new));
     if old_dir == dir && taken.off == room.off {
-        return store.apply_moving(&[put, remove], from, to, names.number);
+        return store.apply_moving(&[put, remove], names.by, from, to, names.number);
     }
     let take = Change::Put {
         ino: old_dir,
         off: taken.off,
         bytes: &taken.block,
     };
-    store.apply_moving(&[take, put, remove], from, to, names.number)
+    store.apply_moving(&[take, put, remove], names.by, from, to, names.number)
 }
 
 /// Gives a file or a directory another name, in the same directory or in another. A file that has the name gives way to a
@@ -392,13 +394,14 @@ pub fn rename<F: FileStore>(
     let old = last_name(from);
     let new = last_name(to);
     prove!(new.as_bytes().len() <= NAME_MAX);
-    place_row(store, &planned, old, new)?;
+    place_row(store, Reserve::of(cred), &planned, old, new)?;
     Ok(Served::Done)
 }
 
 /// Puts a row in its new place, unless it has it already.
 fn place_row<F: FileStore>(
     store: &mut Tree<F>,
+    by: Reserve,
     planned: &Move,
     old: &Name,
     new: &Name,
@@ -410,14 +413,15 @@ fn place_row<F: FileStore>(
 {
     match planned.target {
         Target::Itself => Ok(()),
-        Target::Free => move_free(store, planned, old, new),
-        Target::Taken(there) => Ok(move_over(store, planned, there.number, old, new)?),
+        Target::Free => move_free(store, by, planned, old, new),
+        Target::Taken(there) => Ok(move_over(store, by, planned, there.number, old, new)?),
     }
 }
 
 /// Puts a row in a place that is free.
 fn move_free<F: FileStore>(
     store: &mut Tree<F>,
+    by: Reserve,
     planned: &Move,
     old: &Name,
     new: &Name,
@@ -435,7 +439,12 @@ fn move_free<F: FileStore>(
     let Places { taken, room } = places;
     let (old_dir, new_dir) = (planned.removal.dir.number, planned.dir.number);
     let number = planned.removal.file.number;
-    let names = Renaming { old, new, number };
+    let names = Renaming {
+        by,
+        old,
+        new,
+        number,
+    };
     put_blocks(store, old_dir, &taken, new_dir, &room, &names)?;
     Ok(())
 }
@@ -443,6 +452,7 @@ fn move_free<F: FileStore>(
 /// Puts a row in the place of another, which is removed.
 fn move_over<F: FileStore>(
     store: &mut Tree<F>,
+    by: Reserve,
     planned: &Move,
     there: u32,
     old: &Name,
@@ -457,6 +467,11 @@ fn move_over<F: FileStore>(
     let Places { taken, room } = find_swap(store, planned, there, old, new);
     let (old_dir, new_dir) = (planned.removal.dir.number, planned.dir.number);
     let number = planned.removal.file.number;
-    let names = Renaming { old, new, number };
+    let names = Renaming {
+        by,
+        old,
+        new,
+        number,
+    };
     put_swapped(store, old_dir, &taken, new_dir, &room, there, &names)
 }

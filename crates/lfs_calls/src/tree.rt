@@ -19,7 +19,7 @@ use lfs_dirhints::{DirHints, Hint};
 use lfs_namecache::NameCache;
 use lfs_types::attrs::Attrs;
 use lfs_types::name::Name;
-use lfs_types::store::{Change, FileStore, StoreRefusal};
+use lfs_types::store::{Change, FileStore, Reserve, StoreRefusal};
 use std::alloc::{AllocError, Global};
 use std::marker::Model;
 
@@ -173,7 +173,7 @@ impl<F: FileStore> Tree<F> {
     }
 
     /// Makes all the changes, in order, or none of them. They leave each name that a directory lists.
-    pub(crate) fn apply(&mut self, changes: &[Change<'_>]) -> Result<(), StoreRefusal>
+    pub(crate) fn apply(&mut self, changes: &[Change<'_>], by: Reserve) -> Result<(), StoreRefusal>
         requires can { CanApply (F.state self.old).shape.numbers changes.now
             (F.state self.old).content }
         requires keeps { KeepsNames (F.state self.old).content
@@ -185,6 +185,7 @@ impl<F: FileStore> Tree<F> {
             &mut self.attributes,
             &mut self.hints,
             changes,
+            by,
         )
     }
 
@@ -192,6 +193,7 @@ impl<F: FileStore> Tree<F> {
     pub(crate) fn apply_naming(
         &mut self,
         changes: &[Change<'_>],
+        by: Reserve,
         dir: u32,
         name: &Name,
         found: Option<u32>,
@@ -207,6 +209,7 @@ impl<F: FileStore> Tree<F> {
             &mut self.attributes,
             &mut self.hints,
             changes,
+            by,
         )?;
         self.names.enter(dir, name, found);
         Ok(())
@@ -217,6 +220,7 @@ impl<F: FileStore> Tree<F> {
     pub(crate) fn apply_moving(
         &mut self,
         changes: &[Change<'_>],
+        by: Reserve,
         from: (u32, &Name),
         to: (u32, &Name),
         number: u32,
@@ -233,6 +237,7 @@ impl<F: FileStore> Tree<F> {
             &mut self.attributes,
             &mut self.hints,
             changes,
+            by,
         )?;
         self.names.enter(from.0, from.1, None);
         self.names.enter(to.0, to.1, Some(number));
@@ -247,6 +252,7 @@ fn apply_followed<F: FileStore>(
     attributes: &mut AttrCache,
     hints: &mut DirHints,
     changes: &[Change<'_>],
+    by: Reserve,
 ) -> Result<(), StoreRefusal>
     requires { CanApply (F.state store.old).shape.numbers changes.now
         (F.state store.old).content }
@@ -256,7 +262,7 @@ fn apply_followed<F: FileStore>(
     ensures full { AreFull hints.old (F.state store.old).content
         → AreFull hints.new (F.state store.new).content }
 {
-    store.apply(changes)?;
+    store.apply(changes, by)?;
     lfs_attrcache::follow(attributes, changes);
     lfs_dirhints::follow(hints, changes);
     Ok(())

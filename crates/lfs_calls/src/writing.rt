@@ -20,7 +20,7 @@ use lfs_types::cred::Cred;
 use lfs_types::path::Path;
 use lfs_types::payload::Payload;
 use lfs_types::request::{Place, Request};
-use lfs_types::store::{Change, FileStore, StoreRefusal};
+use lfs_types::store::{Change, FileStore, Reserve, StoreRefusal};
 
 /// Puts bytes into a file.
 pub fn write<F: FileStore>(
@@ -64,7 +64,7 @@ fn put<F: FileStore>(
 {
     let Reached { number, attrs } = *file;
     let mode = mode_after(cred, attrs.mode);
-    store.apply(&[
+    let changes = [
         Change::Put {
             ino: number,
             off: start,
@@ -74,5 +74,6 @@ fn put<F: FileStore>(
             ino: number,
             attrs: Attrs { mode, ..attrs },
         },
-    ])
+    ];
+    store.apply(&changes, Reserve::of(cred))
 }

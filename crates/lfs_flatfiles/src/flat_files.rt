@@ -15,7 +15,7 @@ use lfs_types::fault::FormatFault;
 use lfs_types::file_flags::FileFlags;
 use lfs_types::limits::{FIRST_INODE, LEAST_INODES, MOST_INODES, MOST_SEGMENTS, ROOT_INODE};
 use lfs_types::mode::Mode;
-use lfs_types::store::{Change, FileStore, StoreRefusal};
+use lfs_types::store::{Change, FileStore, Reserve, StoreRefusal};
 use place::{Place, end_of};
 use std::alloc::{AllocError, Global};
 
@@ -235,7 +235,7 @@ impl FileStore for FlatFiles {
         MOST_SEGMENTS
     }
 
-    fn apply(&mut self, changes: &[Change<'_>]) -> Result<(), StoreRefusal> {
+    fn apply(&mut self, changes: &[Change<'_>], _by: Reserve) -> Result<(), StoreRefusal> {
         // What may be refused comes first, and changes no file.
         if self.make_room(changes).is_err() {
             return Err(StoreRefusal::NoMemory);

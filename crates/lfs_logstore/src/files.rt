@@ -14,7 +14,7 @@ use crate::store::LogStore;
 use lfs_segwrite::applying::apply;
 use lfs_segwrite::writing::write_waiting;
 use lfs_types::attrs::Attrs;
-use lfs_types::store::{Change, FileStore, StoreRefusal};
+use lfs_types::store::{Change, FileStore, Reserve, StoreRefusal};
 
 impl FileStore for LogStore {
     ghost use Rattle.lfs_logstore.specs.States.{state_of};
@@ -48,17 +48,17 @@ impl FileStore for LogStore {
     }
 
     /// Makes changes, which wait. Where more would wait than may, what waits is written first.
-    fn apply(&mut self, changes: &[Change<'_>]) -> Result<(), StoreRefusal>
+    fn apply(&mut self, changes: &[Change<'_>], by: Reserve) -> Result<(), StoreRefusal>
         requires { CanApply (state_of self.old).shape.numbers changes.now (state_of self.old).content }
         ensures applies { Applies (state_of self.old) changes.now result (state_of self.new) }
-        ensures made { OnOk result (MakesChanges changes.now self.old self.new) }
+        ensures made { OnOk result (MakesChanges by changes.now self.old self.new) }
         // There was room, as the log stood.
-        ensures fits { OnOk result (HasRoomFor changes.now self.old) }
+        ensures fits { OnOk result (HasRoomFor by changes.now self.old) }
         ensures refused { OnErr result (self.new ≡ self.old) }
         // There is no room, as the log stands.
-        ensures lacking { OnErr result (HasRoomFor changes.now self.old → ⊥) }
+        ensures lacking { OnErr result (HasRoomFor by changes.now self.old → ⊥) }
     {
-        apply(&mut self.parts, changes).map_err(|_| StoreRefusal::NoSpace)
+        apply(&mut self.parts, changes, by).map_err(|_| StoreRefusal::NoSpace)
     }
 
     /// Writes what waits. It always has room.

@@ -4,6 +4,7 @@ use Rattle.std.specs.Prelude.{slice_index_or, if◌then◌else◌, ◌==◌, tru
 use Rattle.std.proofs.lemmas.Bool.{cases_eq, cases_lt, false≢true}
 use Rattle.lfs_types.specs.Changes.{applied}
 use Rattle.lfs_types.specs.declared.store.Change.{Change}
+use Rattle.lfs_types.specs.declared.store.Reserve.{Reserve}
 use Rattle.lfs_types.specs.declared.limits.TheConstants.{SEGMENT_BLOCKS}
 use Rattle.lfs_ifile.specs.declared.segment.SegState.{SegState}
 use Rattle.lfs_ifile.specs.declared.segment.SegState.TheVariants.{Clean}
@@ -17,7 +18,7 @@ use Rattle.lfs_bmap.specs.Moves.{DirtyIn, Moves, StaysDirty}
 use Rattle.lfs_bmap.proofs.LogLemmas.{dirty_not_active}
 use Rattle.lfs_bmap.proofs.MoveLemmas.{StaysDirty-trans, moves-same, moves-trans}
 use Rattle.lfs_staging.specs.declared.parts.Parts.{Parts}
-use Rattle.lfs_segwrite.specs.Applying.{HasRoom, HasRoomFor, versions_after, MakesChanges, MakesWay, StagesAll, WritesAhead, WritesWaiting, blocks_for, frames_of_all, give_back, needs_of, records_of_all, waiting_blocks}
+use Rattle.lfs_segwrite.specs.Applying.{HasRoom, HasRoomFor, versions_after, MakesChanges, MakesWay, StagesAll, WritesAhead, WritesWaiting, blocks_for, frames_of_all, may_use_reserve, needs_of, records_of_all, waiting_blocks}
 use Rattle.lfs_segwrite.specs.Collecting.{blocks_of_entries, entries_of}
 use Rattle.lfs_staging.specs.Files.{content_of}
 use Rattle.lfs_segwrite.specs.Flushing.{Flushes, Waits}
@@ -275,30 +276,30 @@ settled_none p settled =
     ap (λ n. if n == 0 then 0 else n + 1) none
 
 -- changes that have room fit, or a segment is clean
-room_or : (changes : List Change) (p : Parts) → HasRoomFor changes p → (waiting_blocks p + needs_of changes ≤ room_of p.log.memory) ⊎ (0 < p.log.clean)
-room_or changes p has = elim has [
-  | inl giving ↦ elim giving.1 [
+room_or : (by : Reserve) (changes : List Change) (p : Parts) → HasRoomFor by changes p → (waiting_blocks p + needs_of changes ≤ room_of p.log.memory) ⊎ (0 < p.log.clean)
+room_or by changes p has = elim has [
+  | inl taking ↦ elim taking [ inl more ↦ inr (omega arith) | inr both ↦ inl both.1 ]
+  | inr giving ↦ elim giving.1 [
     | inl more ↦ inr (omega arith)
     | inr behind ↦ elim behind [
       | inl fit ↦ inl fit.0
       | inr beyond ↦ let fits = beyond.1.1.cleanable.fits in inr (omega (arith, fits))
     ]
   ]
-  | inr taking ↦ elim taking.1 [ inl more ↦ inr (omega arith) | inr both ↦ inl both.1 ]
 ]
 
--- those that don't fit give blocks back, or more than two segments are clean
-more_or : (changes : List Change) (p : Parts) → HasRoomFor changes p → room_of p.log.memory < waiting_blocks p
-    → (give_back (content_of p) changes ≡ true) ⊎ (2 < p.log.clean)
-more_or changes p has short = elim has [
-  | inl giving ↦ inl giving.0
-  | inr taking ↦ elim taking.1 [ inl more ↦ inr more | inr both ↦ absurd (omega (arith, both.1)) ]
+-- those that don't fit may use what is kept back, or more than two segments are clean
+more_or : (by : Reserve) (changes : List Change) (p : Parts) → HasRoomFor by changes p → room_of p.log.memory < waiting_blocks p
+    → (may_use_reserve by (content_of p) changes ≡ true) ⊎ (2 < p.log.clean)
+more_or by changes p has short = elim has [
+  | inl taking ↦ elim taking [ inl more ↦ inr more | inr both ↦ absurd (omega (arith, both.1)) ]
+  | inr giving ↦ inl giving.0
 ]
 
-pub makes_changes : (changes : List Change) (old a b : Parts) → HasRoom old → HasRoomFor changes old → waiting_blocks old ≤ 41 → needs_of changes ≤ 22
-    → MakesWay changes old a → StagesAll changes a b → MakesChanges changes old b
-makes_changes changes old a b had has few most way stages =
-    let free_or = room_or changes old has in
+pub makes_changes : (by : Reserve) (changes : List Change) (old a b : Parts) → HasRoom old → HasRoomFor by changes old → waiting_blocks old ≤ 41 → needs_of changes ≤ 22
+    → MakesWay changes old a → StagesAll changes a b → MakesChanges by changes old b
+makes_changes by changes old a b had has few most way stages =
+    let free_or = room_or by changes old has in
     elim way.either [
       | inl nothing ↦
           let same : a ≡ old = nothing.1 in
@@ -343,7 +344,7 @@ makes_changes changes old a b had has few most way stages =
             log = ahead_stays old a b w.log stages.log;
             reserve = λ fewer. elim w.left [
               | inl here ↦ let second = here.2 in absurd (omega arith)
-              | inr opened ↦ (has, more_or changes old has opened.2)
+              | inr opened ↦ (has, more_or by changes old has opened.2)
             ];
             opened = elim w.left [
               | inl here ↦ let second = here.2 in omega arith

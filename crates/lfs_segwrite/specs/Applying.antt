@@ -1,15 +1,19 @@
 -- Changes of a store's content, made one after another, and written all together.
-use Rattle.std.specs.Prelude.{◌≡◌, ◌≢◌, ◌⊎◌, ◌||◌, ℕ, ◌+◌, ◌*◌, ◌/◌, ◌<◌, ◌≤◌, Bool, true, false, List, [], ◌∷◌, length, max, nat_lt, if◌then◌else◌, ◌==◌, sum_by}
+use Rattle.std.specs.Prelude.{◌≡◌, ◌≢◌, ◌⊎◌, ◌||◌, ℕ, ◌+◌, ◌*◌, ◌/◌, ◌<◌, ◌≤◌, Bool, true, false, List, [], ◌∷◌, length, max, nat_lt, if◌then◌else◌, ◌==◌, sum_by, Option, None, Some}
 use Rattle.std.specs.List.{list_any}
 use Rattle.lfs_types.specs.Changes.{applied, changed}
-use Rattle.lfs_types.specs.Stored.{bytes_of}
+use Rattle.lfs_types.specs.Stored.{bytes_of, shown_attrs}
+use Rattle.lfs_types.specs.declared.attrs.Attrs.{Attrs}
 use Rattle.lfs_types.specs.Tree.{Content}
+use Rattle.lfs_types.specs.FlagNumbers.{is_part_of}
 use Rattle.lfs_types.specs.declared.limits.TheConstants.{FILE_BYTES, SEGMENT_BLOCKS, TRANSFER_BYTES}
 use Rattle.lfs_inodes.specs.Facts.{block_count}
 use Rattle.lfs_segwrite.specs.Room.{HasCleanable}
 use Rattle.lfs_segwrite.specs.declared.room.TheConstants.{SPARE, WHOLE}
 use Rattle.lfs_types.specs.declared.store.Change.{Change}
 use Rattle.lfs_types.specs.declared.store.Change.TheVariants.{Make, Remove, SetAttrs, Put, SetLength}
+use Rattle.lfs_types.specs.declared.store.Reserve.{Reserve}
+use Rattle.lfs_types.specs.declared.store.Reserve.TheVariants.{Users, Superuser}
 use Rattle.lfs_ifile.specs.declared.segment.SegState.TheVariants.{Clean}
 use Rattle.lfs_log.specs.Parts.{state_of}
 use Rattle.lfs_segments.specs.Memory.{block_at, next_address, room_of}
@@ -65,6 +69,28 @@ gives_back c (SetLength ino len) = nat_lt (block_count len) (block_count (length
 -- changes give blocks back
 abbrev pub give_back : Content → List Change → Bool
 give_back c changes = list_any (gives_back c) changes
+
+-- flags are some of those that a file shows, and not all of them
+abbrev pub are_fewer : ℕ → Option Attrs → Bool
+are_fewer flags None = false
+are_fewer flags (Some attrs) = is_part_of flags attrs.flags
+
+-- a change takes flags away from a file, and gives it none
+abbrev pub unlocks : Content → Change → Bool
+unlocks c (Make ino attrs) = false
+unlocks c (Remove ino) = false
+unlocks c (SetAttrs ino attrs) = are_fewer attrs.flags (shown_attrs c ino)
+unlocks c (Put ino off bytes) = false
+unlocks c (SetLength ino len) = false
+
+-- changes take flags away from a file
+abbrev pub unlock : Content → List Change → Bool
+unlock c changes = list_any (unlocks c) changes
+
+-- Changes may use the room that is kept back: they give blocks back, or are the superuser's and take flags away.
+abbrev pub may_use_reserve : Reserve → Content → List Change → Bool
+may_use_reserve Users c changes = give_back c changes
+may_use_reserve Superuser c changes = give_back c changes || unlock c changes
 
 -- the version of a number after changes, in order
 abbrev pub versions_after : List Change → ℕ → ℕ → ℕ
@@ -144,12 +170,12 @@ abbrev pub passes_limits : Parts → List Change → Bool
 passes_limits p changes =
     nat_lt LOCKED_LIMIT (length p.cache.locked + peak_of_all changes) || nat_lt WAITING_LIMIT (length p.waiting + length changes)
 
--- There is room for so many blocks that are to be written for changes that take room: more than two segments are clean, or
--- two, and the blocks fit the active one.
+-- There is room for so many blocks that are to be written for any changes: more than two segments are clean, or two, and the
+-- blocks fit the active one.
 abbrev pub HasRoomToTake : ℕ → Parts → Type 0
 HasRoomToTake blocks p = (2 < p.log.clean) ⊎ ((p.log.clean ≡ 2) × (blocks ≤ room_of p.log.memory))
 
--- There is room for so many blocks that are to be written for changes that give blocks back: more than one segment is
+-- There is room for so many that are to be written for changes that may use what is kept back: more than one segment is
 -- clean, or behind these blocks some segment can still be cleaned and leaves some to spare.
 abbrev pub HasRoomToGive : ℕ → Parts → Type 0
 HasRoomToGive blocks p =
@@ -159,14 +185,13 @@ HasRoomToGive blocks p =
     ⊎ ((room_of p.log.memory < blocks) × ((s : ℕ) × HasCleanable p true (blocks + SPARE) (WHOLE * p.log.clean) s)))
 
 -- there is room for so many blocks that are to be written for changes
-abbrev pub HasRoomForBlocks : List Change → ℕ → Parts → Type 0
-HasRoomForBlocks changes blocks p =
-    ((give_back (content_of p) changes ≡ true) × HasRoomToGive blocks p)
-    ⊎ ((give_back (content_of p) changes ≡ false) × HasRoomToTake blocks p)
+abbrev pub HasRoomForBlocks : Reserve → List Change → ℕ → Parts → Type 0
+HasRoomForBlocks by changes blocks p =
+    HasRoomToTake blocks p ⊎ ((may_use_reserve by (content_of p) changes ≡ true) × HasRoomToGive blocks p)
 
 -- there is room for what waits and for changes
-abbrev pub HasRoomFor : List Change → Parts → Type 0
-HasRoomFor changes p = HasRoomForBlocks changes (waiting_blocks p + needs_of changes) p
+abbrev pub HasRoomFor : Reserve → List Change → Parts → Type 0
+HasRoomFor by changes p = HasRoomForBlocks by changes (waiting_blocks p + needs_of changes) p
 
 -- There is room among what waits for changes: nothing was done, or what waited was written.
 pub record MakesWay (changes : List Change) (old new : Parts) : Type 0 where
@@ -178,14 +203,14 @@ pub record MakesWay (changes : List Change) (old new : Parts) : Type 0 where
 -- What waited before them was written where with the changes more could wait than may, and nothing else was. Then all the
 -- changes were made, in order, and wait, with nothing beside them. A number that was made has the version behind its last,
 -- each other one the version that it had. One segment was opened at most, and only where what waited had no room and the
--- changes had some; two stay clean where the changes give no blocks back.
-pub record MakesChanges (changes : List Change) (old new : Parts) : Type 0 where
+-- changes had some; two stay clean where the changes may not use what is kept back.
+pub record MakesChanges (by : Reserve) (changes : List Change) (old new : Parts) : Type 0 where
   pub store : IsStore new
   pub room : HasRoom new
   pub content : content_of new ≡ applied changes (content_of old)
   pub versions : (number : ℕ) → version_of new number ≡ versions_after changes number (version_of old number)
   pub log : WritesAhead old new
-  pub reserve : new.log.clean < old.log.clean → HasRoomFor changes old × ((give_back (content_of old) changes ≡ true) ⊎ (2 < old.log.clean))
+  pub reserve : new.log.clean < old.log.clean → HasRoomFor by changes old × ((may_use_reserve by (content_of old) changes ≡ true) ⊎ (2 < old.log.clean))
   pub opened : old.log.clean ≤ new.log.clean + 1
   pub enough : waiting_blocks old ≤ room_of old.log.memory → new.log.clean ≡ old.log.clean
   pub delayed : passes_limits old changes ≡ false → StaysInLog old new

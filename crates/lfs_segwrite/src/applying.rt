@@ -6,7 +6,7 @@ ghost use Rattle.lfs_inodes.specs.Facts.{block_count};
 ghost use Rattle.lfs_types.specs.Changes.{CanApply, CanChange, CanChangeAll};
 ghost use Rattle.lfs_types.specs.declared.store.Change.TheVariants.{Put};
 ghost use Rattle.lfs_types.specs.declared.limits.TheConstants.{FILE_BYTES};
-ghost use Rattle.lfs_segwrite.specs.Applying.{HasRoom, HasRoomFor, HasRoomForBlocks, HasRoomToGive, HasRoomToTake, IsInReach, MakesChanges, MakesWay, StagesAll, StagesChange, frames_of_all, give_back, gives_back, needs_of, passes_limits, peak_of, peak_of_all, records_of_all};
+ghost use Rattle.lfs_segwrite.specs.Applying.{HasRoom, HasRoomFor, HasRoomForBlocks, HasRoomToGive, HasRoomToTake, IsInReach, MakesChanges, MakesWay, StagesAll, StagesChange, frames_of_all, give_back, gives_back, may_use_reserve, needs_of, passes_limits, peak_of, peak_of_all, records_of_all, unlock, unlocks};
 ghost use Rattle.lfs_cache.specs.declared.cache.TheConstants.{LOCKED_LIMIT};
 ghost use Rattle.lfs_staging.specs.declared.records.TheConstants.{WAITING_LIMIT};
 ghost use Rattle.lfs_staging.specs.Changing.{frames_of, frames_of_length, records_of};
@@ -27,7 +27,7 @@ use lfs_staging::cutting::CUT_FRAMES;
 use lfs_staging::parts::Parts;
 use lfs_staging::records::WAITING_LIMIT;
 use lfs_types::block::BLOCK_SIZE;
-use lfs_types::store::Change;
+use lfs_types::store::{Change, Reserve};
 
 /// The greatest number of frames that the changes of one call take.
 pub const APPLIED_FRAMES: usize = 20;
@@ -35,7 +35,7 @@ pub const APPLIED_FRAMES: usize = 20;
 /// The greatest number of records that they have wait: one for each change.
 pub const APPLIED_RECORDS: usize = 4;
 
-/// How many segments stay clean when one is opened for changes that give no blocks back.
+/// How many segments stay clean when one is opened for changes that may not use what is kept back.
 const RESERVE: u32 = 2;
 
 /// How many frames so many bytes put at byte `off` of a file take at most.
@@ -205,6 +205,47 @@ fn give_back(parts: &Parts, changes: &[Change<'_>]) -> bool
     false
 }
 
+/// Whether a change takes flags away from a file, and gives it none.
+fn unlocks(parts: &Parts, change: &Change<'_>) -> bool
+    requires { IsStore parts.now }
+    ensures { result ≡ unlocks (content_of parts.now) change.now }
+{
+    match *change {
+        Change::SetAttrs { ino, attrs } => match parts.attrs(ino) {
+            Some(old) => attrs.flags.is_part_of(old.flags),
+            None => false,
+        },
+        Change::Make { .. }
+        | Change::Remove { .. }
+        | Change::Put { .. }
+        | Change::SetLength { .. } => false,
+    }
+}
+
+/// Whether changes take flags away from a file.
+fn unlock(parts: &Parts, changes: &[Change<'_>]) -> bool
+    requires { IsStore parts.now }
+    ensures { result ≡ unlock (content_of parts.now) changes.now }
+{
+    for change in changes {
+        if unlocks(parts, change) {
+            return true;
+        }
+    }
+    false
+}
+
+/// Whether changes may use the room that is kept back: they give blocks back, or are the superuser's and take flags away.
+fn may_use_reserve(parts: &Parts, changes: &[Change<'_>], by: Reserve) -> bool
+    requires { IsStore parts.now }
+    ensures { result ≡ may_use_reserve by (content_of parts.now) changes.now }
+{
+    match by {
+        Reserve::Users => give_back(parts, changes),
+        Reserve::Superuser => give_back(parts, changes) || unlock(parts, changes),
+    }
+}
+
 /// Has bytes wait that are put into a file in use; no bytes change nothing.
 fn put_some(parts: &mut Parts, ino: u32, off: u64, bytes: &[u8])
     requires staged { IsStaged parts.old 0 }
@@ -256,7 +297,7 @@ fn stage_changes(parts: &mut Parts, changes: &[Change<'_>])
     }
 }
 
-/// Whether there is room for so many blocks that are to be written for changes that take room.
+/// Whether there is room for so many blocks that are to be written for any changes.
 fn has_room_to_take(parts: &Parts, blocks: u32) -> bool
     requires { IsStore parts.now }
     ensures given { IsTrue result ↔ HasRoomToTake blocks parts.now }
@@ -266,12 +307,11 @@ fn has_room_to_take(parts: &Parts, blocks: u32) -> bool
     clean > RESERVE || (clean == RESERVE && blocks <= parts.log.room())
 }
 
-/// Whether there is room for so many blocks that are to be written for changes that give blocks back.
+/// Whether there is room for so many blocks that are to be written for changes that may use what is kept back.
 fn has_room_to_give(parts: &Parts, blocks: u32) -> bool
     requires store { IsStore parts.now }
     requires few { blocks ≤ 80 }
-    ensures given { IsTrue result ↔ HasRoomToGive blocks parts.now }
-    ensures many { 2 < parts.now.log.clean → result ≡ true }
+    ensures { IsTrue result ↔ HasRoomToGive blocks parts.now }
 {
     let clean = parts.log.clean();
     if clean > 1 {
@@ -287,31 +327,28 @@ fn has_room_to_give(parts: &Parts, blocks: u32) -> bool
 }
 
 /// Whether there is room for so many blocks that are to be written for changes.
-fn has_room_for(parts: &Parts, changes: &[Change<'_>], blocks: u32) -> bool
+fn has_room_for(parts: &Parts, changes: &[Change<'_>], by: Reserve, blocks: u32) -> bool
     requires store { IsStore parts.now }
     requires few { blocks ≤ 80 }
-    ensures given { IsTrue result ↔ HasRoomForBlocks changes.now blocks parts.now }
+    ensures given { IsTrue result ↔ HasRoomForBlocks by changes.now blocks parts.now }
     ensures many { 2 < parts.now.log.clean → result ≡ true }
 {
-    if give_back(parts, changes) {
-        has_room_to_give(parts, blocks)
-    } else {
-        has_room_to_take(parts, blocks)
-    }
+    has_room_to_take(parts, blocks)
+        || (may_use_reserve(parts, changes, by) && has_room_to_give(parts, blocks))
 }
 
 /// Whether there is room for what waits and for changes.
-fn check_room(parts: &Parts, changes: &[Change<'_>]) -> Result<(), NoRoom>
+fn check_room(parts: &Parts, changes: &[Change<'_>], by: Reserve) -> Result<(), NoRoom>
     requires store { IsStore parts.now }
     requires reach { All IsInReach changes.now }
     requires frames { frames_of_all changes.now ≤ APPLIED_FRAMES }
     requires records { records_of_all changes.now ≤ APPLIED_RECORDS }
-    ensures has { OnOk result (HasRoomFor changes.now parts.now) }
-    ensures lacking { OnErr result (HasRoomFor changes.now parts.now → ⊥) }
+    ensures has { OnOk result (HasRoomFor by changes.now parts.now) }
+    ensures lacking { OnErr result (HasRoomFor by changes.now parts.now → ⊥) }
     ensures short { OnErr result (parts.now.log.clean ≤ 2) }
 {
     let blocks = blocks_to_write(parts) + needs(changes);
-    if has_room_for(parts, changes, blocks) {
+    if has_room_for(parts, changes, by, blocks) {
         Ok(())
     } else {
         Err(NoRoom)
@@ -334,19 +371,19 @@ fn make_way(parts: &mut Parts, changes: &[Change<'_>])
 
 /// Makes changes, in order: all of them, or none where there is no room. They wait; where more would
 /// wait than may, what waits is written first.
-pub fn apply(parts: &mut Parts, changes: &[Change<'_>]) -> Result<(), NoRoom>
+pub fn apply(parts: &mut Parts, changes: &[Change<'_>], by: Reserve) -> Result<(), NoRoom>
     requires store { IsStore parts.old }
     requires room { HasRoom parts.old }
     requires can { CanApply (length parts.old.log.tables.rows) changes.now
         (content_of parts.old) }
-    ensures made { OnOk result (MakesChanges changes.now parts.old parts.new) }
-    ensures fits { OnOk result (HasRoomFor changes.now parts.old) }
+    ensures made { OnOk result (MakesChanges by changes.now parts.old parts.new) }
+    ensures fits { OnOk result (HasRoomFor by changes.now parts.old) }
     ensures refused { OnErr result (parts.new ≡ parts.old) }
-    ensures lacking { OnErr result (HasRoomFor changes.now parts.old → ⊥) }
+    ensures lacking { OnErr result (HasRoomFor by changes.now parts.old → ⊥) }
     // Which is never so with more than two clean segments.
     ensures short { OnErr result (parts.old.log.clean ≤ 2) }
 {
-    check_room(parts, changes)?;
+    check_room(parts, changes, by)?;
     make_way(parts, changes);
     stage_changes(parts, changes);
     Ok(())

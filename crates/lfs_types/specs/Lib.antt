@@ -10,6 +10,7 @@ pub mod Naming
 pub mod Padded
 pub mod Paths
 pub mod Ranges
+pub mod Reserves
 pub mod RuleCodes
 pub mod Shown
 pub mod Splicing

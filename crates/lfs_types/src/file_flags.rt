@@ -3,7 +3,7 @@
 ghost use Rattle.std.specs.Prelude.{⊤, ◌≡◌, ◌==◌, [], ◌∷◌, codes, not};
 ghost use Rattle.std.specs.Option.{SomeIff};
 ghost use Rattle.std.specs.Int.RustNames.{bit_and};
-ghost use Rattle.lfs_types.specs.FlagNumbers.{IsKnown};
+ghost use Rattle.lfs_types.specs.FlagNumbers.{IsKnown, is_part_of};
 
 use bitflags::{Flag, Flags, bitflag_items};
 use std::marker::Model;
@@ -103,6 +103,13 @@ impl FileFlags {
         ensures { result ≡ (bit_and self bits.0 == bits.0) }
     {
         self.set.contains(bits)
+    }
+
+    /// Whether these are some of other flags, and not all of them.
+    pub fn is_part_of(self, whole: FileFlags) -> bool
+        ensures { result ≡ is_part_of self whole }
+    {
+        whole.contains(self.set) && self != whole
     }
 
     /// Whether a bit of `bits` is set.

@@ -3,10 +3,12 @@
 ghost use Rattle.std.specs.Prelude.{◌≡◌, [], length, IsSome, OnOk};
 ghost use Rattle.std.specs.FinMap.{get};
 ghost use Rattle.lfs_types.specs.Changes.{CanApply};
+ghost use Rattle.lfs_types.specs.Reserves.{reserve_of};
 ghost use Rattle.lfs_types.specs.StoreStates.{Applies, StoreState};
 ghost use Rattle.lfs_types.specs.Stored.{shown_attrs, bytes_of, slice_of, Reads, IsLeastFree};
 
 use crate::attrs::Attrs;
+use crate::cred::Cred;
 use thiserror::Error;
 
 /// One change of a store's content. A directory's bytes are its blocks.
@@ -49,6 +51,28 @@ pub enum Change<'a> {
     },
 }
 
+/// On whose behalf changes are made, and so which of them may use the room that a store keeps back.
+#[derive(Clone, Copy, PartialEq, Eq, Debug)]
+pub enum Reserve {
+    /// A user's: those that give blocks back.
+    Users,
+    /// The superuser's: those that give blocks back, and those that add none.
+    Superuser,
+}
+
+impl Reserve {
+    /// That of a caller.
+    pub fn of(cred: &Cred) -> Reserve
+        ensures { result ≡ reserve_of cred.now }
+    {
+        if cred.is_superuser() {
+            Reserve::Superuser
+        } else {
+            Reserve::Users
+        }
+    }
+}
+
 /// Why a store did not make changes.
 #[derive(Clone, Copy, PartialEq, Eq, Debug, Error)]
 pub enum StoreRefusal {
@@ -88,8 +112,8 @@ pub trait FileStore {
     fn clean_segments(&self) -> u32
         ensures { result ≡ (state self.now).clean };
 
-    /// Makes all the changes, in order, or none of them.
-    fn apply(&mut self, changes: &[Change<'_>]) -> Result<(), StoreRefusal>
+    /// Makes all the changes, in order, or none of them. On whose behalf says only which may be refused for want of room.
+    fn apply(&mut self, changes: &[Change<'_>], by: Reserve) -> Result<(), StoreRefusal>
         requires { CanApply (state self.old).shape.numbers changes.now (state self.old).content }
         ensures { Applies (state self.old) changes.now result (state self.new) };
 

@@ -5,7 +5,7 @@ ghost use Rattle.std.specs.Prelude.{◌≡◌};
 use lfs_types::attrs::Attrs;
 use lfs_types::cleaned::CleanedStore;
 use lfs_types::cleaner::{BlockInfo, CleanFault, InfoList, MarkList};
-use lfs_types::store::{Change, FileStore, StoreRefusal};
+use lfs_types::store::{Change, FileStore, Reserve, StoreRefusal};
 use lfs_volume::flat_files::FlatFiles;
 use std::alloc::AllocError;
 
@@ -45,8 +45,8 @@ impl FileStore for Unswept {
         self.files.clean_segments()
     }
 
-    fn apply(&mut self, changes: &[Change<'_>]) -> Result<(), StoreRefusal> {
-        self.files.apply(changes)
+    fn apply(&mut self, changes: &[Change<'_>], by: Reserve) -> Result<(), StoreRefusal> {
+        self.files.apply(changes, by)
     }
 
     fn sync(&mut self) -> Result<(), StoreRefusal> {

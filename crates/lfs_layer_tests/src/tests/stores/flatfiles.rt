@@ -9,7 +9,7 @@ use lfs_types::attrs::{Attrs, Kind};
 use lfs_types::fault::FormatFault;
 use lfs_types::file_flags::FileFlags;
 use lfs_types::mode::Mode;
-use lfs_types::store::{Change, FileStore};
+use lfs_types::store::{Change, FileStore, Reserve};
 use std::alloc::Global;
 use std::process::Abort;
 
@@ -110,7 +110,7 @@ fn applies_changes_in_order(rt: HostRuntime) {
         },
         Change::SetAttrs { ino: 4, attrs: set },
     ];
-    store.apply(&changes).expect(&rt, "room");
+    store.apply(&changes, Reserve::Users).expect(&rt, "room");
     let shown = Attrs {
         size: 7,
         ..attrs_of(&rt, 0o644)
@@ -133,13 +133,13 @@ fn knows_the_least_free_number(rt: HostRuntime) {
         ino: 5,
         attrs: attrs_of(&rt, 0o600),
     }];
-    store.apply(&first).expect(&rt, "room");
+    store.apply(&first, Reserve::Users).expect(&rt, "room");
     assert_eq!(rt; store.least_free(), Some(4));
     let second = [Change::Make {
         ino: 4,
         attrs: attrs_of(&rt, 0o600),
     }];
-    store.apply(&second).expect(&rt, "room");
+    store.apply(&second, Reserve::Users).expect(&rt, "room");
     expect_eq(&rt, store.least_free(), Some(6));
 }
 
@@ -159,14 +159,14 @@ fn shows_zeros_where_a_file_was_cut(rt: HostRuntime) {
         },
         Change::SetLength { ino: 4, len: 1 },
     ];
-    store.apply(&cut).expect(&rt, "room");
+    store.apply(&cut, Reserve::Users).expect(&rt, "room");
     let shown = attrs_of(&rt, 0o600);
     assert_eq!(rt; store.attrs(4), Some(Attrs { size: 1, ..shown }));
     let mut bytes = [9; 5];
     expect_read(&rt, &mut store, 0, &mut bytes, 1);
     expect_eq(&rt, bytes, [b'a', 9, 9, 9, 9]);
     let grown = [Change::SetLength { ino: 4, len: 4 }];
-    store.apply(&grown).expect(&rt, "room");
+    store.apply(&grown, Reserve::Users).expect(&rt, "room");
     expect_eq(&rt, store.attrs(4), Some(Attrs { size: 4, ..shown }));
     expect_read(&rt, &mut store, 0, &mut bytes, 4);
     expect_eq(&rt, bytes, [b'a', 0, 0, 0, 9]);
@@ -187,17 +187,19 @@ fn gives_out_a_removed_number(rt: HostRuntime) {
             bytes: b"abc",
         },
     ];
-    store.apply(&first).expect(&rt, "room");
+    store.apply(&first, Reserve::Users).expect(&rt, "room");
     assert_eq!(rt; store.least_free(), Some(5));
     let removed = [Change::Remove { ino: 4 }];
-    store.apply(&removed).expect(&rt, "no room wanted");
+    store
+        .apply(&removed, Reserve::Users)
+        .expect(&rt, "no room wanted");
     assert_eq!(rt; store.attrs(4), None);
     assert_eq!(rt; store.least_free(), Some(4));
     let second = [Change::Make {
         ino: 4,
         attrs: attrs_of(&rt, 0o644),
     }];
-    store.apply(&second).expect(&rt, "room");
+    store.apply(&second, Reserve::Users).expect(&rt, "room");
     assert_eq!(rt; store.least_free(), Some(5));
     expect_read(&rt, &mut store, 0, &mut [9; 3], 0);
 }

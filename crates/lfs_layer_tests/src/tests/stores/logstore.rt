@@ -12,7 +12,7 @@ use lfs_types::cleaner::{BlockInfo, CleanFault, INODE_BLOCK, InfoList, MarkList,
 use lfs_types::fault::FormatFault;
 use lfs_types::file_flags::FileFlags;
 use lfs_types::mode::Mode;
-use lfs_types::store::{Change, FileStore, Params};
+use lfs_types::store::{Change, FileStore, Params, Reserve};
 use std::alloc::Global;
 use std::process::Abort;
 
@@ -241,7 +241,7 @@ fn make_file(rt: &impl Abort, store: &mut LogStore)
 {
     let attrs = attrs_of(rt, Kind::File, 0o644);
     let made = [Change::Make { ino: 4, attrs }];
-    store.apply(&made).expect(rt, "room");
+    store.apply(&made, Reserve::Users).expect(rt, "room");
 }
 
 /// A store of six segments. The first two are dirty: the first has the record of file 4 at block 4, the second has nothing

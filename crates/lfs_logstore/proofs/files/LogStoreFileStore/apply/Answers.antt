@@ -19,5 +19,5 @@ on_ok (Err e) (Err f) P same p = tt
 
 pub returns-clause-fits : goal.returns-clause-fits
 returns-clause-fits c =
-    subst (λ (p : Parts). OnOk c.map_err.result (HasRoomFor c.args.changes.now p)) c.self.view_is
+    subst (λ (p : Parts). OnOk c.map_err.result (HasRoomFor c.args.by c.args.changes.now p)) c.self.view_is
     (on_ok c.apply.result c.map_err.result _ c.map_err.ensures.variant c.apply.ensures.fits)
