@@ -1,16 +1,21 @@
 #!/usr/bin/env python3
 """Fills volumes by generated runs, and fails where one can't be emptied again.
 
-full-volumes.py PROGRAM [COUNT [SEED [SHAPE]]] makes COUNT runs (by default 1,000) by a generator that SEED (by default 1)
+full-volumes.py PROGRAM [COUNT [SEED [SHAPE]]] [--climb TRIES [--segments N]] makes COUNT runs (by default 1,000) by a generator that SEED (by default 1)
 determines, of the shapes in turn, or of the one that is named. PROGRAM is a built `lfsd`. A run has 6 to 12 segments, and
 goes on until most calls are refused: files of one block or a few, also past the twelfth, are made and written, cut by a
-byte, given other modes, removed, synced, with passes of the cleaner between. Behind it stand
+byte, given other modes, removed, synced, with passes of the cleaner between. In a shape `locked_..` all this is a user's,
+and then files and directories are locked, by him or by the superuser. Behind it stand
 
 - up to twelve rounds, each of an Unlink of each file, an Rmdir of each directory and a pass: they must leave an empty root;
+  where files are locked, up to three rounds of the superuser's, in which all flags are taken away first;
 - a fill: blocks are written until they are refused. As many must be served as in a volume in which the same names were
   made and removed, but for those of one segment, since the log may end anywhere in one.
 
 A run that breaks one of these is wedged: its script is kept in a folder that is named at the end, and the status is 1.
+With `--climb` there are COUNT searches instead, of one who wants the volume full for good: from a sequence of steps he goes
+on to others, so many tries, where an administrator is refused no less behind them. What he leaves must be empty in three
+rounds, at once and behind ten passes.
 For each shape a line says how many runs there were, how many rounds they took, and how many were wedged.
 """
 import argparse
@@ -51,6 +56,7 @@ class Run:
         self.segments = segments or rng.randrange(6, 13)
         self.inodes = rng.choice([16, 32, 64, 64, 128, 128, 256, 512, 1024])
         self.frames = rng.choice([32, 64, 1024])
+        self.locked = False
 
     def say(self, line):
         self.lines.append(line)
@@ -304,13 +310,114 @@ def long_runs(run):
             run.sometimes("pass", 0.7)
 
 
+USER_FLAGS = ["2", "4", "6"]
+SYSTEM_FLAGS = ["20000", "40000", "60000"]
+
+
+def by_a_user(run):
+    """The lines that follow are a user's, who may make names in the root."""
+    run.locked = True
+    run.say("chmod / 0777")
+    run.say("as 7 7")
+    run.say("create /own 0600")
+    run.say("write /own at 0 61")
+
+
+def locked(run, paths, flags, sync, passes):
+    """These files and directories get flags, and some of them mode 0, in this order."""
+    for path in paths:
+        if run.rng.random() < 0.2:
+            run.say(f"chmod {path} 0")
+            run.sometimes("sync", sync)
+        run.say(f"chflags {path} {run.rng.choice(flags)}")
+        run.sometimes("sync", sync)
+        run.sometimes("pass", passes)
+
+
+def own_byte(run, times):
+    """The user writes a byte of a file of his and syncs it, until that is refused."""
+    for _ in range(times):
+        run.say(f"write /own at {run.rng.randrange(4) * BLOCK} 62")
+        run.say("sync")
+
+
+def all_locked(run):
+    """Locks what a run left, by a user or by the superuser, and uses up what room is left."""
+    rng = run.rng
+    paths = list(dict.fromkeys(run.files)) + run.directories
+    if rng.random() < 0.7:
+        rng.shuffle(paths)
+    if rng.random() < 0.5:
+        paths = paths[:rng.randrange(1, len(paths) + 1)] if paths else []
+    by_superuser = rng.random() < 0.3
+    if by_superuser:
+        run.say("as 0 0")
+    flags = rng.choice([USER_FLAGS, ["2"], ["4"]])
+    locked(run, paths, SYSTEM_FLAGS if by_superuser else flags, rng.choice([0, 0.1, 1]), rng.choice([0, 0, 0.05]))
+    run.say("as 7 7")
+    own_byte(run, rng.choice([10, 60, 150]))
+    if rng.random() < 0.5:
+        free = [path for path in dict.fromkeys(run.files) if path not in paths]
+        for path in rng.sample(free, min(len(free), rng.choice([5, 30, 200]))):
+            run.unlink(path)
+            run.sometimes("sync", rng.choice([1, 1, 0.2]))
+        own_byte(run, rng.choice([0, 40]))
+    if rng.random() < 0.3:
+        run.say("chflags / 2" if rng.random() < 0.2 else "chflags /own 2")
+    for _ in range(rng.choice([0, 0, 1, 10])):
+        run.say("pass")
+
+
+def with_locks(shape):
+    """A shape as a user's, behind which files and directories are locked."""
+    def run_locked(run):
+        by_a_user(run)
+        shape(run)
+        all_locked(run)
+    run_locked.__name__ = "locked_" + shape.__name__
+    return run_locked
+
+
+def big_files_locked(run):
+    """Some files are written 4,096 bytes at a time, one behind another or by turns, and locked with their directory."""
+    rng = run.rng
+    by_a_user(run)
+    run.directory("/d")
+    count = rng.randrange(1, 9)
+    names = [f"/d/{i}" for i in range(count)]
+    for name in names:
+        run.file(name)
+    places = {name: rng.choice([0, DIRECT, DIRECT, DIRECT + 4, 130, MOST_BLOCKS, 300]) for name in names}
+    if rng.random() < 0.4:
+        for name in names:
+            places[name] = DIRECT
+    writes = rng.randrange(24 * run.segments, 50 * run.segments + 1)
+    turns = rng.choice([0, 0, 1, 4, 8])
+    often = rng.choice([0, 0, 0.02, 0.2])
+    for i in range(writes):
+        name = names[i // turns % count] if turns else names[i * count // writes]
+        run.write(name, places[name])
+        places[name] += 1
+        run.sometimes("sync", often)
+    for _ in range(rng.choice([0, 0, 30, 100])):
+        name = rng.choice(names)
+        run.say(f"write {name} at {rng.randrange(max(1, run.sizes[name]))} 63")
+        run.sometimes("sync", rng.choice([0.2, 1]))
+    all_locked(run)
+
+
 SHAPES = [small_files, past_the_twelfth, records, long_names, mixed, removed_one_by_one, cut_one_by_one, directories,
           rewritten, unlinked_and_synced, all_modes, empty_files, spread_files, long_runs]
+SHAPES += [with_locks(shape) for shape in SHAPES] + [big_files_locked]
 
 
 def emptying(run):
     """A round: each file and each directory is removed, and a pass is made."""
-    lines = [f"unlink {path}" for path in dict.fromkeys(run.files)]
+    lines = []
+    if run.locked:
+        lines += ["as 0 0", "unlink /own"]
+        lines += [f"chflags {path} 0" for path in ["/", "/own"] + run.directories + list(dict.fromkeys(run.files))]
+    lines += [f"unlink {path}" for path in dict.fromkeys(run.files)] + ["unlink /own"] * run.locked
     lines += [f"rmdir {path}" for path in run.directories]
     return lines + ["pass", "list /"]
 
@@ -334,6 +441,11 @@ def told(program, run, lines):
     return [line for line in printed if line.startswith("0 ") and not line.startswith("0 cleaner ")]
 
 
+def calls(lines):
+    """The lines that are users' calls."""
+    return [line for line in lines if line != "pass" and not line.startswith("as ")]
+
+
 def served(answers):
     return sum(answer == "0 ok" for answer in answers)
 
@@ -342,7 +454,7 @@ def fill_alone(program, run, lines):
     """How many calls of a fill are served behind these lines."""
     fill = filling(run)
     answers = told(program, run, lines + fill)
-    return served(answers[-sum(line != "pass" for line in fill):])
+    return served(answers[-len(calls(fill)):])
 
 
 @functools.lru_cache(maxsize=None)
@@ -357,6 +469,99 @@ def fresh_named_fill(program, run):
     return fill_alone(program, run, lines + 2 * [line for line in emptying(run) if line != "list /"])
 
 
+KINDS = ["write", "over", "cut", "chmod", "lock", "unlock", "unlink", "make", "sync", "pass"]
+
+
+def steps_made(rng, count):
+    """Steps of one who wants the volume full: a kind, a file, a block, and how often in a row."""
+    return [(rng.choice(KINDS), rng.randrange(12), rng.randrange(MOST_BLOCKS), rng.choice([1, 1, 1, 4, 16, 64]))
+            for _ in range(count)]
+
+
+def stepped(segments, steps):
+    """The run that makes these steps as a user."""
+    run = Run(random.Random(0), segments)
+    run.inodes, run.frames = 64, 64
+    by_a_user(run)
+    run.directory("/d")
+    for name in range(12):
+        run.file(f"/d/{name}")
+    for kind, file, block, times in steps:
+        path = f"/d/{file}"
+        for i in range(times):
+            at = (block + i) % MOST_BLOCKS
+            if kind == "write":
+                run.write(path, at)
+            elif kind == "over":
+                run.write("/own", at % DIRECT)
+                run.say("sync")
+            elif kind == "cut":
+                run.cut(path)
+            elif kind == "chmod":
+                run.chmod(f"/d/{(file + i) % 12}")
+            elif kind == "lock":
+                run.say(f"chflags /d/{(file + i) % 12} {2 + block % 3 * 2}")
+            elif kind == "unlock":
+                run.say(f"chflags /d/{(file + i) % 12} 0")
+            elif kind == "unlink":
+                run.unlink(f"/d/{(file + i) % 12}")
+            elif kind == "make":
+                run.say(f"create /d/{(file + i) % 12} 0644")
+            else:
+                run.say(kind)
+    for path in run.files + run.directories:
+        run.say(f"chflags {path} 7")
+    own_byte(run, 60)
+    return run
+
+
+def hindered(program, run):
+    """How many calls of an administrator are refused who empties a volume behind three passes, and syncs each call: the more,
+    the nearer to a wedge."""
+    probe = [line for call in emptying(run) if call != "pass" for line in (call, "sync")]
+    answers = told(program, run, run.lines + ["pass"] * 3 + probe)
+    return sum(answer == "0 refused NoSpace" for answer in answers[-len(calls(probe)):])
+
+
+def climbed(program, seed, index, segments, tries):
+    """The steps that a hill climb from a seed finds, of those that hinder an administrator most, and in which round he empties
+    what they leave, at once and behind ten passes."""
+    rng = random.Random(f"climb {seed} {index}")
+    best = steps_made(rng, 60)
+    most = hindered(program, stepped(segments, best))
+    for _ in range(tries):
+        steps = list(best)
+        for _ in range(rng.choice([1, 2, 6])):
+            steps[rng.randrange(len(steps))] = steps_made(rng, 1)[0]
+        hinders = hindered(program, stepped(segments, steps))
+        if hinders >= most:
+            best, most = steps, hinders
+    rounds = []
+    for passes in (0, 10):
+        run = stepped(segments, best)
+        run.lines += ["pass"] * passes
+        empty, _, _, lines = emptied(program, run, FEW_ROUNDS)
+        rounds.append(empty)
+    return index, segments, rounds, most, lines
+
+
+def climb(program, count, seed, tries, segments):
+    """Hill climbs of one who wants a volume full for good: each must leave one that is empty in three rounds."""
+    with ThreadPoolExecutor(max(1, (os.cpu_count() or 2) // 2)) as pool:
+        told_of = pool.map(lambda i: climbed(program, seed, i, segments, tries), range(count))
+        wedged = 0
+        for index, segments, rounds, most, lines in told_of:
+            print(f"{index} climb: segments={segments} rounds={rounds} refused-at-most={most}", flush=True)
+            if None in rounds:
+                wedged += 1
+                folder = tempfile.mkdtemp(prefix="full-")
+                with open(os.path.join(folder, f"{index}-climb.lfs"), "w", encoding="ascii") as kept:
+                    kept.write("\n".join(lines) + "\n")
+                print(f"kept in {folder}")
+    print(f"climbs={count} seed={seed} wedged={wedged}")
+    sys.exit(wedged > 0)
+
+
 def made(seed, index, shape):
     run = Run(random.Random(f"{seed} {index}"))
     shape(run)
@@ -369,13 +574,13 @@ def emptied(program, run, rounds):
     fill = filling(run)
     lines = run.lines + emptying(run) * rounds + fill
     answers = told(program, run, lines)
-    user = [line for line in lines if line != "pass"]
+    user = calls(lines)
     if len(user) != len(answers):
         raise RuntimeError(f"{len(answers)} answers to {len(user)} calls")
-    refused = sum(answer == "0 refused NoSpace" for answer in answers[:len(run.lines)])
+    refused = sum(answer == "0 refused NoSpace" for answer in answers[:len(calls(run.lines))])
     lists = [answer for line, answer in zip(user, answers) if line == "list /"]
     empty = lists.index("0 names") + 1 if "0 names" in lists else None
-    return empty, served(answers[-sum(line != "pass" for line in fill):]), refused, lines
+    return empty, served(answers[-len(calls(fill)):]), refused, lines
 
 
 def tried(program, seed, index, shape):
@@ -385,7 +590,7 @@ def tried(program, seed, index, shape):
     empty, filled_now, refused, lines = emptied(program, run, FEW_ROUNDS)
     less = fresh_fill(program, run.segments) - filled_now
     if empty is None or less > SEGMENT:
-        empty, filled_now, refused, lines = emptied(program, run, ROUNDS)
+        empty, filled_now, refused, lines = emptied(program, run, FEW_ROUNDS if run.locked else ROUNDS)
         less = fresh_named_fill(program, run) - filled_now
     return index, run, empty, less, refused, lines
 
@@ -396,8 +601,12 @@ def main():
     parser.add_argument("count", type=int, nargs="?", default=1_000)
     parser.add_argument("seed", nargs="?", default="1")
     parser.add_argument("shape", nargs="?", choices=[it.__name__ for it in SHAPES])
+    parser.add_argument("--climb", type=int, metavar="TRIES", help="COUNT hill climbs of so many tries, by one who wants it full")
+    parser.add_argument("--segments", type=int, default=6, help="of a hill climb, by default 6")
     asked = parser.parse_args()
     program, count, seed = asked.program, asked.count, asked.seed
+    if asked.climb is not None:
+        climb(program, count, seed, asked.climb, asked.segments)
     shapes = [it for it in SHAPES if asked.shape in (None, it.__name__)]
     start = time.monotonic()
     runs, wedged, most, less_most, refusals = (collections.Counter() for _ in range(5))
