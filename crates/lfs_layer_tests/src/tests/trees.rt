@@ -41,7 +41,7 @@ fn make(rt: &impl Abort, store: &mut FlatFiles, ino: u32, kind: Kind)
     assert!(rt; ino < 16);
     assert!(rt; store.attrs(ino).is_none());
     let changes = [Change::Make { ino, attrs }];
-    store.apply(&changes).expect(rt, "room");
+    store.apply(&changes, Reserve::Users).expect(rt, "room");
 }
 
 /// Takes a number's file away.
@@ -51,7 +51,7 @@ fn remove(rt: &impl Abort, store: &mut FlatFiles, ino: u32)
 {
     assert!(rt; store.attrs(ino).is_some());
     let changes = [Change::Remove { ino }];
-    store.apply(&changes).expect(rt, "room");
+    store.apply(&changes, Reserve::Users).expect(rt, "room");
 }
 
 /// Puts a block that begins with these bytes behind those of a directory.
@@ -70,7 +70,7 @@ fn list(rt: &impl Abort, store: &mut FlatFiles, ino: u32, entries: &[u8])
         off: size,
         bytes: &block,
     }];
-    store.apply(&changes).expect(rt, "room");
+    store.apply(&changes, Reserve::Users).expect(rt, "room");
 }
 
 /// Asserts what the check of a store says.
