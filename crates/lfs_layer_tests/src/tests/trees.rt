@@ -10,7 +10,7 @@ use lfs_trees::checking::check_tree;
 use lfs_trees::fault::TreeFault;
 use lfs_types::attrs::{Attrs, Kind};
 use lfs_types::file_flags::FileFlags;
-use lfs_types::store::{Change, FileStore, Params};
+use lfs_types::store::{Change, FileStore, Params, Reserve};
 use std::alloc::Global;
 use std::process::Abort;
 
