@@ -1,0 +1,7 @@
+pub mod Answers
+pub mod Asked
+pub mod EntryText
+pub mod Escapes
+pub mod Outcomes
+pub mod Ranges
+pub mod Reading

@@ -1,0 +1,197 @@
+//! Answers to users' calls, read back.
+
+ghost use Rattle.std.specs.Prelude.{◌≡◌, map};
+ghost use Rattle.lfs_words.specs.Faults.{ReadsAs};
+ghost use Rattle.lfs_journal_lines.specs.Answers.{answer_told, attrs_told, bytes_told, denial_by, denial_of, denial_told, kind_named, octet_told, resource_named, rule_named, served_told, stat_of, stat_told};
+
+use crate::escapes::names_told;
+use lfs_types::answer::{Answer, Resource, Served};
+use lfs_types::attrs::{Attrs, Kind};
+use lfs_types::payload::Bytes;
+use lfs_types::rule::{Denial, RULES, Rule};
+use lfs_words::fault::FaultKind;
+use lfs_words::hex::{flags, payload};
+use lfs_words::number::{decimal, mode, short_decimal};
+use lfs_words::words::{no_word, one_word};
+use std::alloc::Global;
+
+/// The answer that words tell. One for want of memory or of the journal's room is none: a journal has no such entry.
+pub(crate) fn answer_told(alloc: Global, words: &[&str]) -> Result<Answer, FaultKind>
+    ensures { ReadsAs (answer_told (map (λ x. x.now) words.now)) result }
+{
+    let [first, rest @ ..] = words else {
+        return Err(FaultKind::Words);
+    };
+    if *first == "denied" {
+        return Ok(Answer::Denied(denial_told(rest)?));
+    }
+    if *first == "refused" {
+        let resource = resource_named(one_word(rest)?).ok_or(FaultKind::Words)?;
+        return Ok(Answer::Refused(resource));
+    }
+    Ok(Answer::Served(served_told(alloc, first, rest)?))
+}
+
+/// What a served call shows, as a first word and those behind it tell.
+fn served_told(alloc: Global, first: &str, words: &[&str]) -> Result<Served, FaultKind>
+    ensures { ReadsAs (served_told first.now (map (λ x. x.now) words.now)) result }
+{
+    if first == "ok" {
+        no_word(words)?;
+        return Ok(Served::Done);
+    }
+    if first == "stat" {
+        return stat_told(words);
+    }
+    if first == "bytes" {
+        return bytes_told(alloc, words);
+    }
+    if first == "names" {
+        return Ok(Served::Names(names_told(alloc, words)?));
+    }
+    Err(FaultKind::Words)
+}
+
+/// The bytes that a lone word tells.
+fn bytes_told(alloc: Global, words: &[&str]) -> Result<Served, FaultKind>
+    ensures { ReadsAs (bytes_told (map (λ x. x.now) words.now)) result }
+{
+    let bytes = payload(alloc, one_word(words)?)?;
+    Ok(Served::Bytes(Bytes::from(bytes.into_vec())))
+}
+
+/// A file's number and attributes.
+fn stat_told(words: &[&str]) -> Result<Served, FaultKind>
+    ensures { result ≡ stat_told (map (λ x. x.now) words.now) }
+{
+    match words {
+        [number, kind, uid, gid, bits, locks, size] => {
+            stat_of(number, kind, uid, gid, bits, locks, size)
+        }
+        _ => Err(FaultKind::Words),
+    }
+}
+
+/// A file's number and attributes, each as a word.
+fn stat_of(
+    number: &str,
+    kind: &str,
+    uid: &str,
+    gid: &str,
+    bits: &str,
+    locks: &str,
+    size: &str,
+) -> Result<Served, FaultKind>
+    ensures { result ≡ stat_of number.now kind.now uid.now gid.now bits.now locks.now size.now }
+{
+    let number = short_decimal(number)?;
+    let attrs = attrs_told(kind, uid, gid, bits, locks, size)?;
+    Ok(Served::Stat(number, attrs))
+}
+
+/// The attributes of a file.
+fn attrs_told(
+    kind: &str,
+    uid: &str,
+    gid: &str,
+    bits: &str,
+    locks: &str,
+    size: &str,
+) -> Result<Attrs, FaultKind>
+    ensures { result ≡ attrs_told kind.now uid.now gid.now bits.now locks.now size.now }
+{
+    let kind = kind_named(kind).ok_or(FaultKind::Words)?;
+    let uid = short_decimal(uid)?;
+    let gid = short_decimal(gid)?;
+    let mode = mode(bits)?;
+    let flags = flags(locks)?;
+    let size = decimal(size)?;
+    Ok(Attrs {
+        kind,
+        uid,
+        gid,
+        mode,
+        flags,
+        size,
+    })
+}
+
+/// The kind of file that a word names.
+fn kind_named(word: &str) -> Option<Kind>
+    ensures { result ≡ kind_named word.now }
+{
+    if word == "file" {
+        Some(Kind::File)
+    } else if word == "dir" {
+        Some(Kind::Directory)
+    } else {
+        None
+    }
+}
+
+/// A denial: the rule's code and error, the path and the component.
+fn denial_told(words: &[&str]) -> Result<Denial, FaultKind>
+    ensures { result ≡ denial_told (map (λ x. x.now) words.now) }
+{
+    match words {
+        [code, error, path, at] => denial_of(code, error, path, at),
+        _ => Err(FaultKind::Words),
+    }
+}
+
+/// A denial, each part of it as a word.
+fn denial_of(code: &str, error: &str, path: &str, at: &str) -> Result<Denial, FaultKind>
+    ensures { result ≡ denial_of code.now error.now path.now at.now }
+{
+    match rule_named(code) {
+        Some(rule) => denial_by(rule, error, path, at),
+        None => Err(FaultKind::Words),
+    }
+}
+
+/// A denial by this rule, whose error is to be the one that a word names.
+fn denial_by(rule: Rule, error: &str, path: &str, at: &str) -> Result<Denial, FaultKind>
+    ensures { result ≡ denial_by rule error.now path.now at.now }
+{
+    if rule.error().name() != error {
+        return Err(FaultKind::Words);
+    }
+    let path = octet_told(path)?;
+    let at = short_decimal(at)?;
+    Ok(Denial { rule, path, at })
+}
+
+/// The rule that a code names.
+#[tactic(auto, unfolding(crate::specs::Answers::rule_named))]
+fn rule_named(code: &str) -> Option<Rule>
+    ensures { result ≡ rule_named code.now }
+{
+    RULES.iter().copied().find(|rule| rule.code() == code)
+}
+
+/// The number below 256 that 1 to 20 decimal digits spell.
+pub(crate) fn octet_told(word: &str) -> Result<u8, FaultKind>
+    ensures { result ≡ octet_told word.now }
+{
+    let number = decimal(word)?;
+    if number <= 255 {
+        Ok(number as u8)
+    } else {
+        Err(FaultKind::Range)
+    }
+}
+
+/// The resource that a word names. Memory and the journal's room are none of them.
+fn resource_named(word: &str) -> Option<Resource>
+    ensures { result ≡ resource_named word.now }
+{
+    if word == "NoSpace" {
+        Some(Resource::NoSpace)
+    } else if word == "NoInodes" {
+        Some(Resource::NoInodes)
+    } else if word == "DirectoryFull" {
+        Some(Resource::DirectoryFull)
+    } else {
+        None
+    }
+}

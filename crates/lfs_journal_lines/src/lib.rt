@@ -1,0 +1,13 @@
+//! The lines of a journal: what tells an entry, and the entry that a line tells.
+#![tactic(auto)]
+
+mod answers;
+mod asked;
+mod escapes;
+pub mod fault;
+pub mod law;
+mod outcomes;
+pub mod reading;
+pub mod telling;
+#[cfg(test)]
+mod tests;
