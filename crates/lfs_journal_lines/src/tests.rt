@@ -25,7 +25,7 @@ const LINES: &[u8] = b"\
 1 as 7 7 | read /a 0 1 | bytes -
 2 as 0 0 init | write /a at 0 6162ff00 | ok
 2 as 0 0 init | write /| end - | refused NoSpace
-8 as 5 5 | list /~!/%20 | names | a%20b %25 %00%ff
+8 as 5 5 | list /~!/%20 | names | a%20b %25 %01%ff
 8 as 5 5 | list / | names
 0 as 0 0 | length /a 4294967296 | denied Z1 EFBIG 0 1
 0 as 0 0 | create /a 0644 | refused NoInodes

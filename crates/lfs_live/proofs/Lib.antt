@@ -1,6 +1,5 @@
 pub mod HearingLemmas
 pub mod HelpLemmas
-pub mod JournalLemmas
 pub mod LineLemmas
 pub mod SameLemmas
 pub mod StartLemmas
