@@ -1,0 +1,136 @@
+//! Entries that are judged by hand.
+
+use crate::answers::{is_as_made, may_be_refused, one_answer};
+use crate::cleaning::is_cleaning;
+use lfs_model::journal::{CleanerKind, CleanerOutcome, Entry, Event};
+use lfs_types::answer::{Answer, Resource, Served};
+use lfs_types::cleaner::CleanFault;
+use lfs_types::cred::Cred;
+use lfs_types::path::Path;
+use lfs_types::request::Request;
+use lfs_types::rule::{Denial, Rule};
+use std::alloc::Global;
+use std::process::Abort;
+
+/// Asserts that a judgement is as wanted.
+fn expect(rt: &impl Abort, found: bool, wanted: bool) {
+    assert!(rt; found == wanted);
+}
+
+/// The credential of a user, in the group of the same number.
+fn user(rt: &impl Abort, uid: u32) -> Cred {
+    Cred::new(uid, &[uid], false).expect(rt, "a credential")
+}
+
+/// The entry of an Unlink of `/a` by user 7 in this session, with this answer.
+fn unlink(rt: &impl Abort, alloc: Global, session: u8, answer: Answer) -> Entry {
+    let path = Path::parse(alloc, "/a").expect(rt, "a path");
+    Entry {
+        session,
+        cred: user(rt, 7),
+        event: Event::User(Request::Unlink { path }, answer),
+    }
+}
+
+/// A denial by this rule at this component of the first path.
+fn denied(rule: Rule, at: u32) -> Answer {
+    Answer::Denied(Denial { rule, path: 0, at })
+}
+
+#[test]
+fn entries_as_they_are_made(rt: HostRuntime) {
+    let made = unlink(&rt, rt.alloc(), 1, denied(Rule::GrantsWrite, 0));
+    let same = unlink(&rt, rt.alloc(), 1, denied(Rule::GrantsWrite, 0));
+    let rule = unlink(&rt, rt.alloc(), 1, denied(Rule::GrantsSearch, 0));
+    let place = unlink(&rt, rt.alloc(), 1, denied(Rule::GrantsWrite, 1));
+    let served = unlink(&rt, rt.alloc(), 1, Answer::Served(Served::Done));
+    one_answer();
+    expect(&rt, is_as_made(&made, &same), true);
+    expect(&rt, is_as_made(&made, &rule), false);
+    expect(&rt, is_as_made(&made, &place), false);
+    expect(&rt, is_as_made(&made, &served), false);
+}
+
+#[test]
+fn refusals(rt: HostRuntime) {
+    let path = Path::parse(rt.alloc(), "/a").expect(&rt, "a path");
+    let unlink = Request::Unlink { path };
+    expect(
+        &rt,
+        may_be_refused(&unlink, true, false, Resource::NoSpace),
+        true,
+    );
+    expect(
+        &rt,
+        may_be_refused(&unlink, false, false, Resource::NoSpace),
+        false,
+    );
+    expect(
+        &rt,
+        may_be_refused(&unlink, true, false, Resource::NoInodes),
+        false,
+    );
+    expect(
+        &rt,
+        may_be_refused(&unlink, true, true, Resource::DirectoryFull),
+        false,
+    );
+    expect(
+        &rt,
+        may_be_refused(&unlink, true, true, Resource::NoMemory),
+        false,
+    );
+    let path = Path::parse(rt.alloc(), "/a").expect(&rt, "a path");
+    let list = Request::List { path };
+    expect(
+        &rt,
+        may_be_refused(&list, true, true, Resource::NoSpace),
+        false,
+    );
+}
+
+#[test]
+fn cleaner_calls(rt: HostRuntime) {
+    let root = user(&rt, 0);
+    let infos = CleanerKind::Infos;
+    let markv = CleanerKind::Markv;
+    let active = CleanerOutcome::Fault(CleanFault::Active);
+    expect(
+        &rt,
+        is_cleaning(16, 6, &root, CleanerKind::Ifile, CleanerOutcome::Done(252)),
+        true,
+    );
+    expect(
+        &rt,
+        is_cleaning(16, 6, &root, CleanerKind::Ifile, CleanerOutcome::Done(253)),
+        false,
+    );
+    expect(
+        &rt,
+        is_cleaning(16, 6, &root, infos, CleanerOutcome::Done(248)),
+        true,
+    );
+    expect(
+        &rt,
+        is_cleaning(16, 6, &root, infos, CleanerOutcome::Done(249)),
+        false,
+    );
+    expect(&rt, is_cleaning(16, 6, &root, infos, active), true);
+    expect(&rt, is_cleaning(16, 6, &root, markv, active), false);
+    expect(
+        &rt,
+        is_cleaning(16, 6, &root, markv, CleanerOutcome::Done(9)),
+        false,
+    );
+    expect(
+        &rt,
+        is_cleaning(16, 6, &root, infos, CleanerOutcome::Denied),
+        false,
+    );
+    expect(
+        &rt,
+        is_cleaning(16, 6, &user(&rt, 7), infos, CleanerOutcome::Denied),
+        true,
+    );
+    expect(&rt, is_cleaning(16, 6, &user(&rt, 7), infos, active), false);
+}
