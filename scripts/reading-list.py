@@ -13,8 +13,8 @@ from pathlib import Path
 TOP = Path(__file__).resolve().parent.parent
 # what a table is of; the files, the functions whose contracts count, and the impl blocks that count whole
 TABLES = [
-    ("A volume's calls: `Volume::call`, `clean` and `run_steps`, and the type of `Volume`",
-     [("lfs_volume/src/volume.rt", ["call", "clean", "run_steps"], ["Model for Volume"])]),
+    ("A volume: `Volume::new`, `over`, `call`, `clean`, `run_steps` and `drain`, and the type of `Volume`",
+     [("lfs_volume/src/volume.rt", ["new", "over", "call", "clean", "run_steps", "drain"], ["Model for Volume"])]),
     ("Sessions on threads: `serve`", [("lfs_server/src/serve.rt", ["serve"], [])]),
     ("Scripts and their texts: `run_script` and `run_threads`",
      [("lfs_audit/src/run.rt", ["run_script"], []), ("lfs_audit/src/threads.rt", ["run_threads"], [])]),
