@@ -11,6 +11,8 @@ mod nodes;
 mod parts;
 mod place;
 mod table;
+#[cfg(test)]
+mod tests;
 mod way;
 
 pub use fault::{LookUpFault, PathFault};
