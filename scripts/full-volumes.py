@@ -1,11 +1,12 @@
 #!/usr/bin/env python3
 """Fills volumes by generated runs, and fails where one can't be emptied again.
 
-full-volumes.py PROGRAM [COUNT [SEED [SHAPE]]] [--climb TRIES [--segments N]] makes COUNT runs (by default 1,000) by a generator that SEED (by default 1)
-determines, of the shapes in turn, or of the one that is named. PROGRAM is a built `lfsd`. A run has 6 to 12 segments, and
-goes on until most calls are refused: files of one block or a few, also past the twelfth, are made and written, cut by a
-byte, given other modes, removed, synced, with passes of the cleaner between. In a shape `locked_..` all this is a user's,
-and then files and directories are locked, by him or by the superuser. Behind it stand
+full-volumes.py PROGRAM [COUNT [SEED [SHAPE]]] [--segments N] [--climb TRIES] makes COUNT runs (by default 1,000) by a
+generator that SEED (by default 1) determines, of the shapes in turn, or of the one that is named. PROGRAM is a built
+`lfsd`. A run has 6 to 12 segments, or N, and goes on until most calls are refused: files of one block or a few, also past
+the twelfth, are made and written, cut by a byte, given other modes, removed, synced, with passes of the cleaner between. In
+a shape `locked_..` all this is a user's, and then files and directories are locked, by him or by the superuser. Behind it
+stand
 
 - up to twelve rounds, each of an Unlink of each file, an Rmdir of each directory and a pass: they must leave an empty root;
   where files are locked, up to three rounds of the superuser's, in which all flags are taken away first;
@@ -424,7 +425,7 @@ def emptying(run):
 
 def filling(run):
     """Blocks are written until they are refused."""
-    lines = ["pass"] * 4
+    lines = ["pass"] * max(4, run.segments // 2)
     for i in range(1 + run.segments * SEGMENT // MOST_BLOCKS):
         lines.append(f"create /fill{i} 0644")
         lines += [f"write /fill{i} at {block * BLOCK} 61" for block in range(MOST_BLOCKS)]
@@ -562,8 +563,8 @@ def climb(program, count, seed, tries, segments):
     sys.exit(wedged > 0)
 
 
-def made(seed, index, shape):
-    run = Run(random.Random(f"{seed} {index}"))
+def made(seed, index, shape, segments):
+    run = Run(random.Random(f"{seed} {index}"), segments)
     shape(run)
     return run
 
@@ -583,10 +584,10 @@ def emptied(program, run, rounds):
     return empty, served(answers[-len(calls(fill)):]), refused, lines
 
 
-def tried(program, seed, index, shape):
+def tried(program, seed, index, shape, segments):
     """How many rounds it took to empty the run's volume, none where it was never empty; how many blocks less than a fresh
     one it then takes; how many calls were refused; and its lines."""
-    run = made(seed, index, shape)
+    run = made(seed, index, shape, segments)
     empty, filled_now, refused, lines = emptied(program, run, FEW_ROUNDS)
     less = fresh_fill(program, run.segments) - filled_now
     if empty is None or less > SEGMENT:
@@ -602,11 +603,11 @@ def main():
     parser.add_argument("seed", nargs="?", default="1")
     parser.add_argument("shape", nargs="?", choices=[it.__name__ for it in SHAPES])
     parser.add_argument("--climb", type=int, metavar="TRIES", help="COUNT hill climbs of so many tries, by one who wants it full")
-    parser.add_argument("--segments", type=int, default=6, help="of a hill climb, by default 6")
+    parser.add_argument("--segments", type=int, metavar="N", help="how many segments each run has; a hill climb by default 6")
     asked = parser.parse_args()
     program, count, seed = asked.program, asked.count, asked.seed
     if asked.climb is not None:
-        climb(program, count, seed, asked.climb, asked.segments)
+        climb(program, count, seed, asked.climb, asked.segments or 6)
     shapes = [it for it in SHAPES if asked.shape in (None, it.__name__)]
     start = time.monotonic()
     runs, wedged, most, less_most, refusals = (collections.Counter() for _ in range(5))
@@ -614,7 +615,7 @@ def main():
     shape_of = lambda index: shapes[index % len(shapes)]
     with ThreadPoolExecutor(max(1, (os.cpu_count() or 2) // 2)) as pool:
         for index, run, rounds, less, refused, lines in pool.map(
-                lambda i: tried(program, seed, i, shape_of(i)), range(count)):
+                lambda i: tried(program, seed, i, shape_of(i), asked.segments), range(count)):
             name = shape_of(index).__name__
             runs[name] += 1
             refusals[name] += refused > 0
