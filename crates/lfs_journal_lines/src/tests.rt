@@ -73,7 +73,10 @@ fn call(rt: &impl Abort, request: Request, answer: Answer) -> Entry {
 fn each_line_is_told_again(rt: HostRuntime) {
     let mut entries = Vec::new(rt.alloc());
     let mut rest = LINES;
-    while let Some((line, behind)) = cut_line(rest) {
+    for _ in 0..LINES.len() {
+        let Some((line, behind)) = cut_line(rest) else {
+            break;
+        };
         let entry = read_entry(rt.alloc(), line).expect(&rt, "an entry");
         reads_back(&entry);
         entries.push(entry).expect(&rt, "memory");
