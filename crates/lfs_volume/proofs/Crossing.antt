@@ -14,7 +14,17 @@ use Rattle.lfs_volume.specs.contracts.volume.Volume.TheInside.{the_field, the_ty
 pub volume_send : (F : RattleType) (g : Ghosts F.Denot) → IsSend F → IsSend (the_row F g)
 volume_send F g sent =
     let T = the_type F g in
-    let all : AllSend (declared.fields T) =
-    (search (sendable, crosses, tree.the_send), (level.the_field_send, (search (sendable, crosses), (level.the_field_send,
-    (search (sendable, crosses, entry.the_send), (counts.the_field_send, (search (sendable, crosses), tt))))))) in
+    let all : AllSend (declared.fields T) = (
+      search (sendable, crosses, tree.the_send),
+      (
+        level.the_field_send,
+        (
+          search (sendable, crosses),
+          (
+            level.the_field_send,
+            (search (sendable, crosses, entry.the_send), (counts.the_field_send, (search (sendable, crosses), tt))),
+          ),
+        ),
+      ),
+    ) in
     view_send _ _ _ _ _ (recorded_send (the_field F g).row _ _ T.to_one (struct_send (declared.shape T) all))
