@@ -65,15 +65,15 @@ told_short : (is_full : Bool) → length (told_of is_full) ≤ 1000
 told_short true = leb-true (length (told_of true)) 1000 refl
 told_short false = leb-true (length (told_of false)) 1000 refl
 
-five_short : (a b c d e : List ℕ) → length a ≤ 10000 → length b ≤ 1000 → length c ≤ 1000 → length d ≤ 19000000 → length e ≤ 10000
+five_short : (a b c d e : List ℕ) → length a ≤ 20000 → length b ≤ 1000 → length c ≤ 1000 → length d ≤ 19000000 → length e ≤ 60000
     → length ((((a ++ b) ++ c) ++ d) ++ e) ≤ 20000000
 five_short a b c d e one two three four five = rw (length-append, length-append, length-append, length-append) (omega arith)
 
 -- so a page is bounded where its frames are
 pub page_bounded : (reel inside : Reel) → inside ≡ reel → length inside.frames ≤ 19000000 → length (page_text reel) ≤ 20000000
 page_bounded reel inside is le =
-    let seen : length seen_text ≤ 10000 = leb-true (length seen_text) 10000 refl in
+    let seen : length seen_text ≤ 20000 = leb-true (length seen_text) 20000 refl in
     let before : length FRAMES.now ≤ 1000 = leb-true (length FRAMES.now) 1000 refl in
-    let after : length tail_text ≤ 10000 = leb-true (length tail_text) 10000 refl in
+    let after : length tail_text ≤ 60000 = leb-true (length tail_text) 60000 refl in
     let frames : length reel.frames ≤ 19000000 = rw (← is) le in
     five_short seen_text (told_of reel.is_full) FRAMES.now reel.frames tail_text seen (told_short reel.is_full) before frames after

@@ -1,11 +1,13 @@
 -- What a film keeps of a talk, and its page.
-use Rattle.std.specs.Prelude.{ℕ, ◌+◌, ◌==◌, ◌&&◌, ◌||◌, nat_lt, Bool, false, List, [], ◌∷◌, ◌++◌, length, bytes_eq, if◌then◌else◌}
+use Rattle.std.specs.Prelude.{ℕ, ◌+◌, ◌||◌, nat_lt, Bool, false, List, [], ◌∷◌, ◌++◌, length, if◌then◌else◌}
 use Rattle.lfs_film.specs.Quoting.{shortened}
 use Rattle.lfs_film.specs.Frames.{changed_rows, frame_text}
 use Rattle.lfs_film.specs.declared.film.TheConstants.{FRAMES_MAX}
 use Rattle.lfs_film.specs.declared.page.TheConstants.{BODY, CODE, FRAMES, FULL, HEAD, TAIL}
 use Rattle.lfs_film.specs.declared.script.TheConstants.{SCRIPT}
+use Rattle.lfs_film.specs.declared.states.TheConstants.{STATES}
 use Rattle.lfs_film.specs.declared.style.TheConstants.{STYLE}
+use Rattle.lfs_film.specs.declared.words.TheConstants.{WORDS}
 
 -- What a film keeps: the rows and what waits as the last line left them, how many lines it was shown, the text of its frames,
 -- and whether a frame found no room.
@@ -20,11 +22,9 @@ pub record Reel : Type 0 where
 abbrev pub empty_reel : Reel
 empty_reel = record { rows = []; waiting = []; lines = 0; frames = []; is_full = false }
 
--- the frame of a line, with the rows that it changed: none where it changed neither a row nor what waits
-abbrev pub frame_of : Reel → List ℕ → List ℕ → List ℕ → List (List ℕ) → List ℕ
-frame_of reel line told waiting rows =
-    if length rows == 0 && bytes_eq reel.waiting waiting then []
-    else frame_text reel.lines (shortened line ∷ shortened told ∷ waiting ∷ rows)
+-- the frame of a line of this number: the line, what was told of it, what waits, and the rows that it changed
+abbrev pub frame_of : ℕ → List ℕ → List ℕ → List ℕ → List (List ℕ) → List ℕ
+frame_of number line told waiting rows = frame_text number (shortened 160 line ∷ shortened 1000 told ∷ waiting ∷ rows)
 
 -- whether a frame finds no room behind the others, or an earlier one found none
 abbrev pub has_no_room : Reel → List ℕ → Bool
@@ -38,7 +38,7 @@ with_frame_text reel frame =
 -- one more line: what was told of it, and the rows and what waits as it left them
 abbrev pub with_line : Reel → List ℕ → List ℕ → List (List ℕ) → List ℕ → Reel
 with_line reel line told rows waiting =
-    record (with_frame_text reel (frame_of reel line told waiting (changed_rows reel.rows rows))) { rows = rows; waiting = waiting; lines = reel.lines + 1 }
+    record (with_frame_text reel (frame_of reel.lines line told waiting (changed_rows reel.rows rows))) { rows = rows; waiting = waiting; lines = reel.lines + 1 }
 
 -- what is told where a frame found no room
 abbrev pub told_of : Bool → List ℕ
@@ -52,9 +52,13 @@ seen_text = HEAD.now ++ STYLE.now ++ BODY.now
 abbrev pub head_text : Bool → List ℕ
 head_text is_full = seen_text ++ told_of is_full ++ FRAMES.now
 
--- what stands behind them
+-- the script: its words, its states and what it shows
+abbrev pub code_text : List ℕ
+code_text = WORDS.now ++ STATES.now ++ SCRIPT.now
+
+-- what stands behind the frames
 abbrev pub tail_text : List ℕ
-tail_text = CODE.now ++ SCRIPT.now ++ TAIL.now
+tail_text = CODE.now ++ code_text ++ TAIL.now
 
 -- the page of frames
 abbrev pub page_of : List ℕ → Bool → List ℕ

@@ -1,5 +1,5 @@
 -- A text as a string of JSON that may stand in an element of HTML.
-use Rattle.std.specs.Prelude.{ℕ, ◌/◌, ◌%◌, ◌==◌, ◌&&◌, ◌||◌, nat_le, not, Bool, List, [], ◌∷◌, ◌++◌, length, take, codes, if◌then◌else◌}
+use Rattle.std.specs.Prelude.{ℕ, ◌-◌, ◌/◌, ◌%◌, ◌==◌, ◌&&◌, ◌||◌, nat_le, not, Bool, List, [], ◌∷◌, ◌++◌, length, take, codes, if◌then◌else◌}
 use Rattle.std.specs.Char.{digit_char}
 use Rattle.std.specs.List.{flat_map}
 
@@ -19,6 +19,6 @@ escaped b = if is_plain b then b ∷ [] else 92 ∷ 117 ∷ 48 ∷ 48 ∷ digit_
 abbrev pub quoted : List ℕ → List ℕ
 quoted text = 34 ∷ flat_map escaped text ++ 34 ∷ []
 
--- at most 400 bytes of a text; of a longer one 397, and then a space and two full stops
-abbrev pub shortened : List ℕ → List ℕ
-shortened text = if nat_le (length text) 400 then text else take 397 text ++ codes " .."
+-- at most so many bytes of a text; of a longer one three less, and then a space and two full stops
+abbrev pub shortened : ℕ → List ℕ → List ℕ
+shortened most text = if nat_le (length text) most then text else take (most - 3) text ++ codes " .."

@@ -10,7 +10,7 @@ ghost use Rattle.lfs_view.specs.Rows.{rows_of};
 use crate::changed::changed_rows;
 use crate::frame::frame;
 use crate::page::write_parts;
-use crate::quoting::shortened;
+use crate::quoting::{short_line, short_told};
 use lfs_io::output::WriteFault;
 use lfs_logstore::LogStore;
 use lfs_view::rows::{Row, rows, waiting};
@@ -21,8 +21,7 @@ use std::marker::Model;
 /// The most bytes of the text of a film's frames.
 pub const FRAMES_MAX: usize = 19_000_000;
 
-/// A film of a log: a frame for each line that changed the log or what waits to be written to it. The first is of the
-/// log before a line, in which all is new.
+/// A film of a log: a frame for each line that was shown, with what it changed.
 #[derive(Drop)]
 pub struct Film {
     rows: Vec<Row>,
@@ -63,10 +62,10 @@ impl Film {
         }
     }
 
-    /// Is shown a line without its line feed, the text that was told of it, and the log as the line left it. Where a
-    /// row of the log's map or what waits is another than before, there is one more frame: how many lines were shown
-    /// before, at most 400 bytes of the line and of the text, what waits, and the rows that are others. From the first
-    /// frame on with which the text of the frames would have more than 19,000,000 bytes, no more are kept.
+    /// Is shown a line without its line feed, the text that was told of it, and the log as the line left it. There is
+    /// one more frame: how many lines were shown before, at most 160 bytes of the line and 1,000 of the text, what
+    /// waits, and the rows of the log's map that are others than before, which may be none. From the first frame on with
+    /// which the text of the frames would have more than 19,000,000 bytes, no more are kept.
     ///
     /// # Errors
     ///
@@ -95,7 +94,7 @@ impl Film {
         Ok(())
     }
 
-    /// The frame of a line: none where neither a row nor what waits is another than before.
+    /// The frame of a line.
     fn frame_of(
         &self,
         alloc: Global,
@@ -105,14 +104,11 @@ impl Film {
         waiting: &[u8],
     ) -> Result<Vec<u8>, AllocError>
         ensures { IfOk result (λ text. text.items ≡
-            frame_of self.now line.now told.now waiting.now (changed_rows self.now.rows rows.now)) }
+            frame_of self.now.lines line.now told.now waiting.now (changed_rows self.now.rows rows.now)) }
     {
         let rows = changed_rows(alloc, self.rows.as_slice(), rows)?;
-        if rows.is_empty() && self.waiting.as_slice() == waiting {
-            return Ok(Vec::new(alloc));
-        }
-        let line = shortened(alloc, line)?;
-        let told = shortened(alloc, told)?;
+        let line = short_line(alloc, line)?;
+        let told = short_told(alloc, told)?;
         let head = [line.as_slice(), told.as_slice(), waiting];
         frame(alloc, self.lines, &head, rows.as_slice())
     }

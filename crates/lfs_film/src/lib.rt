@@ -7,4 +7,6 @@ mod frame;
 pub mod page;
 pub mod quoting;
 pub mod script;
+pub mod states;
 pub mod style;
+pub mod words;

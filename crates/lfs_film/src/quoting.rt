@@ -1,32 +1,54 @@
 //! Texts as strings of JSON that may stand in an element of HTML.
 
-ghost use Rattle.std.specs.Prelude.{◌≡◌, ◌<◌, ◌++◌, IfOk, OnOk};
+ghost use Rattle.std.specs.Prelude.{◌≡◌, ◌<◌, ◌≤◌, ◌++◌, IfOk, OnOk};
 ghost use Rattle.std.specs.Char.{digit_char};
 ghost use Rattle.std.specs.List.{flat_map};
 ghost use Rattle.lfs_film.specs.Quoting.{escaped, quoted, shortened};
 
 use std::alloc::{AllocError, Global};
 
-/// The most bytes of a text that a frame has.
-const TEXT_MAX: usize = 400;
+/// The most bytes of a line that a frame has.
+const LINE_MAX: usize = 160;
 
-/// How many bytes of a longer text are left, before the sign that it was cut.
-const CUT_TEXT: usize = 397;
+/// The most bytes that a frame has of what was told of a line.
+const TOLD_MAX: usize = 1_000;
 
-/// At most 400 bytes of a text. A longer one is cut, and ends with ` ..`.
+/// How many bytes the sign has that a text was cut.
+const CUT: usize = 3;
+
+/// At most 160 bytes of a line. A longer one is cut, and ends with ` ..`.
 ///
 /// # Errors
 ///
 /// Memory ran out.
-pub fn shortened(alloc: Global, text: &[u8]) -> Result<Vec<u8>, AllocError>
-    ensures { IfOk result (λ kept. kept.items ≡ shortened text.now) }
+pub fn short_line(alloc: Global, line: &[u8]) -> Result<Vec<u8>, AllocError>
+    ensures { IfOk result (λ kept. kept.items ≡ shortened 160 line.now) }
+{
+    shortened(alloc, line, LINE_MAX)
+}
+
+/// At most 1,000 bytes of what was told of a line. A longer text is cut, and ends with ` ..`.
+///
+/// # Errors
+///
+/// Memory ran out.
+pub fn short_told(alloc: Global, told: &[u8]) -> Result<Vec<u8>, AllocError>
+    ensures { IfOk result (λ kept. kept.items ≡ shortened 1000 told.now) }
+{
+    shortened(alloc, told, TOLD_MAX)
+}
+
+/// At most so many bytes of a text.
+fn shortened(alloc: Global, text: &[u8], most: usize) -> Result<Vec<u8>, AllocError>
+    requires { 3 ≤ most }
+    ensures { IfOk result (λ kept. kept.items ≡ shortened most text.now) }
 {
     let mut kept = Vec::new(alloc);
-    if text.len() <= TEXT_MAX {
+    if text.len() <= most {
         kept.extend_from_slice(text)?;
         return Ok(kept);
     }
-    let start = &text[..CUT_TEXT];
+    let start = &text[..most - CUT];
     kept.extend_from_slice(start)?;
     kept.extend_from_slice(b" ..")?;
     Ok(kept)

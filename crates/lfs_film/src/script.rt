@@ -1,69 +1,278 @@
-//! The script of a film's page.
+//! The script of a film's page: what it shows, and how one goes through it.
 
-/// The script, in JavaScript. A frame is a line of JSON: the number of the line, the line, what was told of it, what
-/// waits, and the rows that are new.
-pub const SCRIPT: &[u8] = br#"const byId = name => document.getElementById(name);
-const frames = byId("film").textContent.trim().split("\n").map(text => JSON.parse(text));
-const table = byId("log"), slider = byId("at"), last = frames.length - 1;
-const rowsOf = frame => frame.slice(4);
-slider.max = last;
-let at = -1, timer = null;
-for (const row of rowsOf(frames[0])) {
-  const tr = table.insertRow();
-  tr.insertCell().className = "n";
-  tr.insertCell();
+/// The last part of the script, in JavaScript.
+pub const SCRIPT: &[u8] =
+    br#"const SEGMENT = 64, SEGMENT_BYTES = 32768, PAGE = 10, FEWEST_LETTERS = 9;
+const byId = name => document.getElementById(name);
+const log = byId("log"), slider = byId("at"), jump = byId("jump"), talk = byId("talk");
+const segments = [];
+let at = -1, timer = null, rows = [], outlined = [], cursor = null, inks = {};
+
+function element(name, className, parent) {
+  const made = document.createElement(name);
+  made.className = className;
+  parent.appendChild(made);
+  return made;
 }
-function paint(row, isNew) {
-  const [number, state, live, signs] = row.trim().split(/ +/), tr = table.rows[+number];
-  tr.className = state + (isNew ? " new" : "");
-  tr.cells[0].textContent = number + " " + state + " " + live;
-  const cells = tr.cells[1];
-  cells.textContent = "";
-  for (const sign of signs) {
-    const cell = document.createElement("i");
-    if (sign !== ".") { cell.className = sign; cell.textContent = sign; }
-    cells.appendChild(cell);
+
+// Makes the places of a segment: they stay, and only what stands in them changes.
+function addSegment(number) {
+  const segment = element("div", "segment", log);
+  const parts = { segment, number: element("span", "number", segment), state: element("span", "state", segment),
+    live: element("span", "live", segment), cells: element("canvas", "cells", segment), signs: "", others: new Set() };
+  parts.number.textContent = number;
+  parts.cells.number = number;
+  parts.pen = parts.cells.getContext("2d");
+  segments.push(parts);
+}
+
+// Stripes of a colour, for what is dead.
+function stripes(pen, colour, ground) {
+  const tile = document.createElement("canvas"), tilePen = tile.getContext("2d");
+  tile.width = tile.height = 4;
+  tilePen.fillStyle = ground;
+  tilePen.fillRect(0, 0, 4, 4);
+  tilePen.fillStyle = colour;
+  for (let n = 0; n < 4; n++) tilePen.fillRect(n, n, 1, 1);
+  return pen.createPattern(tile, "repeat");
+}
+
+// Reads the colours of the style, as they are in light, in dark or in print.
+function readInks() {
+  const style = getComputedStyle(document.documentElement), colour = name => style.getPropertyValue("--" + name).trim();
+  const [data, indirect, records, dead] = ["data", "indirect", "records", "dead"].map(colour), pen = segments[0].pen;
+  inks = { D: data, I: indirect, R: records, S: colour("summary"), L: colour("label"), p: dead, ".": dead,
+    d: stripes(pen, data, dead), i: stripes(pen, indirect, dead), r: stripes(pen, records, dead),
+    records, ink: colour("ink"), ground: colour("ground"), cursor: colour("denied") };
+}
+
+function drawFrame(pen, x, width, height, line, ink) {
+  pen.strokeStyle = ink;
+  pen.lineWidth = line;
+  pen.strokeRect(x + line / 2, line / 2, width - line, height - line);
+}
+
+function drawCell({ pen, cells, signs, others }, block, letters) {
+  const x = Math.round(block * cells.width / SEGMENT), next = Math.round((block + 1) * cells.width / SEGMENT);
+  const width = next - x - 1, height = cells.height, sign = signs[block];
+  pen.fillStyle = inks[sign];
+  pen.fillRect(x, 0, width, height);
+  if (sign === "p") {
+    pen.fillStyle = inks.records;
+    pen.fill(new Path2D("M" + x + " 0h" + width + "L" + x + " " + height));
   }
+  if (letters && sign !== ".") {
+    pen.fillStyle = "DIRSL".includes(sign) ? inks.ground : inks.ink;
+    pen.fillText(sign, x + width / 2, height / 2 + 1);
+  }
+  if (others.has(block)) drawFrame(pen, x, width, height, 2, inks.ink);
+  if (cursor && cursor[0] === cells.number && cursor[1] === block) drawFrame(pen, x, width, height, 3, inks.cursor);
 }
-function show(to) {
-  to = Math.max(0, Math.min(last, to));
-  const from = to < at ? 0 : at + 1, latest = new Map();
-  for (const frame of frames.slice(from, to + 1)) for (const row of rowsOf(frame)) latest.set(parseInt(row, 10), row);
-  for (const tr of table.rows) tr.classList.remove("new");
-  const fresh = new Set(to > 0 ? rowsOf(frames[to]) : []);
-  for (const row of latest.values()) paint(row, false);
-  for (const row of fresh) paint(row, true);
-  at = to;
-  const [number, line, told, waits] = frames[at];
-  slider.value = at;
-  byId("where").textContent = "frame " + at + " of " + last + (at > 0 ? ", line " + number : "");
-  byId("line").textContent = at > 0 ? line : "the log as it is laid out";
+
+function drawCells(parts) {
+  const { pen, cells } = parts, letters = cells.width / SEGMENT >= FEWEST_LETTERS * devicePixelRatio;
+  pen.clearRect(0, 0, cells.width, cells.height);
+  pen.font = Math.min(cells.width / SEGMENT, cells.height) * 0.8 + "px monospace";
+  pen.textAlign = "center";
+  pen.textBaseline = "middle";
+  for (let block = 0; block < SEGMENT; block++) drawCell(parts, block, letters);
+}
+
+function drawAll() {
+  readInks();
+  segments.forEach(drawCells);
+}
+
+// Paints a row, and outlines what it has that it had not in the frame before.
+function paintRow(text, before) {
+  const { number, state, live, signs } = rowParts(text), parts = segments[number], old = before && rowParts(before).signs;
+  parts.segment.className = "segment " + state + (before && before !== text ? " other" : "");
+  parts.state.textContent = state;
+  parts.live.textContent = live;
+  parts.live.style.setProperty("--share", 100 * live / SEGMENT_BYTES + "%");
+  parts.signs = signs;
+  parts.others = new Set();
+  for (let block = 0; old && block < SEGMENT; block++) if (signs[block] !== old[block]) parts.others.add(block);
+  drawCells(parts);
+}
+
+function paintLog(to) {
+  const before = to > 0 ? rowsAt(to - 1) : [], now = rowsAt(to), changed = [];
+  now.forEach((row, number) => {
+    const isOther = to > 0 && row !== before[number];
+    if (isOther || row !== rows[number] || outlined.includes(number)) paintRow(row, before[number]);
+    if (isOther) changed.push(number);
+  });
+  outlined = changed;
+  rows = now;
+}
+
+// Shows a line, with the place that a denial is about.
+function paintLine(line, place) {
+  const [start, end] = place ?? [0, 0], marked = document.createElement("mark");
+  marked.textContent = line.slice(start, end);
+  byId("line").replaceChildren(line.slice(0, start), ...(place ? [marked] : []), line.slice(end));
+}
+
+function paintTalk() {
+  const line = lineAt(at), told = toldAt(at), comment = isComment(line);
+  const { kind, heading, says, place } = comment ? { kind: "done", heading: "", says: "" } : verdictOf(line, told);
+  const bold = document.createElement("b");
+  bold.textContent = heading ? heading + ". " : "";
+  talk.className = kind;
+  paintLine(at === 0 ? "(the log as it is laid out)" : comment ? "" : line, place);
+  byId("caption").textContent = captionAt(at);
   byId("answer").textContent = told;
-  byId("waits").textContent = waits;
+  byId("answer").scrollTop = line.startsWith(".why") ? byId("answer").scrollHeight : 0;
+  byId("verdict").replaceChildren(bold, says + (at > 0 && !comment && line ? " Caller: " + callerAt(at) + "." : ""));
+  byId("waits").textContent = waitingWords(waitsAt(at));
+  byId("waits").className = at > 0 && waitsAt(at) !== waitsAt(at - 1) ? "other" : "";
 }
+
+// Tells of the cell under the cursor.
+function tellCell() {
+  byId("cell").textContent = cursor ? cellWords(rowParts(rows[cursor[0]]), cursor[1])
+    : "Point at a block, or go to the segments by Tab and the arrows.";
+}
+
+function setCursor(number, block) {
+  const from = cursor;
+  cursor = [number, block];
+  if (from) drawCells(segments[from[0]]);
+  drawCells(segments[number]);
+  tellCell();
+}
+
+// The address of the page names the frame; not while it plays, as browsers limit how often that is set.
+let naming = null;
+function nameFrame() {
+  clearTimeout(naming);
+  if (!timer) naming = setTimeout(() => history.replaceState(null, "", '#' + at), 200);
+}
+
+function show(to) {
+  to = Math.max(0, Math.min(last, Math.round(to) || 0));
+  paintLog(to);
+  at = to;
+  paintTalk();
+  tellCell();
+  slider.value = jump.value = at;
+  byId("where").textContent = "of " + last;
+  byId("chapter").selectedIndex = chapterAt(at);
+  nameFrame();
+}
+
 function stop() {
-  clearInterval(timer);
+  clearTimeout(timer);
   timer = null;
   byId("play").textContent = "play";
+  nameFrame();
 }
+
+// One frame further, and again as the speed says; a caption stays twice as long.
+function step() {
+  if (at === last) return stop();
+  show(at + 1);
+  timer = setTimeout(step, 1000 / byId("speed").value * (isComment(lineAt(at)) ? 2 : 1));
+}
+
 function play() {
   if (timer) return stop();
   if (at === last) show(0);
   byId("play").textContent = "stop";
-  timer = setInterval(() => at < last ? show(at + 1) : stop(), 500);
+  timer = setTimeout(step, 0);
 }
-byId("back").onclick = () => show(at - 1);
-byId("on").onclick = () => show(at + 1);
-byId("play").onclick = play;
-slider.oninput = () => show(+slider.value);
-document.onkeydown = event => {
-  if (event.target === slider && event.key.startsWith("Arrow")) event.preventDefault();
-  if (event.key === "ArrowLeft") show(at - 1);
-  if (event.key === "ArrowRight") show(at + 1);
-  if (event.key === " " && event.target.tagName !== "BUTTON") {
-    event.preventDefault();
-    play();
+
+// As many columns of segments as make rows high and cells wide.
+function fit() {
+  const narrow = innerWidth <= 800, height = narrow ? 0.7 * innerHeight : log.clientHeight, width = log.clientWidth;
+  let best = { size: 0 };
+  for (let columns = 1; columns <= (narrow ? 1 : 8); columns++) {
+    const count = Math.ceil(segments.length / columns);
+    const row = Math.max(narrow ? 11 : 2, Math.min(34, Math.floor(height / count))), letter = Math.max(5, Math.min(16, row - 2));
+    const cell = (width / columns - 16 - 12 * letter) / SEGMENT, size = Math.min(row, 2.5 * cell);
+    if (size > best.size) best = { size, count, row, letter };
   }
+  log.style.setProperty("--rows", best.count);
+  log.style.setProperty("--row", best.row + "px");
+  log.style.setProperty("--letter", best.letter + "px");
+  const { clientWidth, clientHeight } = segments[0].cells;
+  for (const { cells } of segments) {
+    cells.width = Math.round(clientWidth * devicePixelRatio);
+    cells.height = Math.round(clientHeight * devicePixelRatio);
+  }
+  drawAll();
+}
+
+// Marks above the slider, at most one of a kind for each thousandth of its width.
+function addMarks() {
+  const seen = new Set();
+  for (const { at, kind } of marks) {
+    const share = Math.round(1000 * at / (last || 1)), name = kind + share;
+    if (seen.has(name)) continue;
+    seen.add(name);
+    element("b", kind, byId("marks")).style.left = share / 10 + "%";
+  }
+  const chapter = byId("chapter");
+  chapter.hidden = chapters.length === 0;
+  chapter.add(new Option("chapters", 0));
+  for (const at of chapters) chapter.add(new Option(commentText(lineAt(at)), at));
+}
+
+function moveCursor(key) {
+  const [number, block] = cursor ?? [0, 0];
+  const moves = { ArrowLeft: [0, -1], ArrowRight: [0, 1], ArrowUp: [-1, 0], ArrowDown: [1, 0] };
+  const [down, right] = cursor ? moves[key] : [0, 0];
+  const within = (value, count) => Math.max(0, Math.min(count - 1, value));
+  setCursor(within(number + down, segments.length), within(block + right, SEGMENT));
+}
+
+const KEYS = {
+  ArrowLeft: () => show(at - 1),
+  ArrowRight: () => show(at + 1),
+  PageUp: () => show(at - PAGE),
+  PageDown: () => show(at + PAGE),
+  Home: () => show(0),
+  End: () => show(last),
+  " ": play
 };
-show(0);
+
+document.onkeydown = event => {
+  const { key, target } = event;
+  if (event.ctrlKey || event.altKey || event.metaKey || target === jump || target.tagName === "SELECT") return;
+  if (key === " " && target.tagName === "BUTTON") return;
+  const inLog = target === log && key.startsWith("Arrow");
+  if (!inLog && !Object.hasOwn(KEYS, key)) return;
+  event.preventDefault();
+  if (inLog) moveCursor(key); else KEYS[key]();
+};
+log.onpointermove = event => {
+  const { number, clientWidth } = event.target, block = Math.floor(event.offsetX * SEGMENT / clientWidth);
+  if (number >= 0 && block >= 0 && block < SEGMENT) setCursor(number, block);
+};
+log.onfocus = () => { if (log.matches(":focus-visible")) moveCursor("ArrowRight"); };
+byId("first").onclick = () => show(0);
+byId("back").onclick = () => show(at - 1);
+byId("play").onclick = play;
+byId("on").onclick = () => show(at + 1);
+byId("end").onclick = () => show(last);
+byId("chapter").onchange = event => show(+event.target.value);
+slider.oninput = () => show(+slider.value);
+jump.onchange = () => show(+jump.value);
+onhashchange = () => show(+location.hash.slice(1));
+onresize = fit;
+function setPrinted(isOn) {
+  document.documentElement.classList.toggle("printed", isOn);
+  drawAll();
+}
+onbeforeprint = () => setPrinted(true);
+onafterprint = () => setPrinted(false);
+matchMedia("(prefers-color-scheme: dark)").onchange = drawAll;
+
+readFilm();
+slider.max = jump.max = last;
+rowsAt(0).forEach((_, number) => addSegment(number));
+addMarks();
+show(+location.hash.slice(1));
+fit();
 "#;

@@ -3,7 +3,7 @@
 use super::scripts::log::SIX_SEGMENTS;
 use super::{expect_eq, push};
 use lfs_film::film::Film;
-use lfs_film::quoting::{push_quoted, shortened};
+use lfs_film::quoting::{push_quoted, short_line, short_told};
 use lfs_live::start::run_watched;
 use lfs_live::watch::Watch;
 use lfs_logstore::LogStore;
@@ -66,13 +66,16 @@ const FRESH: &str = "<script id=\"film\" type=\"application/json\">
 /// A talk of six lines, of which three change nothing.
 pub(super) const TALK: &[u8] = b"create /a 0644\nstat /a\nsync\n\nsync\nwrite /a end 78\n";
 
-/// The frames of its other lines. The root's block waits, with the records of the root and of the file; `sync` writes
-/// the block and one block of both records, 512 and 256 bytes, and the record before is dead. A byte makes one block of
-/// data wait.
+/// The frames of its lines. The root's block waits, with the records of the root and of the file; `sync` writes the
+/// block and one block of both records, 512 and 256 bytes, and the record before is dead. A byte makes one block of data
+/// wait. The others change neither a row nor what waits.
 pub(super) const FRAMES: &str =
     "[1,\"create /a 0644\",\"0 ok\\u000a\",\"waiting 1 blocks 2 records\\u000a\"]
+[2,\"stat /a\",\"0 stat 4 file 0 0 0644 00000000 0\\u000a\",\"waiting 1 blocks 2 records\\u000a\"]
 [3,\"sync\",\"0 ok\\u000a\",\"waiting 0 blocks 0 records\\u000a\"\
     ,\"   0 active   768 LSrSDR..........................................................\\u000a\"]
+[4,\"\",\"\",\"waiting 0 blocks 0 records\\u000a\"]
+[5,\"sync\",\"0 ok\\u000a\",\"waiting 0 blocks 0 records\\u000a\"]
 [6,\"write /a end 78\",\"0 ok\\u000a\",\"waiting 1 blocks 1 records\\u000a\"]
 ";
 
@@ -120,23 +123,45 @@ fn texts_in_quotation_marks(rt: HostRuntime) {
     }
 }
 
-/// Asserts how many bytes are left of so many, and whether they end with the sign that they were cut.
-fn expect_cut(rt: &impl Abort, alloc: Global, count: usize, left: usize, is_cut: bool) {
+/// A text of so many bytes.
+fn text_of(rt: &impl Abort, alloc: Global, count: usize) -> Vec<u8> {
     let mut text = Vec::new(alloc);
     text.resize(count, b'x').expect(rt, "memory");
-    let kept = shortened(alloc, text.as_slice()).expect(rt, "memory");
+    text
+}
+
+/// Asserts how many bytes are left of a text, and whether they end with the sign that they were cut.
+fn expect_cut(rt: &impl Abort, kept: &[u8], left: usize, is_cut: bool) {
     expect_eq(rt, kept.len(), left);
-    expect_eq(rt, kept.as_slice().ends_with(b"x .."), is_cut);
+    expect_eq(rt, kept.ends_with(b"x .."), is_cut);
 }
 
 #[test]
-fn long_texts_are_cut(rt: HostRuntime) {
+fn long_lines_are_cut(rt: HostRuntime) {
+    let alloc = rt.alloc();
     for (count, left, is_cut) in [
-        (399, 399, false),
-        (400, 400, false),
-        (401, 400, true),
-        (65_536, 400, true),
+        (159, 159, false),
+        (160, 160, false),
+        (161, 160, true),
+        (65_536, 160, true),
     ] {
-        expect_cut(&rt, rt.alloc(), count, left, is_cut);
+        let line = text_of(&rt, alloc, count);
+        let kept = short_line(alloc, line.as_slice()).expect(&rt, "memory");
+        expect_cut(&rt, kept.as_slice(), left, is_cut);
+    }
+}
+
+#[test]
+fn long_answers_are_cut(rt: HostRuntime) {
+    let alloc = rt.alloc();
+    for (count, left, is_cut) in [
+        (999, 999, false),
+        (1_000, 1_000, false),
+        (1_001, 1_000, true),
+        (65_536, 1_000, true),
+    ] {
+        let told = text_of(&rt, alloc, count);
+        let kept = short_told(alloc, told.as_slice()).expect(&rt, "memory");
+        expect_cut(&rt, kept.as_slice(), left, is_cut);
     }
 }
