@@ -56,7 +56,7 @@ pub enum Change<'a> {
 pub enum Reserve {
     /// A user's: those that give blocks back.
     Users,
-    /// The superuser's: those that give blocks back, and those that add none.
+    /// The superuser's: those that give blocks back, and those that only take flags away.
     Superuser,
 }
 

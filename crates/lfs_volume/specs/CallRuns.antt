@@ -17,10 +17,10 @@ use Rattle.lfs_calls.specs.Entries.{LeavesEntries, OnServed}
 use Rattle.lfs_calls.specs.Outcomes.{IsOutcome}
 use Rattle.lfs_calls.specs.Volumes.{IsVolume}
 
--- A user's call was answered so behind a journal that began in this world, and led from one store to another: JournalFull exactly where the journal
--- has its limit, and then the store is as before; else the answer has its cause over the store as it was, which shows the
--- journal's world. A call that is served leaves the entries of directories in their places, and a Sync nothing waiting;
--- one that isn't leaves the content; and no more segments are clean.
+-- A user's call was answered so behind a journal that began in this world, and led from one store to another: JournalFull
+-- exactly where the journal has its limit, and then the store is as before; else the answer has its cause over the store as
+-- it was, which shows the journal's world. A call that is served leaves the entries of directories in their places, and a
+-- Sync nothing waiting; one that isn't leaves the content; and no more segments are clean.
 pub record IsCallMade {F : Type 0} (state : F → StoreState) (is_settled : F → Type 0) (limit : ℕ) (from : World) (journal : List Entry) (old : F) (caller : Caller) (request : Request) (answer : Answer) (new : F) : Type 0 where
   pub full : (answer ≡ Refused JournalFull) ↔ (length journal ≡ limit)
   pub at_limit : length journal ≡ limit → new ≡ old
