@@ -80,7 +80,7 @@ pub struct Statfs {
     pub max_name: u32,
 }
 
-/// What a kernel is told. FORGET, BATCH_FORGET and INTERRUPT have no reply.
+/// What a kernel is told. FORGET, BATCH_FORGET, INTERRUPT and NOTIFY_REPLY have no reply.
 #[derive(Clone, Copy)]
 pub enum Reply<'a> {
     /// An error, and nothing else.

@@ -22,6 +22,7 @@ use Rattle.lfs_fuse_wire.specs.declared.naming.Mkdir.{Mkdir}
 use Rattle.lfs_fuse_wire.specs.declared.naming.Mknod.{Mknod}
 use Rattle.lfs_fuse_wire.specs.declared.naming.Rename.{Rename}
 use Rattle.lfs_fuse_wire.specs.declared.opcode.Unserved.{Unserved}
+use Rattle.lfs_fuse_wire.specs.declared.opcode.Unserved.TheVariants.{NotifyReply}
 use Rattle.lfs_fuse_wire.specs.Attributes.{access_asked_in, getattr_in, setattr_in}
 use Rattle.lfs_fuse_wire.specs.Forgetting.{forget_in}
 use Rattle.lfs_fuse_wire.specs.Handles.{flush_in, fsync_in, open_in, read_in, release_in, write_in}
@@ -152,4 +153,5 @@ abbrev pub has_reply : Said → Bool
 has_reply (forget fields) = false
 has_reply (batch_forget nodes) = false
 has_reply (interrupt number) = false
+has_reply (unserved NotifyReply) = false
 has_reply _ = true

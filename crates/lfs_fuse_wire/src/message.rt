@@ -115,6 +115,7 @@ impl<'a> Message<'a> {
     {
         match self {
             Message::Forget(_) | Message::BatchForget(_) | Message::Interrupt(_) => false,
+            Message::Unserved(Unserved::NotifyReply) => false,
             _ => true,
         }
     }
