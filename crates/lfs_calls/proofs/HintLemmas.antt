@@ -2,7 +2,7 @@
 use Rattle.std.proofs.Common.{◌≡◌, ℕ, ◌+◌, ◌*◌, ◌<◌, ◌≤◌, List, length, arith}
 use Rattle.lfs_dirs.specs.Directory.{used_of}
 use Rattle.lfs_dirs.specs.Reading.{entries_of}
-use Rattle.lfs_dirhints.specs.Full.{IsFullBefore}
+use Rattle.lfs_known.specs.Full.{IsFullBefore}
 use Rattle.lfs_calls.specs.Content.{block_at}
 
 -- the first blocks have no room, so many of them as the bytes have

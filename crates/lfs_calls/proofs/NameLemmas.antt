@@ -5,9 +5,9 @@ use Rattle.std.proofs.lemmas.Bool.{both_ways, cases_eq, cases_Bool}
 use Rattle.std.proofs.lemmas.Slice.Eq.{bytes_eq-Decides}
 use Rattle.lfs_types.specs.Tree.{Content}
 use Rattle.lfs_types.specs.declared.store.StoreRefusal.{StoreRefusal}
-use Rattle.lfs_namecache.specs.Says.{SaysNoMore, says}
-use Rattle.lfs_namecache.specs.Slots.{kept_of}
-use Rattle.lfs_namecache.specs.declared.cache.NameCache.{NameCache}
+use Rattle.lfs_known.specs.NamesSaid.{SaysNoMore, says}
+use Rattle.lfs_known.specs.NameSlots.{kept_of}
+use Rattle.lfs_known.specs.declared.names.NameCache.{NameCache}
 use Rattle.lfs_calls.specs.Names.{AreTrue, FindsNew, IsFound, KeepsNames, MovesName}
 
 -- two pairs of a directory and a name are one, or not

@@ -3,13 +3,13 @@ use Rattle.std.specs.Prelude.{◌≡◌, ℕ, List, Option, None, Some}
 use Rattle.lfs_types.specs.Stored.{bytes_of}
 use Rattle.lfs_types.specs.Tree.{Content}
 use Rattle.lfs_types.specs.declared.attrs.Attrs.{Attrs}
-use Rattle.lfs_slots.specs.declared.slots.Slots.{Slots}
-use Rattle.lfs_attrcache.specs.Shown.{AreShown}
-use Rattle.lfs_dirhints.specs.Full.{AreFull}
-use Rattle.lfs_dirhints.specs.declared.hints.Hint.{Hint}
+use Rattle.lfs_known.specs.declared.slots.Slots.{Slots}
+use Rattle.lfs_known.specs.Shown.{AreShown}
+use Rattle.lfs_known.specs.Full.{AreFull}
+use Rattle.lfs_known.specs.declared.hints.Hint.{Hint}
 use Rattle.lfs_dirs.specs.Directory.{number_in}
-use Rattle.lfs_namecache.specs.Says.{says}
-use Rattle.lfs_namecache.specs.declared.cache.NameCache.{NameCache}
+use Rattle.lfs_known.specs.NamesSaid.{says}
+use Rattle.lfs_known.specs.declared.names.NameCache.{NameCache}
 use Rattle.lfs_calls.specs.Content.{IsDirectoryAt, all_entries}
 
 -- a directory lists a number under a name

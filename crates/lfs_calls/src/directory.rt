@@ -8,13 +8,13 @@ ghost use Rattle.lfs_types.specs.declared.limits.TheConstants.{FILE_BYTES};
 ghost use Rattle.lfs_types.specs.Naming.{name_fault};
 ghost use Rattle.lfs_dirs.specs.Directory.{number_in, IsDirectoryBlock};
 ghost use Rattle.lfs_dirs.specs.Reading.{entries_of};
-ghost use Rattle.lfs_dirhints.specs.Full.{IsFullBefore};
+ghost use Rattle.lfs_known.specs.Full.{IsFullBefore};
 ghost use Rattle.lfs_calls.specs.Content.{HasBlocks, IsDirectoryAt, all_entries, FitsNowhere, AreBlocks, block_at};
 ghost use Rattle.lfs_calls.specs.Makes.{CanEnter, IsRoom, StandsIn, with_block};
 ghost use Rattle.lfs_calls.specs.Removes.{IsTaking, ListsName};
 
 use crate::tree::Tree;
-use lfs_dirhints::Hint;
+use lfs_known::Hint;
 use lfs_dirs::{added, entries, find, removed};
 use lfs_types::block::{BLOCK_SIZE, Block};
 use lfs_types::limits::FILE_BYTES;

@@ -6,17 +6,15 @@ ghost use Rattle.std.specs.FinMap.{get};
 ghost use Rattle.lfs_types.specs.Changes.{CanApply, applied};
 ghost use Rattle.lfs_types.specs.StoreStates.{Applies};
 ghost use Rattle.lfs_types.specs.Stored.{shown_attrs, bytes_of, slice_of, Reads, IsLeastFree};
-ghost use Rattle.lfs_attrcache.specs.Shown.{AreShown};
-ghost use Rattle.lfs_dirhints.specs.Full.{AreFull, IsFullBefore};
+ghost use Rattle.lfs_known.specs.Shown.{AreShown};
+ghost use Rattle.lfs_known.specs.Full.{AreFull, IsFullBefore};
 ghost use Rattle.lfs_model.specs.World.{child};
 ghost use Rattle.lfs_dirs.specs.Directory.{number_in};
 ghost use Rattle.lfs_calls.specs.Content.{IsDirectoryAt, all_entries};
 ghost use Rattle.lfs_calls.specs.Names.{FindsNew, IsFound, KeepsNames, MovesName};
 ghost use Rattle.lfs_calls.specs.Volumes.{InWorld};
 
-use lfs_attrcache::AttrCache;
-use lfs_dirhints::{DirHints, Hint};
-use lfs_namecache::NameCache;
+use lfs_known::{AttrCache, DirHints, Hint, NameCache, follow_attributes, follow_hints};
 use lfs_types::attrs::Attrs;
 use lfs_types::name::Name;
 use lfs_types::store::{Change, FileStore, Reserve, StoreRefusal};
@@ -263,7 +261,7 @@ fn apply_followed<F: FileStore>(
         → AreFull hints.new (F.state store.new).content }
 {
     store.apply(changes, by)?;
-    lfs_attrcache::follow(attributes, changes);
-    lfs_dirhints::follow(hints, changes);
+    follow_attributes(attributes, changes);
+    follow_hints(hints, changes);
     Ok(())
 }

@@ -1,6 +1,5 @@
 pub mod Askings
 pub mod ExplainLemmas
-pub mod LineLemmas
 pub mod LookLemmas
 pub mod MoveLemmas
 pub mod Pushed

@@ -2,4 +2,3 @@ pub mod Asked
 pub mod Classes
 pub mod Tables
 pub mod Trails
-pub mod WhyText

@@ -34,14 +34,4 @@ impl Class {
             Class::Others
         }
     }
-
-    /// The word for it.
-    pub(crate) fn word(self) -> &'static str {
-        match self {
-            Class::Superuser => "superuser",
-            Class::Owner => "owner",
-            Class::Group => "group",
-            Class::Others => "others",
-        }
-    }
 }

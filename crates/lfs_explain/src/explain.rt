@@ -92,7 +92,7 @@ fn asked_count(checks: &[Check]) -> usize
 }
 
 /// The names of a call's first path, none where it has none.
-pub(crate) fn first_of(request: &Request) -> &[Name]
+pub fn first_of(request: &Request) -> &[Name]
     ensures names { result.now ≡ first_names request.now }
     ensures short { length result.now ≤ PATH_MAX }
 {
@@ -115,7 +115,7 @@ pub(crate) fn first_of(request: &Request) -> &[Name]
 }
 
 /// Those of its second path.
-pub(crate) fn second_of(request: &Request) -> &[Name]
+pub fn second_of(request: &Request) -> &[Name]
     ensures names { result.now ≡ second_names request.now }
     ensures short { length result.now ≤ PATH_MAX }
 {

@@ -4,11 +4,9 @@
 pub mod check;
 pub mod class;
 pub mod explain;
-pub mod lines;
 mod looking;
 mod moving;
 mod privileged;
 mod telling;
 mod testing;
-pub mod text;
 pub mod trail;

@@ -9,7 +9,7 @@ ghost use Rattle.lfs_calls.specs.Volumes.{HasWorld, InWorld};
 ghost use Rattle.lfs_explain.specs.Trails.{IsTrail, shown_row, rows_along};
 ghost use Rattle.lfs_explain.specs.declared.trail.ShownRow.{ShownRow};
 
-use crate::trail::{ShownRow, Trail};
+use crate::trail::{ShownRow, Trail, row_of};
 use lfs_calls::directory::{is_empty_directory, look_up};
 use lfs_calls::tree::Tree;
 use lfs_checks::attributes::shown_size;
@@ -79,13 +79,6 @@ fn rows_along<F: FileStore>(
     }
     rows.push(look(tree, at))?;
     Ok(rows)
-}
-
-/// A row of some, if there are as many.
-pub(crate) fn row_of(rows: &[ShownRow], at: usize) -> Option<ShownRow>
-    ensures { result ≡ slice_get rows.now at }
-{
-    rows.get(at).copied()
 }
 
 /// A file or a directory that is there, as users see it.

@@ -8,10 +8,9 @@ ghost use Rattle.lfs_explain.specs.Tables.{arriving_by, is_itself, known_path, l
 ghost use Rattle.lfs_explain.specs.declared.trail.ShownRow.{ShownRow};
 
 use crate::check::Check;
-use crate::looking::row_of;
 use crate::telling::{dir_of, last_row, push, push_trail};
 use crate::testing;
-use crate::trail::{ShownRow, Trail};
+use crate::trail::{ShownRow, Trail, row_of};
 use lfs_checks::site::Site;
 use lfs_rules::access::grants;
 use lfs_types::attrs::{Attrs, Bit};

@@ -6,11 +6,10 @@ ghost use Rattle.lfs_explain.specs.Asked.{asked};
 ghost use Rattle.lfs_explain.specs.Tables.{dir_of, known_path, last_row, making_by, no_row, own_tests, reaching_by, removing_by, row_at, table_by, trail_tests};
 
 use crate::check::Check;
-use crate::looking::row_of;
 use crate::moving::{push_arriving, push_moving};
 use crate::privileged::{chflags, set_level};
 use crate::testing;
-use crate::trail::{ShownRow, Trail};
+use crate::trail::{ShownRow, Trail, row_of};
 use lfs_checks::site::Site;
 use lfs_types::attrs::{Attrs, Kind};
 use lfs_types::cred::Cred;

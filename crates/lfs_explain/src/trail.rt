@@ -1,5 +1,7 @@
 //! The rows that a path leads through.
 
+ghost use Rattle.std.specs.Prelude.{◌≡◌, slice_get};
+
 use lfs_types::attrs::Attrs;
 
 /// A file or a directory as users see it: its number and its attributes, where a directory has the size 0.
@@ -20,4 +22,11 @@ pub struct Trail {
     pub names: u32,
     /// Whether the row that all the names lead to, if there is one, has no child.
     pub is_childless: bool,
+}
+
+/// A row of some, if there are as many.
+pub fn row_of(rows: &[ShownRow], at: usize) -> Option<ShownRow>
+    ensures { result ≡ slice_get rows.now at }
+{
+    rows.get(at).copied()
 }

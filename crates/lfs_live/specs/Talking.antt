@@ -12,7 +12,7 @@ use Rattle.lfs_volume.specs.Cleanings.{Cleaner}
 use Rattle.lfs_volume.specs.Journals.{AtPresent, Since}
 use Rattle.lfs_volume.specs.Seen.{Seen}
 use Rattle.lfs_audit.specs.Runs.{TellsLine}
-use Rattle.lfs_explain.specs.WhyText.{why_text}
+use Rattle.lfs_why.specs.WhyText.{why_text}
 use Rattle.lfs_live.specs.Hearing.{heard_of}
 use Rattle.lfs_live.specs.Talkers.{Talker}
 use Rattle.lfs_live.specs.Telling.{cut_text, dot_text, ended_line, fault_line}

@@ -4,8 +4,8 @@ use Rattle.std.specs.Io.KnownBytes.{Appends, Keeps}
 use Rattle.clap.specs.Values.{kind_of}
 use Rattle.clap.specs.declared.error.Error.{Error}
 use Rattle.lfs_types.specs.declared.store.Params.{Params}
-use Rattle.lfs_options.specs.Ranges.{IsInRange}
-use Rattle.lfs_options.specs.declared.Options.{Options}
+use Rattle.lfs_programs.specs.Ranges.{IsInRange}
+use Rattle.lfs_programs.specs.declared.options.Options.{Options}
 use Rattle.lfs_audit.specs.Scripts.{IsLogOutput, IsScriptFault}
 use Rattle.lfs_audit.specs.Threads.{IsThreadsFault, IsThreadsOutput, MayHaveWrittenThreads}
 use Rattle.lfs_audit.specs.declared.fault.ThreadsFault.{ThreadsFault}

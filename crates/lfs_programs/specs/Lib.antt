@@ -1,3 +1,4 @@
+pub mod Ranges
 pub mod Asked
 pub mod Ends
 pub mod Talks

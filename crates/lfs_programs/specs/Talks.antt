@@ -5,8 +5,8 @@ use Rattle.clap.specs.Values.{kind_of}
 use Rattle.clap.specs.declared.error.Error.{Error}
 use Rattle.lfs_types.specs.declared.store.Params.{Params}
 use Rattle.lfs_film.specs.Films.{Reel, page_text}
-use Rattle.lfs_options.specs.Ranges.{IsInRange}
-use Rattle.lfs_options.specs.declared.ShellOptions.{ShellOptions}
+use Rattle.lfs_programs.specs.Ranges.{IsInRange}
+use Rattle.lfs_programs.specs.declared.options.ShellOptions.{ShellOptions}
 use Rattle.lfs_audit.specs.declared.fault.RunFault.TheVariants.{Read}
 use Rattle.lfs_live.specs.Scripts.{HasHeardOfLog, IsLogFault, IsLogTalk}
 use Rattle.lfs_programs.specs.Ends.{EndsUnasked}

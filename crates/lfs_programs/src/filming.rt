@@ -5,11 +5,11 @@ ghost use Rattle.lfs_audit.specs.declared.fault.RunFault.TheVariants.{Read as Fa
 ghost use Rattle.lfs_programs.specs.Talks.{HasPage, HasTalked, HasTalkedSoFar, IsFilmed, IsShellFault};
 
 use crate::fault::ShellFault;
+use crate::options::ShellOptions;
 use lfs_film::film::Film;
 use lfs_live::start::{run_lines, run_watched};
 use lfs_live::watch::Watch;
 use lfs_logstore::LogStore;
-use lfs_options::ShellOptions;
 use std::alloc::{AllocError, Global};
 use std::fs::File;
 use std::io::{Read, Write};

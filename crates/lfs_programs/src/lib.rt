@@ -3,6 +3,7 @@
 
 pub mod fault;
 mod filming;
+pub mod options;
 pub mod refusing;
 pub mod server;
 pub mod shell;

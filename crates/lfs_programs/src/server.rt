@@ -3,12 +3,13 @@
 ghost use Rattle.std.specs.Prelude.{◌≡◌, ℕ, List, IfErr, IfOk, IfSome, OnOk};
 ghost use Rattle.std.specs.Io.KnownBytes.{Appends, Keeps};
 ghost use Rattle.clap.specs.Values.{kind_of};
-ghost use Rattle.lfs_options.specs.Ranges.{IsInRange};
+ghost use Rattle.lfs_programs.specs.Ranges.{IsInRange};
 ghost use Rattle.lfs_audit.specs.Scripts.{IsLogOutput};
 ghost use Rattle.lfs_audit.specs.Threads.{MayHaveWrittenThreads};
 ghost use Rattle.lfs_programs.specs.Asked.{EndsRun, IsAloneFault, IsAskedFault, IsServerEnd, HasGotText};
 ghost use Rattle.lfs_programs.specs.Ends.{EndsUnasked};
 
+use crate::options::{Options, not_utf8, options_of};
 use crate::refusing::refuse;
 use crate::words::{NoWords, words};
 use clap::Error;
@@ -16,7 +17,6 @@ use lfs_audit::fault::ThreadsFault;
 use lfs_audit::run::run_script;
 use lfs_audit::tell::end;
 use lfs_audit::threads::run_threads;
-use lfs_options::{Options, not_utf8, options_of};
 use lfs_types::store::Params;
 use std::alloc::{AllocError, Global};
 use std::env::Env;

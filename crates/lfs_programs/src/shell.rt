@@ -2,19 +2,19 @@
 
 ghost use Rattle.std.specs.Prelude.{◌≡◌, IfErr, IfOk, IfSome, OnOk};
 ghost use Rattle.clap.specs.Values.{kind_of};
-ghost use Rattle.lfs_options.specs.Ranges.{IsInRange};
+ghost use Rattle.lfs_programs.specs.Ranges.{IsInRange};
 ghost use Rattle.lfs_audit.specs.declared.fault.RunFault.TheVariants.{Read as Failed};
 ghost use Rattle.lfs_programs.specs.Ends.{EndsUnasked};
 ghost use Rattle.lfs_programs.specs.Talks.{EndsTalk, HasTalked, HasTalkedSoFar, IsFilmed, IsShellEnd, IsShellFault};
 
 use crate::fault::ShellFault;
 use crate::filming::talk;
+use crate::options::{ShellOptions, shell_not_utf8, shell_options_of};
 use crate::refusing::refuse;
 use crate::words::{NoWords, words};
 use clap::Error;
 use lfs_audit::fault::RunFault;
 use lfs_audit::tell::end;
-use lfs_options::{ShellOptions, shell_not_utf8, shell_options_of};
 use std::alloc::{AllocError, Global};
 use std::env::Env;
 use std::io::{BufReader, Read, Write};

@@ -3,7 +3,7 @@
 use anyhow::anyhow;
 use lfs_audit::run::run_script;
 use lfs_audit::threads::run_threads;
-use lfs_options::{Options, options_of};
+use lfs_programs::options::{Options, options_of};
 use std::fs;
 use std::rt::Files;
 use std::sync::Wait;

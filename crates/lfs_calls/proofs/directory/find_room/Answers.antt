@@ -6,7 +6,7 @@ use Rattle.lfs_dirs.specs.Directory.{number_in, IsDirectoryBlock}
 use Rattle.lfs_dirs.specs.Reading.{entries_of}
 use Rattle.lfs_calls.specs.Content.{block_at}
 use Rattle.lfs_calls.specs.Makes.{with_block}
-use Rattle.lfs_dirhints.specs.Full.{IsFullBefore}
+use Rattle.lfs_known.specs.Full.{IsFullBefore}
 use Rattle.lfs_calls.proofs.HintLemmas.{full_before}
 use Rattle.lfs_calls.proofs.Listings.{absent_in_block, none_at_end}
 use Rattle.lfs_calls.proofs.WithBlock.{length-with_block}

@@ -1,6 +1,6 @@
 use Rattle.std.proofs.Common.{sym, subst}
-use Rattle.lfs_attrcache.specs.Shown.{AreShown}
-use Rattle.lfs_dirhints.specs.Full.{AreFull}
+use Rattle.lfs_known.specs.Shown.{AreShown}
+use Rattle.lfs_known.specs.Full.{AreFull}
 use Rattle.lfs_calls.proofs.tree.apply_followed.Goals as goal
 
 pub returns-clause-shown : goal.returns-clause-shown

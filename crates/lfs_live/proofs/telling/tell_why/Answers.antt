@@ -2,7 +2,7 @@ use Rattle.std.proofs.Common.{◌≡◌, subst}
 use Rattle.std.specs.Prelude.{IfOk}
 use Rattle.lfs_model.specs.Steps.{world_after}
 use Rattle.lfs_volume.specs.Journals.{Begins}
-use Rattle.lfs_explain.proofs.LineLemmas.{why_told}
+use Rattle.lfs_why.proofs.LineLemmas.{why_told}
 use Rattle.lfs_live.proofs.TellingLemmas.{if_ok_at}
 use Rattle.lfs_live.proofs.telling.tell_why.Goals as goal
 

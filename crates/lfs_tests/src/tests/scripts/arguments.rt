@@ -4,7 +4,9 @@ use super::expect_parts;
 use crate::tests::expect_eq;
 use clap::Error;
 use clap::error::ErrorKind;
-use lfs_options::{DEFAULTS, Options, SHELL_DEFAULTS, not_utf8, options_of, shell_options_of};
+use lfs_programs::options::{
+    DEFAULTS, Options, SHELL_DEFAULTS, not_utf8, options_of, shell_options_of,
+};
 use lfs_types::store::Params;
 use std::alloc::Global;
 use std::process::Abort;

@@ -7,7 +7,7 @@ use super::passes::filled_and_passed;
 use crate::tests::{SMALL, expect_eq, fresh, plan_of};
 use lfs_audit::report::{report, report_counts};
 use lfs_logstore::LogStore;
-use lfs_options::DEFAULTS;
+use lfs_programs::options::DEFAULTS;
 use lfs_script::plan::{Act, Step};
 use lfs_types::store::Params;
 use lfs_volume::counts::Counts;

@@ -3,7 +3,7 @@
 use super::{expect_with, output_with, text_of};
 use crate::tests::push;
 use itoa::Buffer;
-use lfs_options::DEFAULTS;
+use lfs_programs::options::DEFAULTS;
 use lfs_types::store::Params;
 use std::alloc::Global;
 use std::process::Abort;

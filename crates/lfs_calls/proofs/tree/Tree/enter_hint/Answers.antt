@@ -1,7 +1,7 @@
 use Rattle.std.proofs.Common.{sym, subst}
 use Rattle.lfs_types.specs.Stored.{bytes_of}
-use Rattle.lfs_dirhints.specs.Full.{IsFullBefore}
-use Rattle.lfs_dirhints.proofs.FullLemmas.{full_entered}
+use Rattle.lfs_known.specs.Full.{IsFullBefore}
+use Rattle.lfs_known.proofs.FullLemmas.{full_entered}
 use Rattle.lfs_calls.proofs.tree.Tree.enter_hint.Goals as goal
 
 pub invariant_of-self : goal.invariant_of-self

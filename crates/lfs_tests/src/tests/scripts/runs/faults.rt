@@ -3,7 +3,7 @@
 use super::fakes::Failing;
 use super::{PARAMS, expect_threads_unwritten, expect_told, expect_unwritten};
 use lfs_audit::fault::{RunFault, ThreadsFault};
-use lfs_options::DEFAULTS;
+use lfs_programs::options::DEFAULTS;
 use lfs_script::fault::{FaultKind, ScriptFault};
 use lfs_server::serving::ServeFault;
 use lfs_types::fault::FormatFault;

@@ -1,0 +1,4 @@
+pub mod FollowLemmas
+mod ShownLemmas
+pub mod FullLemmas
+pub mod SlotLemmas

@@ -1,0 +1,299 @@
+//! What the arguments of `lfsd` and of `lfs_shell` ask for.
+
+ghost use Rattle.std.specs.Prelude.{◌≤◌, IfOk};
+ghost use Rattle.lfs_programs.specs.Ranges.{IsBetween, IsInRange};
+
+use clap::builder::ValueParser;
+use clap::error::ErrorKind;
+use clap::{Arg, ArgAction, ArgMatches, Command, Error};
+use lfs_types::store::Params;
+use std::alloc::{AllocError, Global};
+use std::convert::AsStr;
+
+/// An option that takes a number.
+#[derive(Clone, Copy)]
+struct NumberOption {
+    /// Its name.
+    name: &'static str,
+    /// The least number that it takes.
+    least: u32,
+    /// The greatest number that it takes.
+    most: u32,
+    /// The number where it is not given.
+    default: u32,
+    /// What `--help` tells of it.
+    help: &'static str,
+    /// What is told of a number that begins with a sign.
+    refusal: &'static str,
+}
+
+const SEGMENTS: NumberOption = NumberOption {
+    name: "segments",
+    least: 6,
+    most: 1024,
+    default: 64,
+    help: "How many segments of 32,768 bytes the log has, 6 to 1024; by default 64",
+    refusal: "--segments takes a number of decimal digits alone, from 6 to 1024",
+};
+
+const INODES: NumberOption = NumberOption {
+    name: "inodes",
+    least: 16,
+    most: 4096,
+    default: 256,
+    help: "How many inode numbers the volume has, 16 to 4096; by default 256",
+    refusal: "--inodes takes a number of decimal digits alone, from 16 to 4096",
+};
+
+const FRAMES: NumberOption = NumberOption {
+    name: "frames",
+    least: 32,
+    most: 1024,
+    default: 64,
+    help: "How many blocks of 512 bytes the cache holds, 32 to 1024; by default 64",
+    refusal: "--frames takes a number of decimal digits alone, from 32 to 1024",
+};
+
+const JOURNAL: NumberOption = NumberOption {
+    name: "journal",
+    least: 1,
+    most: 100_000,
+    default: 4096,
+    help: "How many entries the journal may have, 1 to 100000; by default 4096",
+    refusal: "--journal takes a number of decimal digits alone, from 1 to 100000",
+};
+
+/// The journal of `lfs_shell`, which may be longer.
+const SHELL_JOURNAL: NumberOption = NumberOption {
+    name: "journal",
+    least: 1,
+    most: 1_000_000,
+    default: 100_000,
+    help: "How many entries the journal may have, 1 to 1000000; by default 100000",
+    refusal: "--journal takes a number of decimal digits alone, from 1 to 1000000",
+};
+
+/// The option of `lfs_shell` that takes the file of a film.
+const FILM: &str = "film";
+
+/// The parameters of `lfsd` where no argument says otherwise.
+pub const DEFAULTS: Params = Params {
+    segments: SEGMENTS.default,
+    inodes: INODES.default,
+    frames: FRAMES.default,
+    journal: JOURNAL.default,
+};
+
+/// Those of `lfs_shell`.
+pub const SHELL_DEFAULTS: Params = Params {
+    journal: SHELL_JOURNAL.default,
+    ..DEFAULTS
+};
+
+/// What `--help` of `lfsd` tells behind the options.
+const MORE: &str = "Example: printf 'create /a 0644\\nstat /a\\n' | lfsd
+
+Read on in README.md: docs/FORMATS.md says how scripts, answers and the report are written, docs/RULES.md which rule
+denies what.";
+
+/// What that of `lfs_shell` tells.
+const SHELL_MORE: &str = "Example: printf 'create /a 0644\\nstat /a\\n.quit\\n' | lfs_shell
+
+The line .help tells which lines may be said. Read on in README.md: docs/FORMATS.md says how lines and answers are
+written, docs/RULES.md which rule denies what.";
+
+/// What `lfsd` is asked to do.
+#[derive(Clone, Copy, PartialEq, Eq, Debug)]
+pub struct Options {
+    /// The parameters of the volume.
+    pub params: Params,
+    /// Whether each session runs on a thread of its own.
+    pub threads: bool,
+}
+
+/// The options that the words of `lfsd` ask for; the first word is the program's name.
+///
+/// # Errors
+///
+/// What the parser tells, with its exit code: 2 for a word that is no option or a number out of its range, 0 for `--help`; or
+/// want of memory.
+pub fn options_of<'a, S: AsStr>(alloc: Global, words: &'a [S]) -> Result<Options, Error>
+    ensures { IfOk result (λ options. IsInRange 100000 options.params) }
+{
+    let mut command = command(alloc)?;
+    let matches = command.try_get_matches_from_mut(words)?;
+    match params_in(&matches, &JOURNAL) {
+        Ok(params) => {
+            let threads = matches.get_flag("threads");
+            Ok(Options { params, threads })
+        }
+        Err(refusal) => Err(wrong_value(&mut command, refusal)),
+    }
+}
+
+/// What `lfs_shell` is asked to do.
+#[derive(Clone, Copy, Debug)]
+pub struct ShellOptions<'a> {
+    /// The parameters of the volume.
+    pub params: Params,
+    /// The file that the film of the log is written to, where one is asked for.
+    pub film: Option<&'a str>,
+}
+
+/// The options that the words of `lfs_shell` ask for; the first word is the program's name.
+///
+/// # Errors
+///
+/// As those of `options_of`.
+pub fn shell_options_of<'a, S: AsStr>(
+    alloc: Global,
+    words: &'a [S],
+) -> Result<ShellOptions<'a>, Error>
+    ensures { IfOk result (λ options. IsInRange 1000000 options.params) }
+{
+    let mut command = shell_command(alloc)?;
+    let matches = command.try_get_matches_from_mut(words)?;
+    match params_in(&matches, &SHELL_JOURNAL) {
+        Ok(params) => {
+            let film = matches.get_str(FILM);
+            Ok(ShellOptions { params, film })
+        }
+        Err(refusal) => Err(wrong_value(&mut command, refusal)),
+    }
+}
+
+/// The fault of arguments of `lfsd` that are no text.
+///
+/// # Errors
+///
+/// It is itself one, with exit code 2; or want of memory.
+pub fn not_utf8(alloc: Global) -> Error {
+    fault_of_text(command(alloc))
+}
+
+/// The same of `lfs_shell`.
+///
+/// # Errors
+///
+/// As those of `not_utf8`.
+pub fn shell_not_utf8(alloc: Global) -> Error {
+    fault_of_text(shell_command(alloc))
+}
+
+/// The fault of a command whose words are no text.
+fn fault_of_text(command: Result<Command<'_>, AllocError>) -> Error {
+    match command {
+        Ok(mut command) => wrong_value(&mut command, "the arguments must be UTF-8"),
+        Err(error) => Error::from(error),
+    }
+}
+
+/// The error of a value that is refused, or want of memory.
+fn wrong_value(command: &mut Command<'_>, message: &str) -> Error {
+    match command.error(ErrorKind::ValueValidation, message) {
+        Ok(error) => error,
+        Err(error) => Error::from(error),
+    }
+}
+
+/// The parameters that the matches ask for, with this option for the journal, or what is told of the first that is refused.
+fn params_in(matches: &ArgMatches<'_>, journal: &NumberOption) -> Result<Params, &'static str>
+    requires default { IsBetween journal.now.least journal.now.most journal.now.default }
+    requires from_one { 1 ≤ journal.now.least }
+    ensures { IfOk result (IsInRange journal.now.most) }
+{
+    let segments = number(matches, &SEGMENTS)?;
+    let inodes = number(matches, &INODES)?;
+    let frames = number(matches, &FRAMES)?;
+    let journal = number(matches, journal)?;
+    Ok(Params {
+        segments,
+        inodes,
+        frames,
+        journal,
+    })
+}
+
+/// The number that the matches ask for by an option, its default where it is not given, or what is told where it is refused:
+/// it begins with a sign. The parser has read it as a number in its range, which no clause of its says.
+fn number(matches: &ArgMatches<'_>, option: &NumberOption) -> Result<u32, &'static str>
+    requires { IsBetween option.now.least option.now.most option.now.default }
+    ensures { IfOk result (IsBetween option.now.least option.now.most) }
+{
+    if has_sign(matches, option.name) {
+        return Err(option.refusal);
+    }
+    match matches.get_one::<u32>(option.name) {
+        None => Ok(option.default),
+        Some(number) if option.least <= number && number <= option.most => Ok(number),
+        Some(_) => Err(option.refusal),
+    }
+}
+
+/// Whether the value of an argument begins with a sign.
+fn has_sign(matches: &ArgMatches<'_>, name: &str) -> bool {
+    match matches.get_str(name) {
+        Some(text) => text.starts_with('+'),
+        None => false,
+    }
+}
+
+/// The options of `lfsd`.
+fn command<'a>(alloc: Global) -> Result<Command<'a>, AllocError> {
+    Command::new(alloc, "lfsd")
+        .about(
+            "Runs a script of calls, read from standard input, on a volume in memory and prints the answers and a report",
+        )
+        .after_help(MORE)
+        .arg(threads(alloc))?
+        .arg(SEGMENTS.arg(alloc))?
+        .arg(INODES.arg(alloc))?
+        .arg(FRAMES.arg(alloc))?
+        .arg(JOURNAL.arg(alloc))
+}
+
+/// The options of `lfs_shell`.
+fn shell_command<'a>(alloc: Global) -> Result<Command<'a>, AllocError> {
+    Command::new(alloc, "lfs_shell")
+        .about(
+            "Answers calls on a volume in memory, each line of standard input before the next is read",
+        )
+        .after_help(SHELL_MORE)
+        .arg(SEGMENTS.arg(alloc))?
+        .arg(INODES.arg(alloc))?
+        .arg(FRAMES.arg(alloc))?
+        .arg(SHELL_JOURNAL.arg(alloc))?
+        .arg(film(alloc))
+}
+
+/// The option for a film.
+fn film<'a>(alloc: Global) -> Arg<'a> {
+    Arg::new(alloc, FILM)
+        .long(FILM)
+        .value_name("FILE")
+        .action(ArgAction::Set)
+        .help(
+            "Writes a film of the log to FILE at the end: a page of HTML with a frame for each line that changed it",
+        )
+}
+
+/// The option for threads.
+fn threads<'a>(alloc: Global) -> Arg<'a> {
+    Arg::new(alloc, "threads")
+        .long("threads")
+        .action(ArgAction::SetTrue)
+        .help(
+            "Runs session 0 first, and then each session on a thread of its own, with the cleaner beside them",
+        )
+}
+
+impl NumberOption {
+    /// The option for the command line.
+    fn arg<'a>(self, alloc: Global) -> Arg<'a> {
+        Arg::new(alloc, self.name)
+            .long(self.name)
+            .value_name("N")
+            .value_parser(ValueParser::Unsigned(u64::from(self.least), u64::from(self.most)))
+            .help(self.help)
+    }
+}
