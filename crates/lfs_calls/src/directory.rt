@@ -14,8 +14,8 @@ ghost use Rattle.lfs_calls.specs.Makes.{CanEnter, IsRoom, StandsIn, with_block};
 ghost use Rattle.lfs_calls.specs.Removes.{IsTaking, ListsName};
 
 use crate::tree::Tree;
-use lfs_known::Hint;
 use lfs_dirs::{added, entries, find, removed};
+use lfs_known::Hint;
 use lfs_types::block::{BLOCK_SIZE, Block};
 use lfs_types::limits::FILE_BYTES;
 use lfs_types::name::{BadName, NAME_MAX, Name};

@@ -498,11 +498,7 @@ fn which_messages_have_a_reply(rt: HostRuntime) {
         Message::Unserved(Unserved::NotifyReply).has_reply(),
         false,
     );
-    expect_eq(
-        &rt,
-        Message::Unserved(Unserved::Getxattr).has_reply(),
-        true,
-    );
+    expect_eq(&rt, Message::Unserved(Unserved::Getxattr).has_reply(), true);
     expect_eq(&rt, Message::Statfs.has_reply(), true);
     expect_eq(&rt, Message::Unknown(52).has_reply(), true);
 }
