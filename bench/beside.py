@@ -1,0 +1,100 @@
+#!/usr/bin/env python3
+"""Sets the built program beside two others that keep to no contract, and prints how many times as fast it is.
+
+beside.py PROGRAM [--runs N] [--calls N] [--write] [WORKLOAD ..] builds `calls.c` (a script's lines by system calls on a
+tmpfs, no journal) with gcc and `plain.rs` (hash tables, search, read and write permission alone, a journal) with rustc,
+both with optimisation, and runs the scripts of `workload.awk` on PROGRAM, a built `lfsd`, and on these two, by turns. A
+time is the processor's, user and system, the least of N runs, with that of the script without the timed calls taken
+away. Needs root, for the callers of the first. With --write the table goes to docs/speed/beside.csv, with the processor,
+the kernel and the commit.
+"""
+import argparse
+import os
+import platform
+import subprocess
+import sys
+import tempfile
+from pathlib import Path
+
+BENCH = Path(__file__).resolve().parent
+TABLE = BENCH.parent / "docs" / "speed" / "beside.csv"
+# a script of lfsd has at most 1,048,576 bytes
+MOST = {"write-4k": 100, "read-hot": 1000}
+NAMES = {"create-unlink": 240, "rename": 240}
+OPTIONS = ["--segments", "1024", "--inodes", "512", "--journal", "100000"]
+LOADS = "stat-deep read-hot write-4k write-small create-unlink rename list-large deny mixed".split()
+HEAD = ("Workload,names,lfsd ns a call,system calls on a tmpfs,plain Rust,"
+        "times as fast as system calls,times as fast as plain Rust")
+SECONDS = 120
+
+
+def script_of(load, names, calls, to):
+    words = ["awk", "-v", f"load={load}", "-v", f"names={names}", "-v", f"calls={calls}", "-f", BENCH / "workload.awk"]
+    with open(to, "wb") as out:
+        subprocess.run(words, stdout=out, check=True, timeout=SECONDS)
+    return to
+
+
+def seconds_of(words, script, folder):
+    """The processor's seconds of a run on a script, in an empty folder on a tmpfs."""
+    with tempfile.TemporaryDirectory(dir=folder) as room, open(script, "rb") as lines:
+        os.chmod(room, 0o755)
+        child = subprocess.Popen(words, stdin=lines, stdout=subprocess.DEVNULL, cwd=room)
+        _, status, used = os.wait4(child.pid, 0)
+        child.returncode = status
+        if status:
+            sys.exit(f"beside: {words[0]} ended with status {status} on {script}")
+        return used.ru_utime + used.ru_stime
+
+
+def least(programs, script, runs, folder):
+    """The least time of each program on a script, the programs by turns."""
+    found = {name: [] for name in programs}
+    for _ in range(runs):
+        for name, words in programs.items():
+            found[name].append(seconds_of(words, script, folder))
+    return {name: min(times) for name, times in found.items()}
+
+
+def measured(load, programs, asked, folder):
+    calls, names = min(asked.calls, MOST.get(load, asked.calls)), NAMES.get(load, 15)
+    whole = least(programs, script_of(load, names, calls, folder / "whole"), asked.runs, folder)
+    start = least(programs, script_of(load, names, 0, folder / "start"), asked.runs, folder)
+    return [load, names, *[max(1, round(1e9 * (whole[name] - start[name]) / calls)) for name in programs]]
+
+
+def built(folder):
+    subprocess.run(["gcc", "-O2", "-o", folder / "calls", BENCH / "calls.c"], check=True)
+    subprocess.run(["rustc", "-O", "--edition", "2024", "-o", folder / "plain", BENCH / "plain.rs"], check=True)
+
+
+def machine():
+    model = next((line.split(":")[1].strip() for line in open("/proc/cpuinfo") if line.startswith("model name")), "unknown")
+    commit = subprocess.run(["git", "-C", BENCH, "rev-parse", "--short", "HEAD"], capture_output=True, text=True).stdout.strip()
+    return f"# {model}; Linux {platform.release()}; commit {commit}"
+
+
+def main():
+    parser = argparse.ArgumentParser(description=__doc__.split("\n")[0])
+    parser.add_argument("program")
+    parser.add_argument("loads", nargs="*", metavar="WORKLOAD", help=" ".join(LOADS))
+    parser.add_argument("--runs", type=int, default=11)
+    parser.add_argument("--calls", type=int, default=10000)
+    parser.add_argument("--write", action="store_true")
+    asked = parser.parse_args()
+    with tempfile.TemporaryDirectory(dir="/dev/shm") as room:
+        folder = Path(room)
+        os.chmod(folder, 0o755)
+        built(folder)
+        programs = {"lfsd": [os.path.abspath(asked.program), *OPTIONS], "calls": [folder / "calls"], "plain": [folder / "plain"]}
+        rows = [measured(load, programs, asked, folder) for load in asked.loads or LOADS]
+    lines = [f"{load},{names},{own},{calls},{plain},{calls / own:.2f},{plain / own:.2f}"
+             for load, names, own, calls, plain in rows]
+    text = "\n".join([machine(), HEAD, *lines]) + "\n"
+    print(text, end="")
+    if asked.write:
+        TABLE.write_text(text, encoding="utf-8")
+
+
+if __name__ == "__main__":
+    main()
