@@ -5,7 +5,8 @@ A name between backticks that looks like a crate, a file, an item, a clause, a w
 in the repository; where the text says of which crate it is, in that crate. The crates of crates.txt, README's table and
 the map of docs/ARCHITECTURE.md must be the same, and a crate must lead to what it uses. Each wrong body must be named
 and replace a text that stands once, and each one that is named be there. Links must lead somewhere, no line may name a place of one machine, the tables of
-docs/TRUST.md must be those that scripts/reading-list.py makes, and README.md with docs/*.md stays under 160 KiB.
+docs/TRUST.md must be those that scripts/reading-list.py makes, the tutorial shows its scripts as the gate runs them, and
+README.md with docs/*.md stays under 160 KiB.
 
 Prints FILE:LINE: WHAT for each problem and ends with status 1, else one line.
 """
@@ -24,6 +25,8 @@ WORD = re.compile(r"[A-Za-z_]\w*")
 FILE = re.compile(r"[\w./*-]+\.(?:rt|antt|md|py|sh|edit|lfs|out|txt|csv)")
 ITEM = re.compile(r"[A-Za-z_]\w*(?:(?:::|\.)[A-Za-z_]\w*)*")
 HYPHENED = re.compile(r"[a-z0-9]+(?:-[a-z0-9]+)+")
+# a line of a script in the tutorial, and its answer
+SHOWN = re.compile(r"    (\S.*?)(?: {2,}(0 .*))?$")
 # a place of one machine, which nobody else has
 PLACE = re.compile(r"(?<![\w.])/(?:work|opt|tmp|root|usr|Users)/")
 # what belongs to the toolchain, Rust or the field, and stands in no file of ours
@@ -293,6 +296,23 @@ def check_crates(told):
             told(TOP / "docs/ARCHITECTURE.md", 1, f"no way in the map from {crate} to {below}, which it uses")
 
 
+def check_tutorial(told):
+    """Each script of the tutorial stands on its page, line by line, with what the gate sees it print beside."""
+    page = TOP / "docs/TUTORIAL.md"
+    shown = [SHOWN.match(line) for line in page.read_text(encoding="utf-8").splitlines()]
+    shown = [(found[1], found[2]) for found in shown if found]
+    for script in sorted((TOP / "crates/lfs_script_tests/data").glob("tutorial-*.lfs")):
+        lines = script.read_text(encoding="utf-8").splitlines()
+        answers = script.with_suffix(".out").read_text(encoding="utf-8").splitlines()
+        at = next((at for at in range(len(shown)) if [line for line, _ in shown[at:at + len(lines)]] == lines), None)
+        if at is None:
+            told(page, 1, f"the lines of {script.name} don't stand here as they are there")
+            continue
+        beside = [answer for _, answer in shown[at:at + len(lines)] if answer]
+        if beside != [line for line in answers if line.startswith("0 ")]:
+            told(page, 1, f"beside the lines of {script.name} stand other answers than in {script.stem}.out")
+
+
 def main():
     problems = []
 
@@ -303,6 +323,7 @@ def main():
         check_page(path, told)
     check_edits(told)
     check_crates(told)
+    check_tutorial(told)
     size = sum(path.stat().st_size for path in [TOP / "README.md", *(TOP / "docs").glob("*.md")])
     if size >= MOST_BYTES:
         told(TOP / "README.md", 1, f"README.md and docs/*.md have {size} bytes, and may have {MOST_BYTES}")
