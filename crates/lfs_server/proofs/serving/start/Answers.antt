@@ -1,5 +1,5 @@
 use mathlib.Core.List.{List}
-use mir.Syntax.{Sym, named}
+use mir.Syntax.{named}
 use denote.RattleType.{RattleType}
 use denote.Exit.{no}
 use denote.Ref.{NamedLft}
