@@ -8,4 +8,5 @@ pub mod threads;
 
 pub use lfs_io::tell;
 pub use lfs_print::{print, report};
+pub use lfs_script::fault::ScriptFault;
 pub use lfs_script::{plan, script, split};

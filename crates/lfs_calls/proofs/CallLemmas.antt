@@ -7,6 +7,7 @@ use Rattle.lfs_types.specs.Stored.{MayRefuse}
 use Rattle.lfs_types.specs.Tree.{Content, World}
 use Rattle.lfs_types.specs.declared.answer.Answer.TheVariants as answers
 use Rattle.lfs_types.specs.declared.answer.Resource.{Resource}
+use Rattle.lfs_types.specs.declared.answer.Resource.TheVariants as resources
 use Rattle.lfs_types.specs.declared.answer.Served.{Served}
 use Rattle.lfs_types.specs.declared.answer.Served.TheVariants.{Done}
 use Rattle.lfs_types.specs.declared.level.Level.{Level}
@@ -19,7 +20,7 @@ use Rattle.lfs_model.specs.Effects.{answer_of, effect}
 use Rattle.lfs_model.specs.Rules.{decide}
 use Rattle.lfs_model.specs.Steps.{IsChanging, LacksInodes}
 use Rattle.lfs_calls.specs.declared.not_served.NotServed.TheVariants.{Denied, Refused}
-use Rattle.lfs_calls.specs.Calls.{ChangesTo, IsCallAt, LooksOn, resource_of}
+use Rattle.lfs_calls.specs.Calls.{ChangesTo, IsCallAt, LooksOn, OnUnasked, resource_of}
 use Rattle.lfs_calls.specs.Content.{Shows}
 use Rattle.lfs_calls.specs.Entries.{LeavesEntries}
 use Rattle.lfs_calls.specs.Outcomes.{FillsDirectory, IsOutcome}
@@ -37,7 +38,7 @@ pub still : {s new : StoreState} {w : World} → new ≡ s → IsVolume s w → 
 still {w = w} same v = subst (λ (x : StoreState). IsVolume x w) (sym same) v
 
 -- where nothing changed, a call that looks changed nothing
-looks_same : {old new : StoreState} (request : Request) → new ≡ old → LooksOn request old new
+pub looks_same : {old new : StoreState} (request : Request) → new ≡ old → LooksOn request old new
 looks_same (Stat path) same = same
 looks_same (Read path off len) same = same
 looks_same (Names path) same = same
@@ -72,6 +73,19 @@ looks_kept old new (Chflags path flags) changing same = tt
 looks_kept old new (SetLevel level) changing same = absurd changing
 looks_kept old new Sync changing same = same
 
+-- what holds, holds where no store was asked for changes
+unasked_so : {P : Type 0} (resource : Resource) → P → OnUnasked (answers.Refused resource) P
+unasked_so resources.NoMemory p = tt
+unasked_so resources.NoSpace p = tt
+unasked_so resources.NoInodes p = p
+unasked_so resources.DirectoryFull p = p
+unasked_so resources.JournalFull p = p
+
+-- where a store refused changes, one was asked
+was_asked : (P : Type 0) (refusal : StoreRefusal) → OnUnasked (answers.Refused (resource_of refusal)) P
+was_asked P NoSpace = tt
+was_asked P NoMemory = tt
+
 module _ (level : Level) {s : StoreState} {caller : Caller} {request : Request} where
   -- a call that a rule denies
   pub denied : {new : StoreState} → new ≡ s → (denial : Denial) → InWorld s (λ w. w.level ≡ level → decide w caller request ≡ Some denial)
@@ -82,6 +96,7 @@ module _ (level : Level) {s : StoreState} {caller : Caller} {request : Request} 
     entries = tt;
     halted = same_content same;
     looks = looks_same request same;
+    unasked = same;
     listed = λ h. absurd h;
     follows = follows_itself same;
   }
@@ -95,6 +110,7 @@ module _ (level : Level) {s : StoreState} {caller : Caller} {request : Request} 
     entries = tt;
     halted = same_content same;
     looks = looks_same request same;
+    unasked = unasked_so resource same;
     listed = λ h. absurd h;
     follows = follows_itself same;
   }
@@ -116,6 +132,7 @@ module _ (level : Level) {s : StoreState} {caller : Caller} {request : Request} 
         entries = tt;
         halted = kept;
         looks = looks_kept s new request changing kept;
+        unasked = was_asked (new ≡ s) refusal;
         listed = λ h. absurd h;
         follows = follows_same same change.follows;
       }
@@ -139,6 +156,7 @@ module _ (level : Level) {s : StoreState} {caller : Caller} {request : Request} 
     entries = λ w v. subst (λ (c : Content). LeavesEntries request s.content c w.rows) (sym (same_content same)) (entries w);
     halted = tt;
     looks = looks_same request same;
+    unasked = tt;
     listed = λ h. same_content same;
     follows = follows_itself same;
   }
@@ -154,6 +172,7 @@ module _ (level : Level) {s : StoreState} {caller : Caller} {request : Request} 
     entries = entries;
     halted = tt;
     looks = looks;
+    unasked = tt;
     listed = λ h. absurd h;
     follows = follows_same same follows;
   }

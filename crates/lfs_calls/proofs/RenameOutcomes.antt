@@ -24,7 +24,7 @@ use Rattle.lfs_model.proofs.EffectTree.{childless, effect_tree}
 use Rattle.lfs_types.specs.Stored.{MayRefuse}
 use Rattle.lfs_types.specs.declared.store.StoreRefusal.{StoreRefusal}
 use Rattle.lfs_types.specs.declared.store.StoreRefusal.TheVariants.{NoSpace, NoMemory}
-use Rattle.lfs_calls.specs.Calls.{answered, resource_of}
+use Rattle.lfs_calls.specs.Calls.{OnUnasked, answered, resource_of}
 use Rattle.lfs_calls.specs.Content.{Shows}
 use Rattle.lfs_calls.specs.Removes.{IsChildless}
 use Rattle.lfs_calls.specs.Entries.{OnServed}
@@ -41,12 +41,26 @@ pub refused_for : (s : StoreState) (full : Type 0) (refusal : StoreRefusal) → 
 refused_for s full NoSpace may room = (may, room)
 refused_for s full NoMemory may room = (may, room)
 
+-- a store doesn't refuse for want of room for a name
+pub not_roomless : {A : Type 0} (refusal : StoreRefusal) → reasons.Refused (resource_of refusal) ≡ reasons.Refused resources.DirectoryFull → A
+not_roomless NoSpace h = absurd (cc)
+not_roomless NoMemory h = absurd (cc)
+
+-- what holds where there is no room for a name holds where no store was asked
+unasked_by : {P : Type 0} (s : StoreState) (full : Type 0) (why : NotServed) → IsCauseOf s full why → (why ≡ reasons.Refused resources.DirectoryFull → P) → OnUnasked (answered (Err why)) P
+unasked_by s full (reasons.Denied denial) cause p = absurd cause
+unasked_by s full (reasons.Refused resources.NoMemory) cause p = tt
+unasked_by s full (reasons.Refused resources.NoSpace) cause p = tt
+unasked_by s full (reasons.Refused resources.NoInodes) cause p = absurd cause
+unasked_by s full (reasons.Refused resources.DirectoryFull) cause p = p refl
+unasked_by s full (reasons.Refused resources.JournalFull) cause p = absurd cause
+
 -- nothing changed, for that a row had its place or found none
 pub placed_none : (s : StoreState) (move : Move) (old new : List ℕ) (t : Target) (why : NotServed) (after : StoreState) → PlacesRow s move old new t (Err why) after
-    → (after.content ≡ s.content) × Follows s after
+    → (after.content ≡ s.content) × OnUnasked (answered (Err why)) (after ≡ s) × Follows s after
 placed_none s move old new targets.Itself why after h = let no = h.0 in absurd (cc)
-placed_none s move old new targets.Free why after h = (h.err, h.follows)
-placed_none s move old new (targets.Taken there) why after h = (h.err, h.follows)
+placed_none s move old new targets.Free why after h = (h.err, unasked_by s (HasNoRoom s.content move old new) why h.refused h.roomless, h.follows)
+placed_none s move old new (targets.Taken there) why after h = (h.err, unasked_by s ⊥ why h.refused h.roomless, h.follows)
 
 -- such a call leaves the tree as it was
 pub halted_volume : (s : StoreState) {w : World} → IsVolume s w → (caller : Caller) (request : Request) (why : NotServed) (after : StoreState) → after.content ≡ s.content

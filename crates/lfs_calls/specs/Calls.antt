@@ -49,15 +49,28 @@ LooksOn (SetLevel level) old new = new ≡ old
 LooksOn Sync old new = new.content ≡ old.content
 LooksOn request old new = Unit {0}
 
+-- P, where an answer comes without asking a store for changes: a rule denies the call, or it wants a number, room for a
+-- name or the journal's room; not where it is served, nor where space or memory is wanting
+abbrev pub OnUnasked : Answer → Type 0 → Type 0
+OnUnasked (answers.Served shown) P = Unit {0}
+OnUnasked (answers.Denied denial) P = P
+OnUnasked (answers.Refused resources.NoMemory) P = Unit {0}
+OnUnasked (answers.Refused resources.NoSpace) P = Unit {0}
+OnUnasked (answers.Refused resources.NoInodes) P = P
+OnUnasked (answers.Refused resources.DirectoryFull) P = P
+OnUnasked (answers.Refused resources.JournalFull) P = P
+
 -- A caller made a call of a store at this securelevel, and it came to this: the answer has its cause, the store shows
--- the world that the answer leaves, a served call leaves the entries of directories in their places, a call that halts,
--- looks or lists changes nothing, and no more segments are clean.
+-- the world that the answer leaves, a served call leaves the entries of directories in their places, a call that halts
+-- or lists changes no content, one that looks, that a rule denies or that wants a number or room for a name leaves the
+-- whole state as it was, and no more segments are clean.
 pub record IsCallAt (level : Level) (old new : StoreState) (caller : Caller) (request : Request) (result : Result Served NotServed) : Type 0 where
   pub outcome : InWorld old (λ w. w.level ≡ level → IsOutcome old w caller request (answered result))
   pub leaves : InWorld old (λ w. IsVolume new (after_answer old.shape.numbers w caller request (answered result)))
   pub entries : OnServed (answered result) (InWorld old (λ w. LeavesEntries request old.content new.content w.rows))
   pub halted : OnErr result (new.content ≡ old.content)
   pub looks : LooksOn request old new
+  pub unasked : OnUnasked (answered result) (new ≡ old)
   pub listed : ServesList (answered result) → new.content ≡ old.content
   pub follows : Follows old new
 

@@ -158,11 +158,13 @@ IsCauseOf old full (reasons.Refused resources.NoSpace) = MayRefuse old.clean old
 IsCauseOf old full (reasons.Refused resources.NoMemory) = MayRefuse old.clean old.shape.can_lack_memory NoMemory × (full → ⊥)
 IsCauseOf old full (reasons.Refused resource) = ⊥
 
--- a row was put in a place, so that P holds of the content, or nothing changed, which has its cause
+-- a row was put in a place, so that P holds of the content, or no content changed, which has its cause; where its name
+-- has no room the state is as it was
 pub record PutsRow (old : StoreState) (full : Type 0) (P : Content → Type 0) (result : Result (Unit {0}) NotServed) (after : StoreState) : Type 0 where
   pub ok : OnOk result (P after.content)
   pub err : OnErr result (after.content ≡ old.content)
   pub refused : IfErr result (IsCauseOf old full)
+  pub roomless : IfErr result (λ why. why ≡ reasons.Refused resources.DirectoryFull → after ≡ old)
   pub follows : Follows old after
 
 -- the new name fits nowhere in the directory to which a row goes, once the old one is taken away

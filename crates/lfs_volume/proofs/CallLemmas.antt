@@ -13,6 +13,7 @@ use Rattle.lfs_model.specs.declared.journal.Call.{Call}
 use Rattle.lfs_model.specs.declared.journal.Entry.{Entry}
 use Rattle.lfs_model.specs.Runs.{IsUnserved, kept, kept_entry}
 use Rattle.lfs_model.specs.Steps.{world_after}
+use Rattle.lfs_calls.specs.Calls.{LooksOn, OnUnasked}
 use Rattle.lfs_calls.specs.Entries.{LeavesEntries, OnServed}
 use Rattle.lfs_calls.specs.Outcomes.{IsOutcome}
 use Rattle.lfs_calls.specs.Volumes.{IsVolume}
@@ -28,16 +29,20 @@ pub call_made : {F : Type 0} (state : F → StoreState) (is_settled : F → Type
     → (length old.journal < old.limit → IsOutcome (state old.store) (world_after (state old.store).shape.numbers old.journal from) caller request answer)
     → OnServed answer (LeavesEntries request (state old.store).content (state new.store).content (world_after (state old.store).shape.numbers old.journal from).rows)
     → (IsUnserved answer → Stays (state old.store) (state new.store) old.level new.level)
+    → LooksOn request (state old.store) (state new.store)
+    → OnUnasked answer (state new.store ≡ state old.store)
     → (request ≡ Sync → answer ≡ Served Done → is_settled new.store)
     → Follows (state old.store) (state new.store)
     → IsCallMade state is_settled old.limit from old.journal old.store caller request answer new.store
-call_made {F} state is_settled from old new caller request answer full at_limit shown outcome entries unserved synced follows = record {
+call_made {F} state is_settled from old new caller request answer full at_limit shown outcome entries unserved looks unasked synced follows = record {
   full = full;
   at_limit = λ h. ap (λ (v : Seen F). v.store) (at_limit h);
   shown = shown;
   outcome = outcome;
   entries = entries;
   unserved = λ h. (unserved h).content;
+  looks = looks;
+  unasked = unasked;
   synced = synced;
   follows = follows;
 }

@@ -194,6 +194,8 @@ IsAnswered-copy old new level level_after caller request answer a list =
       entries = tt;
       unserved = λ h. stays;
       listed = λ h. absurd h;
+      looks = a.looks;
+      unasked = tt;
       follows = a.follows;
     }
 
@@ -272,6 +274,8 @@ of_call old new level left caller request result answer has call is sets =
       entries = call.entries;
       unserved = λ h. record { content = unserved_content result call.halted h; at_level = sets ∙ ap (level_left level request) is ∙ unserved_level level request (answered result) h };
       listed = λ h. record { content = call.listed h; at_level = sets ∙ ap (level_left level request) is ∙ listed_level old here caller level request (answered result) (call.outcome here shown refl) h };
+      looks = call.looks;
+      unasked = call.unasked;
       follows = call.follows;
     })
 

@@ -13,6 +13,7 @@ use Rattle.lfs_model.specs.declared.journal.Entry.{Entry}
 use Rattle.lfs_model.specs.declared.journal.Event.{Event}
 use Rattle.lfs_model.specs.Runs.{IsNoSpace, IsShort, IsUnserved, cleans}
 use Rattle.lfs_model.specs.Steps.{IsEvent, IsLegal, after_answer, after_event, world_after}
+use Rattle.lfs_calls.specs.Calls.{LooksOn, OnUnasked}
 use Rattle.lfs_calls.specs.Entries.{LeavesEntries, OnServed}
 use Rattle.lfs_calls.specs.Outcomes.{IsOutcome}
 use Rattle.lfs_calls.specs.Volumes.{InWorld, IsVolume}
@@ -80,7 +81,8 @@ level_left level request (Refused resource) = level
 
 -- A user's call was answered so over a store and a level: the answer has its cause, store and level show the world that
 -- it leaves, a served call leaves the entries of directories in their places, a call that isn't served or lists changes
--- nothing, and no more segments are clean.
+-- neither content nor level, one that looks or asks the store for no changes leaves the whole state as it was, and no more
+-- segments are clean.
 pub record IsAnswered (old new : StoreState) (level level_after : Level) (caller : Caller) (request : Request) (answer : Answer) : Type 0 where
   pub outcome : InWorld old (λ w. w.level ≡ level → IsOutcome old w caller request answer)
   pub leaves : InWorld old (λ w. IsVolume new (after_answer old.shape.numbers w caller request answer))
@@ -88,4 +90,6 @@ pub record IsAnswered (old new : StoreState) (level level_after : Level) (caller
   pub entries : OnServed answer (InWorld old (λ w. LeavesEntries request old.content new.content w.rows))
   pub unserved : IsUnserved answer → Stays old new level level_after
   pub listed : ServesList answer → Stays old new level level_after
+  pub looks : LooksOn request old new
+  pub unasked : OnUnasked answer (new ≡ old)
   pub follows : Follows old new

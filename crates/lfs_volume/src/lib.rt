@@ -6,3 +6,4 @@ pub mod volume;
 
 pub use lfs_flatfiles::flat_files;
 pub use lfs_model::{counts, journal, steps};
+pub use lfs_types::cleaner::CleanerCall;

@@ -9,6 +9,7 @@ ghost use Rattle.lfs_model.specs.Counts.{counts_of};
 ghost use Rattle.lfs_model.specs.Rules.{rule_table};
 ghost use Rattle.lfs_model.specs.Runs.{IsUnserved, kept, kept_cleaning, kept_entry, kept_step, kept_steps};
 ghost use Rattle.lfs_model.specs.Steps.{world_after};
+ghost use Rattle.lfs_calls.specs.Calls.{LooksOn, OnUnasked};
 ghost use Rattle.lfs_calls.specs.Content.{Shows};
 ghost use Rattle.lfs_calls.specs.Entries.{LeavesEntries, OnServed};
 ghost use Rattle.lfs_calls.specs.Outcomes.{IsOutcome};
@@ -131,7 +132,8 @@ impl<F: FileStore + Drop> Volume<F> {
     }
 
     /// Makes a user's call: judges it by the rules on the tree that the journal leads to, does it, and enters it. A served
-    /// call leaves the entries of directories in their places, and a Sync nothing waiting in the store.
+    /// call leaves the entries of directories in their places, and a Sync nothing waiting in the store. A call that looks,
+    /// that a rule denies, or that wants a number or room for a name leaves the store's state as it was.
     pub fn call(&mut self, session: u8, cred: &Cred, request: Request) -> Answer
         ensures full { (result ≡ Answer.Refused Resource.JournalFull)
             ↔ (length self.old.journal ≡ self.old.limit) }
@@ -148,6 +150,8 @@ impl<F: FileStore + Drop> Volume<F> {
         ensures unserved { IsUnserved result
             → Stays (F.state self.old.store) (F.state self.new.store)
             self.old.level self.new.level }
+        ensures looks { LooksOn request (F.state self.old.store) (F.state self.new.store) }
+        ensures unasked { OnUnasked result (F.state self.new.store ≡ F.state self.old.store) }
         ensures synced { request ≡ Request.Sync → result ≡ Answer.Served Served.Done
             → F.is_settled self.new.store }
         ensures since { self.new.since ≡ self.old.since }
@@ -178,6 +182,8 @@ impl<F: FileStore + Drop> Volume<F> {
         ensures unserved { IsUnserved result
             → Stays (F.state self.old.store) (F.state self.new.store)
             self.old.level self.new.level }
+        ensures looks { LooksOn request (F.state self.old.store) (F.state self.new.store) }
+        ensures unasked { OnUnasked result (F.state self.new.store ≡ F.state self.old.store) }
         ensures synced { request ≡ Request.Sync → result ≡ Answer.Served Served.Done
             → F.is_settled self.new.store }
         ensures since { self.new.since ≡ self.old.since }

@@ -8,7 +8,7 @@ use Rattle.lfs_calls.specs.Renames.{HasNoRoom, MovesTo, PutsRow, WritesBlocks}
 use Rattle.lfs_calls.proofs.MovedNames.{moves_free}
 use Rattle.lfs_calls.proofs.PlacedBlocks.{new_block, old_block}
 use Rattle.lfs_calls.proofs.MovedPlaces.{somewhere}
-use Rattle.lfs_calls.proofs.RenameOutcomes.{refused_for}
+use Rattle.lfs_calls.proofs.RenameOutcomes.{not_roomless, refused_for}
 use Rattle.lfs_calls.proofs.StateLemmas.{follows_same, same_content}
 use Rattle.lfs_calls.proofs.renaming.move_free.Goals as goal
 
@@ -48,5 +48,6 @@ returns-in_err-put_blocks g c =
       refused = refused_for s full c.in_err-put_blocks.field-0.0
           (subst (λ (x : StoreState). MayRefuse x.clean x.shape.can_lack_memory c.in_err-put_blocks.field-0.0) c.find_places.ensures.state c.in_err-put_blocks.ensures.refused)
           (somewhere t.1.0.shows t.1.0.tree t.1.1.leaves c.in-Some.ensures.places.taking.1 c.in-Some.ensures.places.room.1);
+      roomless = λ h. not_roomless c.in_err-put_blocks.field-0.0 h;
       follows = follows_same c.find_places.ensures.state c.in_err-put_blocks.ensures.follows;
     })

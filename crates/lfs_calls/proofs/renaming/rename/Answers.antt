@@ -101,8 +101,9 @@ returns-in_err-place_row-clause-call g c level =
       entries = nothing_served _ c.in_err-place_row.field-0.0;
       halted = none.0;
       looks = tt;
+      unasked = none.1;
       listed = λ h. absurd (not_listed c.in_err-place_row.field-0.0 h);
-      follows = none.1;
+      follows = none.2;
     } in
     subst (λ r. IsCallAt level (before g k) after c.args.cred.now (Rename c.args.from.now c.args.to.now) r) (sym (p.1 ∙ ap Err p.2)) call
 

@@ -1,4 +1,5 @@
-use Rattle.std.proofs.Common.{rules, ◌-◌, ◌^◌, ◌<◌, length, subst, arith}
+use Rattle.std.proofs.Common.{rules, refl, ◌-◌, ◌^◌, ◌<◌, length, subst, arith}
+use Rattle.lfs_calls.proofs.CallLemmas.{looks_same}
 use Rattle.lfs_volume.proofs.volume.Volume.call.Goals as goal
 
 -- the limit fits 32 bits
@@ -35,6 +36,12 @@ returns-then-len-self-clause-entries g c = search rules
 pub returns-then-len-self-clause-unserved : goal.returns-then-len-self-clause-unserved
 returns-then-len-self-clause-unserved g c = search rules
 
+pub returns-then-len-self-clause-looks : goal.returns-then-len-self-clause-looks
+returns-then-len-self-clause-looks g c = looks_same c.args.request refl
+
+pub returns-then-len-self-clause-unasked : goal.returns-then-len-self-clause-unasked
+returns-then-len-self-clause-unasked g c = refl
+
 pub returns-then-len-self-clause-synced : goal.returns-then-len-self-clause-synced
 returns-then-len-self-clause-synced g c = search rules
 
@@ -67,6 +74,12 @@ returns-clause-entries g c = search rules
 
 pub returns-clause-unserved : goal.returns-clause-unserved
 returns-clause-unserved g c = search rules
+
+pub returns-clause-looks : goal.returns-clause-looks
+returns-clause-looks g c = search rules
+
+pub returns-clause-unasked : goal.returns-clause-unasked
+returns-clause-unasked g c = search rules
 
 pub returns-clause-synced : goal.returns-clause-synced
 returns-clause-synced g c = search rules

@@ -32,7 +32,7 @@ loop-session-preserved g c =
           (AreAnswers-append state settled opening.limit from opening.journal opening.store before.store next.store c.loop-session.yielded c.loop-session.answers.items one answer (i.each from begins)
           (subst (λ n. IsCallMade state settled n from journal before.store one.cred one.request answer next.store) i.limit
           (subst (λ j. IsCallMade state settled before.limit from j before.store one.cred one.request answer next.store) i.entered
-          (call_made state settled from before next one.cred one.request answer made.full made.at_limit (made.shown from here) (λ room. made.outcome room from here) (made.entries from here) made.unserved made.synced made.follows))));
+          (call_made state settled from before next one.cred one.request answer made.full made.at_limit (made.shown from here) (λ room. made.outcome room from here) (made.entries from here) made.unserved made.looks made.unasked made.synced made.follows))));
       entered = made.entered
           ∙ ap (λ j. j ++ kept_entry one.session one.cred one.request answer) i.entered
           ∙ append_assoc opening.journal (kept c.loop-session.yielded c.loop-session.answers.items) (kept_entry one.session one.cred one.request answer)
