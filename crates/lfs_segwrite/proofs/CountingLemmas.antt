@@ -148,7 +148,7 @@ module _ {K : Type 0} {eq : K → K → Bool} (laws : IsEquivalence eq) (same : 
   unique_has [] q has = has
   unique_has (x ∷ xs) q has = unique_step x q xs (is_member eq xs x) (eq q x) refl refl (unique_has xs q) has
 
-  part_count : (xs ys : List K) → IsDistinct eq xs → ((q : K) → is_member eq xs q ≡ true → Contains ys q) → length xs ≤ distinct_count eq ys
+  pub part_count : (xs ys : List K) → IsDistinct eq xs → ((q : K) → is_member eq xs q ≡ true → Contains ys q) → length xs ≤ distinct_count eq ys
   part_count xs ys once part =
       length-le_from_is_member laws xs (unique_keys eq ys) once (λ q m. unique_has ys q ((is_member-Decides same ys q).1 (part q m)))
 

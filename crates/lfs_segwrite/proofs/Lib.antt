@@ -22,3 +22,5 @@ pub mod AppendedLemmas
 pub mod RecordsLemmas
 pub mod LandedKeyLemmas
 pub mod FlushLemmas
+pub mod InfoLemmas
+pub mod GainLemmas

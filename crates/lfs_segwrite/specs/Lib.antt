@@ -6,3 +6,4 @@ pub mod Room
 pub mod Flushing
 pub mod Recording
 pub mod Applying
+pub mod Gaining

@@ -6,6 +6,7 @@ pub mod applying;
 pub mod collecting;
 mod counting;
 pub mod flushing;
+pub mod gaining;
 pub mod landing;
 pub mod marking;
 pub mod records;

@@ -1,9 +1,10 @@
 //! Blocks that are written again at the log's end, as a cleaner asks.
 
-ghost use Rattle.std.specs.Prelude.{◌≡◌, ◌≢◌, ◌⊎◌, ◌+◌, ◌<◌, ◌≤◌, ◌↔◌, All, Contains, IfOk, IsTrue, OnErr, OnOk, Some, length, true};
+ghost use Rattle.std.specs.Prelude.{◌≡◌, ◌≢◌, ◌⊎◌, ◌+◌, ◌<◌, ◌≤◌, ◌↔◌, All, Contains, IfOk, IsTrue, OnErr, OnOk, Some, false, length, true};
 ghost use Rattle.lfs_ifile.specs.declared.segment.SegState.TheVariants.{Clean};
 ghost use Rattle.lfs_log.specs.Parts.{state_of};
 ghost use Rattle.lfs_segments.specs.Memory.{room_of};
+ghost use Rattle.lfs_segwrite.specs.Gaining.{ExceedsRoom};
 ghost use Rattle.lfs_segwrite.specs.Room.{KeepsFiles};
 ghost use Rattle.lfs_types.specs.declared.cleaner.TheConstants.{MARK_LIMIT};
 ghost use Rattle.lfs_types.specs.declared.limits.TheConstants.{SEGMENT_BLOCKS};
@@ -71,7 +72,11 @@ pub fn mark(parts: &mut Parts, marks: &[BlockInfo]) -> Result<u32, NoRoom>
 /// address is not 0, and is the block's present one. Says how many these are; an info that stands
 /// twice counts once. With care nothing is written where a segment is clean and none could be cleaned
 /// behind it.
-fn mark_settled(parts: &mut Parts, marks: &[BlockInfo], careful: bool) -> Result<u32, NoRoom>
+pub(crate) fn mark_settled(
+    parts: &mut Parts,
+    marks: &[BlockInfo],
+    careful: bool,
+) -> Result<u32, NoRoom>
     requires store { IsStore parts.old }
     requires settled { IsSettled parts.old }
     requires few { length marks.now ≤ MARK_LIMIT }
@@ -85,6 +90,7 @@ fn mark_settled(parts: &mut Parts, marks: &[BlockInfo], careful: bool) -> Result
     ensures refused { OnErr result (parts.new ≡ parts.old) }
     ensures lacking { OnErr result (LacksRoomFor marks.now parts.old) }
     ensures reserved { OnErr result ((careful ≡ true) ⊎ (parts.old.log.clean ≤ 0)) }
+    ensures exceeds { OnErr result (careful ≡ false → ExceedsRoom marks.now parts.old) }
 {
     let named = named(parts, marks);
     let infos = named.items();
@@ -127,6 +133,7 @@ fn make_room_to_mark(parts: &mut Parts, blocks: u32, careful: bool) -> Result<()
     ensures refused { OnErr result (parts.new ≡ parts.old) }
     ensures lacking { OnErr result (LacksRoomToMark blocks parts.old) }
     ensures reserved { OnErr result ((careful ≡ true) ⊎ (parts.old.log.clean ≤ 0)) }
+    ensures short { OnErr result (careful ≡ false → room_of parts.old.log.memory < blocks) }
 {
     if careful && !may_mark(parts, blocks) {
         return Err(NoRoom);
@@ -160,7 +167,7 @@ fn add_named(parts: &Parts, named: &mut MarkList, info: &BlockInfo)
 }
 
 /// Whether an info names a block.
-fn is_named(parts: &Parts, info: &BlockInfo) -> bool
+pub(crate) fn is_named(parts: &Parts, info: &BlockInfo) -> bool
     requires { IsStore parts.now }
     ensures { IsTrue result ↔ IsNamed (log_state parts.now) info.now }
 {
