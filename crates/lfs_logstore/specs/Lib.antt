@@ -1,4 +1,5 @@
 pub mod CleanerCalls
 pub mod Cleaning
+pub mod Gaining
 pub mod Marking
 pub mod States

@@ -30,7 +30,7 @@ impl LogStore {
     }
 
     /// Makes a dirty segment without live bytes clean.
-    fn reclaim(&mut self, segment: u32)
+    pub(crate) fn reclaim(&mut self, segment: u32)
         requires { HasLive self.old segment 0 }
         ensures { IsReclaimed self.old segment self.new }
     {

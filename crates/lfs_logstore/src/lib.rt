@@ -4,8 +4,10 @@
 
 mod cleaning;
 mod files;
+mod gaining;
 mod looking;
 mod store;
 
+pub use gaining::NotGainful;
 pub use lfs_types::cleaner::{BlockInfo, CleanFault, InfoList, MarkList};
 pub use store::LogStore;
