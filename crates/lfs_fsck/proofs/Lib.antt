@@ -1,0 +1,9 @@
+pub mod ReaderLemmas
+pub mod ByteLemmas
+pub mod SettledLemmas
+pub mod SumLemmas
+pub mod KeyLemmas
+pub mod NameLemmas
+pub mod TailLemmas
+pub mod StoreLemmas
+pub mod FaultLemmas

@@ -1,0 +1,4 @@
+pub mod Names
+pub mod Stored
+pub mod Faults
+pub mod Checks
