@@ -88,7 +88,7 @@ used_below rows zero n k low under = absurd (omega (arith, low, under))
 used_below rows (suc count) n k low under = used_step rows n k (least_unused rows count (n + 1)) (map.get rows n) refl low under (used_below rows count (n + 1) k)
 
 -- the number of a new row is the least that is unused
-least_number : (numbers : ℕ) (rows : Rows) → (AllUsed numbers rows → ⊥) → IsLeastUnused numbers rows (least_unused rows numbers 4)
+pub least_number : (numbers : ℕ) (rows : Rows) → (AllUsed numbers rows → ⊥) → IsLeastUnused numbers rows (least_unused rows numbers 4)
 least_number numbers rows room =
     let below = used_below rows numbers 4 in
     record {

@@ -30,7 +30,7 @@ use Rattle.lfs_types.proofs.Pieces.{length-resized}
 use Rattle.lfs_model.proofs.RunLemmas.{only_root, opening_tree, world_after-append}
 
 -- the row that a call makes
-abbrev new_row : ℕ → World → Caller → List (List ℕ) → Kind → ℕ → Row
+abbrev pub new_row : ℕ → World → Caller → List (List ℕ) → Kind → ℕ → Row
 new_row numbers w caller path kind mode =
     let parent = reached w.rows root (front path) in
     record { parent = parent; name = last path; file = new_file caller kind (file_at (map.get w.rows parent)).gid mode }
@@ -94,12 +94,12 @@ module _ (old : List ℕ) (start b : ℕ) (bs : List ℕ) where
 -- ---- a row before a call
 
 -- a row after a file was changed: as it was, or the changed one
-record Was (w : World) (n m : ℕ) (change : File → File) (after : Row) : Type 0 where
-  row : Row
-  there : map.get w.rows n ≡ Some row
-  how : ((n ≢ m) × (row ≡ after)) ⊎ ((n ≡ m) × (record row { file = change row.file } ≡ after))
+pub record Was (w : World) (n m : ℕ) (change : File → File) (after : Row) : Type 0 where
+  pub row : Row
+  pub there : map.get w.rows n ≡ Some row
+  pub how : ((n ≢ m) × (row ≡ after)) ⊎ ((n ≡ m) × (record row { file = change row.file } ≡ after))
 
-was : (w : World) (n m : ℕ) (change : File → File) (after : Row) (o : Option Row) → map.get w.rows m ≡ o → map.get (with_file o m change w).rows n ≡ Some after → Was w n m change after
+pub was : (w : World) (n m : ℕ) (change : File → File) (after : Row) (o : Option Row) → map.get w.rows m ≡ o → map.get (with_file o m change w).rows n ≡ Some after → Was w n m change after
 was w n m change after None e h = record {
   row = after;
   there = h;

@@ -12,6 +12,7 @@ pub mod HiddenLemmas
 pub mod HiddenRuns
 pub mod IdleLemmas
 pub mod KeptLemmas
+pub mod LastSets
 pub mod LawBytes
 pub mod LawFates
 pub mod LawFlags

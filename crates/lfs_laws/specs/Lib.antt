@@ -11,6 +11,7 @@ pub mod LawGone
 pub mod LawHidden
 pub mod LawIdle
 pub mod LawKept
+pub mod LawLastSet
 pub mod LawLeads
 pub mod LawLeadsOn
 pub mod LawLevel
