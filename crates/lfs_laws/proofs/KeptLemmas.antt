@@ -1,5 +1,5 @@
 -- A row that its directory keeps.
-use Rattle.std.proofs.Common.{◌≡◌, ◌≢◌, ◌⊎◌, ℕ, ◌==◌, true, false, List, [], ◌∷◌, Some, inl, refl, sym, ap, subst, ◌∙◌, ⊎_elim, ne_eqb}
+use Rattle.std.proofs.Common.{◌≡◌, ◌≢◌, ℕ, zero, ◌==◌, List, [], ◌∷◌, Some, inl, inr, refl, sym, ap, ◌∙◌, ⊎_elim, ne_eqb}
 use Rattle.std.proofs.lemmas.Bool.{or_from}
 use Rattle.std.specs.Prelude.{IsSomeAnd}
 use Rattle.std.specs.FinMap as map
@@ -15,7 +15,7 @@ use Rattle.lfs_rules.specs.Owners.{is_owner_or_superuser}
 use Rattle.lfs_model.specs.declared.journal.Entry.{Entry}
 use Rattle.lfs_model.specs.declared.journal.Event.{Event}
 use Rattle.lfs_model.specs.declared.journal.Event.TheVariants.{User, Cleaner}
-use Rattle.lfs_model.specs.World.{file_at, IsTree}
+use Rattle.lfs_model.specs.World.{ancestor, file_at, parent_of, IsTree}
 use Rattle.lfs_model.specs.Rules.{row_grants}
 use Rattle.lfs_model.specs.Steps.{IsEvent, after_event, world_after}
 use Rattle.lfs_laws.specs.LawKept.{AreStrangers, Guards, IsStillHere, IsStranger, RowIsKept}
@@ -32,7 +32,7 @@ SameFile file d = d.file ≡ file
 
 module _ (w v : World) (caller : Caller) (request : Request) (tree : IsTree w.rows) (n : ℕ) (row dir : Row) (below : n ≢ root)
     (there : map.get w.rows n ≡ Some row) (above : map.get w.rows row.parent ≡ Some dir)
-    (ordinary : caller.uid ≢ 0) (not_dir : caller.uid ≢ dir.file.uid) (not_row : caller.uid ≢ row.file.uid) (guards : Guards dir caller) where
+    (ordinary : caller.uid ≢ 0) (not_dir : caller.uid ≢ dir.file.uid) (not_row : caller.uid ≢ row.file.uid) (guards : Guards dir row caller) where
   -- neither is his
   not_owned : (m : ℕ) (r : Row) {A : Type 0} → map.get w.rows m ≡ Some r → caller.uid ≢ r.file.uid → Owns w.rows caller m → A
   not_owned m r at other owns =
@@ -41,15 +41,20 @@ module _ (w v : World) (caller : Caller) (request : Request) (tree : IsTree w.ro
 
   -- he may not take the row away
   not_taken : {A : Type 0} → MayTakeAway w.rows caller n row.parent → A
+  unfolding ancestor
   not_taken may = ⊎_elim
       (λ denied. both _ (sym (ap (row_grants caller bits.Write) above) ∙ may.writes.granted) denied)
+      (λ more. ⊎_elim
+      (λ closed. both _ (sym (ap (λ o. row_grants caller bits.Search (map.get w.rows (parent_of o))) there ∙ ap (row_grants caller bits.Search) above) ∙ may.reaches zero below) closed)
       (λ more. ⊎_elim
       (λ sticky. ⊎_elim (λ e. absurd (ordinary e)) (λ own. ⊎_elim
       (λ e. absurd (not_row (e ∙ ap (λ o. (file_at o).uid) there)))
       (λ e. absurd (not_dir (e ∙ ap (λ o. (file_at o).uid) above))) own)
       (may.sticky (ap (λ o. has_bit (file_at o).mode 0o1000) above ∙ sticky)))
+      (λ more. ⊎_elim
       (λ fixed. both _ fixed (sym (ap (λ o. is_fixed (attrs_of (file_at o))) above) ∙ may.parent_loose))
-      more) guards
+      (λ fixed. both _ fixed (sym (ap (λ o. is_fixed (attrs_of (file_at o))) there) ∙ may.loose))
+      more) more) more) guards
 
   row_stays : Fate w caller request v n row → IsSomeAnd (map.get v.rows n) (IsStillHere row)
   row_stays (Stays e) = is_some_and (IsStillHere row) e (record { hangs = record { parents = refl; names = refl }; kind = refl; uid = refl; gid = refl; flags = refl; mode = inl refl })
@@ -102,20 +107,32 @@ module _ (numbers segments : ℕ) (w : World) (n : ℕ) (row dir : Row) (tree : 
 -- ---- lists of entries
 
 -- strangers to two rows are so to what these become
-strange_still : (dir row dir_now row_now : Row) → dir_now.file ≡ dir.file → row_now.file.uid ≡ row.file.uid → (caller : Caller) (event : Event)
+strange_still : (dir row dir_now row_now : Row) → dir_now.file ≡ dir.file → row_now.file.uid ≡ row.file.uid → row_now.file.flags ≡ row.file.flags → (caller : Caller) (event : Event)
     → IsStranger dir row caller event → IsStranger dir_now row_now caller event
-strange_still dir row dir_now row_now d r caller (User request answer) s = (
+strange_still dir row dir_now row_now d r flags caller (User request answer) s = (
   s.0,
   λ e. s.1 (e ∙ ap (λ (f : File). f.uid) d),
   λ e. s.2 (e ∙ r),
-  subst (λ (f : File). (grants_of caller (attrs_of f) bits.Write ≡ false) ⊎ (has_bit f.mode 0o1000 ≡ true) ⊎ (is_fixed (attrs_of f) ≡ true)) (sym d) s.3,
+  ⊎_elim
+      (λ write. inl (ap (λ (f : File). grants_of caller (attrs_of f) bits.Write) d ∙ write))
+      (λ more. inr (⊎_elim
+      (λ search. inl (ap (λ (f : File). grants_of caller (attrs_of f) bits.Search) d ∙ search))
+      (λ more. inr (⊎_elim
+      (λ sticky. inl (ap (λ (f : File). has_bit f.mode 0o1000) d ∙ sticky))
+      (λ more. inr (⊎_elim
+      (λ fixed. inl (ap (λ (f : File). is_fixed (attrs_of f)) d ∙ fixed))
+      (λ fixed. inr (ap (λ (k : ℕ). is_fixed (attrs_of (record row.file { flags = k }))) flags ∙ fixed))
+      more))
+      more))
+      more))
+      s.3,
 )
-strange_still dir row dir_now row_now d r caller (Cleaner kind outcome) s = tt
+strange_still dir row dir_now row_now d r flags caller (Cleaner kind outcome) s = tt
 
-all_strange : (dir row dir_now row_now : Row) → dir_now.file ≡ dir.file → row_now.file.uid ≡ row.file.uid → (entries : List Entry)
+all_strange : (dir row dir_now row_now : Row) → dir_now.file ≡ dir.file → row_now.file.uid ≡ row.file.uid → row_now.file.flags ≡ row.file.flags → (entries : List Entry)
     → AreStrangers dir row entries → AreStrangers dir_now row_now entries
-all_strange dir row dir_now row_now d r [] s = tt
-all_strange dir row dir_now row_now d r (e ∷ es) s = (strange_still dir row dir_now row_now d r e.cred e.event s.0, all_strange dir row dir_now row_now d r es s.1)
+all_strange dir row dir_now row_now d r flags [] s = tt
+all_strange dir row dir_now row_now d r flags (e ∷ es) s = (strange_still dir row dir_now row_now d r flags e.cred e.event s.0, all_strange dir row dir_now row_now d r flags es s.1)
 
 here_on : (x y z : Row) → IsStillHere x y → IsStillHere y z → IsStillHere x z
 here_on x y z a b = record {
@@ -134,7 +151,7 @@ row_is_kept numbers segments (e ∷ es) w n row dir tree legal below there above
     let r = some_and _ (IsStillHere row) (row_event numbers segments w n row dir tree below there above e.cred e.event legal.0 strange.0) in
     let d = some_and _ (SameFile dir.file) (dir_event numbers segments w n row dir tree below there above e.cred e.event legal.0 strange.0) in
     let rest = row_is_kept numbers segments es after n r.value d.value (event_tree numbers segments w e.cred e.event tree legal.0) legal.1 below r.is
-    (ap (map.get after.rows) r.holds.hangs.parents ∙ d.is) (all_strange dir row d.value r.value d.holds r.holds.uid es strange.1) in
+    (ap (map.get after.rows) r.holds.hangs.parents ∙ d.is) (all_strange dir row d.value r.value d.holds r.holds.uid r.holds.flags es strange.1) in
     let s = some_and _ (IsStillHere r.value) rest.0 in
     let t = some_and _ (SameFile d.value.file) rest.1 in (
       is_some_and (IsStillHere row) s.is (here_on row r.value s.value r.holds s.holds),

@@ -15,17 +15,20 @@ use Rattle.lfs_laws.specs.LawMoved.{HangsStill}
 use Rattle.lfs_laws.specs.LawOneThing.{KeepsMode}
 use Rattle.lfs_laws.specs.Rights.{is_fixed}
 
--- a directory keeps a caller from its rows: it grants him no write, or is sticky, or fixed by a flag
-abbrev pub Guards : Row → Caller → Type 0
-Guards dir caller =
+-- a caller is kept from a row in a directory: the directory grants him no write or no search, or is sticky, or fixed by a flag; or
+-- the row is fixed by one
+abbrev pub Guards : Row → Row → Caller → Type 0
+Guards dir row caller =
     (grants_of caller (attrs_of dir.file) bits.Write ≡ false)
+    ⊎ (grants_of caller (attrs_of dir.file) bits.Search ≡ false)
     ⊎ (has_bit dir.file.mode 0o1000 ≡ true)
     ⊎ (is_fixed (attrs_of dir.file) ≡ true)
+    ⊎ (is_fixed (attrs_of row.file) ≡ true)
 
--- a user's call is made by a stranger to both rows: he is not user 0, owns neither, and is kept from the directory's rows
+-- a user's call is made by a stranger to both rows: he is not user 0, owns neither, and is kept from the row
 abbrev pub IsStranger : Row → Row → Caller → Event → Type 0
 IsStranger dir row caller (User request answer) =
-    (caller.uid ≢ 0) × (caller.uid ≢ dir.file.uid) × (caller.uid ≢ row.file.uid) × Guards dir caller
+    (caller.uid ≢ 0) × (caller.uid ≢ dir.file.uid) × (caller.uid ≢ row.file.uid) × Guards dir row caller
 IsStranger dir row caller (Cleaner kind outcome) = Unit {0}
 
 -- so is each

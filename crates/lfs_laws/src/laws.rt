@@ -348,8 +348,8 @@ pub fn strangers_leave()
 {}
 
 /// A row stays in its directory under its name through any calls of users who are not user 0, own neither of the two, and are kept
-/// from the directory's rows: it grants them no write, is sticky, or is fixed by a flag. Of both nothing changes but a file's bytes,
-/// with its set-id bits, and the directory's own place, whatever becomes of the directories above.
+/// from the row: the directory grants them no write or no search, is sticky, or is fixed by a flag; or the row is fixed by one. Of both
+/// nothing changes but a file's bytes, with its set-id bits, and the directory's own place, whatever becomes of the directories above.
 pub fn row_is_kept()
     ensures { RowIsKept }
 {}
