@@ -19,6 +19,7 @@ pub mod LawFlags
 pub mod LawReads
 pub mod LeadLemmas
 pub mod LeadOnLemmas
+pub mod LeftOut
 pub mod LegalTrees
 pub mod LockWords
 pub mod LockedLemmas

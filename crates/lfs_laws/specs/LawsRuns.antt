@@ -4,6 +4,7 @@ use Rattle.lfs_types.specs.Caller.{Caller}
 use Rattle.lfs_types.specs.Tree.{World}
 use Rattle.lfs_types.specs.declared.answer.Answer.TheVariants.{Served, Denied, Refused}
 use Rattle.lfs_types.specs.declared.request.Request.{Request}
+use Rattle.lfs_types.specs.declared.request.Request.TheVariants.{Sync}
 use Rattle.lfs_model.specs.declared.journal.Call.{Call}
 use Rattle.lfs_model.specs.declared.journal.Entry.{Entry}
 use Rattle.lfs_model.specs.declared.journal.Event.{Event}
@@ -42,6 +43,22 @@ UsersAlone =
     → IsLegal numbers segments entries w
     → IsLegal numbers segments (users_alone entries) w
     × (world_after numbers (users_alone entries) w ≡ world_after numbers entries w)
+
+-- an entry of the cleaner, of a Sync, or of a call that was refused for a resource
+abbrev pub IsIdle : Event → Type 0
+IsIdle (Cleaner kind outcome) = Unit {0}
+IsIdle (User Sync answer) = Unit {0}
+IsIdle (User request (Refused resource)) = Unit {0}
+IsIdle event = ⊥
+
+-- each of them may be left out: the others are as legal, and lead to the same world
+abbrev pub IdleLeftOut : Type 0
+IdleLeftOut =
+    (numbers segments : ℕ) (before : List Entry) (entry : Entry) (later : List Entry) (w : World)
+    → IsIdle entry.event
+    → IsLegal numbers segments (before ++ entry ∷ later) w
+    → IsLegal numbers segments (before ++ later) w
+    × (world_after numbers (before ++ later) w ≡ world_after numbers (before ++ entry ∷ later) w)
 
 -- two lists of entries that are legal from one world, and whose users' entries alone make the same calls, have the same
 -- answers to them and lead to the same world

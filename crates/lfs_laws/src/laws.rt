@@ -53,7 +53,7 @@ ghost use Rattle.lfs_laws.specs.LawUnreadRuns.{NobodyReadsInRun};
 ghost use Rattle.lfs_laws.specs.LawView.{View};
 ghost use Rattle.lfs_laws.specs.LawsBytes.{LastWritten, LastWrittenSinceOpening};
 ghost use Rattle.lfs_laws.specs.LawsFlags.{ImmutableStays, AppendOnlyGrows, SystemImmutableStays, SystemAppendOnlyGrows};
-ghost use Rattle.lfs_laws.specs.LawsRuns.{SameAnswers, UsersAlone};
+ghost use Rattle.lfs_laws.specs.LawsRuns.{IdleLeftOut, SameAnswers, UsersAlone};
 ghost use Rattle.lfs_laws.specs.Rights.{EachCall};
 
 /// A call is allowed exactly where its caller may make it: each of its paths leads to a row, or to a place for a name, which
@@ -231,9 +231,11 @@ pub fn changed_between()
 {}
 
 /// The users' entries alone, without the cleaner's, the Syncs and those refused for a resource, are a legal list of
-/// calls that leads to the same tree: neither the cleaner nor a refusal makes a difference to any answer.
+/// calls that leads to the same tree: neither the cleaner nor a refusal makes a difference to any answer. Each of these entries may be
+/// left out by itself.
 pub fn users_alone()
-    ensures { UsersAlone }
+    ensures all { UsersAlone }
+    ensures each { IdleLeftOut }
 {}
 
 /// Leaving out the cleaner's calls changes no answer. Two legal lists of entries from one tree whose users' entries alone, but
