@@ -6,12 +6,12 @@ use Rattle.lfs_types.specs.Caller.{Caller}
 use Rattle.lfs_types.specs.declared.answer.Answer.{Answer}
 use Rattle.lfs_types.specs.declared.request.Request.{Request}
 use Rattle.lfs_model.specs.declared.journal.Entry.{Entry}
-use Rattle.lfs_settle.specs.Interleaving.{Agrees, AgreesAt, IsBegun, MadeItsCalls}
+use Rattle.lfs_settle.specs.Interleaving.{Agrees, AgreesAt, IsEntered, MadeItsCalls}
 
 -- ---- the setup
 
 -- what is left when all calls have had their entries are the later ones
-pub begun_whole : (full : Bool) (rest : List Entry) (calls : List (Caller × Request)) (given : List Answer) → length calls ≡ 0 → length given ≡ 0 → IsBegun full rest calls given rest
+pub begun_whole : (full : Bool) (rest : List Entry) (calls : List (Caller × Request)) (given : List Answer) → length calls ≡ 0 → length given ≡ 0 → IsEntered full rest calls given rest
 begun_whole full rest [] [] h g = (tt, refl)
 begun_whole full rest (call ∷ calls) given h g = absurd (omega (arith, h))
 begun_whole full rest [] (answer ∷ given) h g = absurd (omega (arith, g))

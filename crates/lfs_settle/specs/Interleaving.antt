@@ -1,5 +1,5 @@
 -- When a journal is an interleaving of what sessions asked and were answered.
-use Rattle.std.specs.Prelude.{◌≡◌, ℕ, ◌-◌, ◌<◌, ◌≤◌, ◌==◌, ◌⊎◌, Bool, true, List, [], ◌∷◌, ◌++◌, length, map, drop, Option, None, Some}
+use Rattle.std.specs.Prelude.{◌≡◌, ℕ, ◌-◌, ◌<◌, ◌≤◌, ◌==◌, ◌⊎◌, Bool, true, false, List, [], ◌∷◌, ◌++◌, length, map, drop, Option, None, Some}
 use Rattle.std.specs.Global.{Vec}
 use Rattle.std.specs.List.{filter, slice_get}
 use Rattle.lfs_types.specs.Caller.{Caller}
@@ -59,12 +59,27 @@ AreAnswered is_full (call ∷ script) [] = ⊥
 AreAnswered is_full (call ∷ script) (answer ∷ answers) =
     MayAnswer is_full call.1 answer × AreAnswered is_full script answers
 
+-- whether an answer tells that the journal has no room
+abbrev pub is_journal_full : Answer → Bool
+is_journal_full (Refused JournalFull) = true
+is_journal_full answer = false
+
+-- behind an answer that the journal has no room there is no other; whether one such came before
+abbrev pub StaysFull : Bool → List Answer → Type 0
+StaysFull was_full [] = Unit {0}
+StaysFull was_full (answer ∷ answers) =
+    (was_full ≡ true → is_journal_full answer ≡ true) × StaysFull (is_journal_full answer) answers
+
 -- ---- the setup
+
+-- the entries are those of the setup's next calls, and these later ones
+abbrev pub IsEntered : Bool → List Entry → List (Caller × Request) → List Answer → List Entry → Type 0
+IsEntered is_full entries setup answers later =
+    AreAnswered is_full setup answers × (entries ≡ entries_kept 0 setup answers ++ later)
 
 -- the entries are those of the setup's calls, and these later ones
 abbrev pub IsBegun : Bool → List Entry → List (Caller × Request) → List Answer → List Entry → Type 0
-IsBegun is_full entries setup answers later =
-    AreAnswered is_full setup answers × (entries ≡ entries_kept 0 setup answers ++ later)
+IsBegun is_full entries setup answers later = IsEntered is_full entries setup answers later × StaysFull false answers
 
 -- ---- a session
 
@@ -72,10 +87,15 @@ IsBegun is_full entries setup answers later =
 abbrev pub session_entries : ℕ → List Entry → List Entry
 session_entries session entries = filter (λ (entry : Entry). entry.session == session) entries
 
+-- the session's entries are those of its next calls
+abbrev pub AreEntered : Bool → List Entry → ℕ → List (Caller × Request) → List Answer → Type 0
+AreEntered is_full entries session script answers =
+    AreAnswered is_full script answers × (session_entries session entries ≡ entries_kept session script answers)
+
 -- the session's entries are those of its calls
 abbrev pub MadeItsCalls : Bool → List Entry → ℕ → List (Caller × Request) → List Answer → Type 0
 MadeItsCalls is_full entries session script answers =
-    AreAnswered is_full script answers × (session_entries session entries ≡ entries_kept session script answers)
+    AreEntered is_full entries session script answers × StaysFull false answers
 
 -- the session's two lists meet its entries, or there is neither
 abbrev pub Agrees : Bool → List Entry → ℕ → Option (List (Caller × Request)) → Option (List Answer) → Type 0

@@ -1,10 +1,10 @@
 //! The setup, the sessions and the strangers of a journal, each judged alone.
 
 ghost use Rattle.std.specs.Prelude.{◌≡◌, ◌↔◌, ◌≤◌, ℕ, IsTrue, MatchOption, length, map};
-ghost use Rattle.lfs_settle.specs.Interleaving.{AgreesAt, HasNoStrangers, IsBegun, IsOfRun, IsLowest, MadeItsCalls};
+ghost use Rattle.lfs_settle.specs.Interleaving.{AgreesAt, AreEntered, IsEntered, HasNoStrangers, IsBegun, IsOfRun, IsLowest, MadeItsCalls};
 
 use crate::entries::CLEANER;
-use crate::stepping::{after_call, after_setup_call, next_of};
+use crate::stepping::{after_call, after_setup_call, next_of, stays_full};
 use lfs_model::journal::{Entry, Event};
 use lfs_types::answer::Answer;
 use lfs_types::cred::Cred;
@@ -22,6 +22,23 @@ pub fn after_setup<'a>(
         ((later : _) → IsBegun is_full entries.now setup.now answers.now later → ⊥)
         (λ rest. IsBegun is_full entries.now setup.now answers.now rest.now) }
 {
+    if !stays_full(answers) {
+        return None;
+    }
+    behind_setup(is_full, entries, setup, answers)
+}
+
+/// The entries behind those of the setup's next calls with these answers, if these are first.
+fn behind_setup<'a>(
+    is_full: bool,
+    entries: &'a [Entry],
+    setup: &[(Cred, Request)],
+    answers: &[Answer],
+) -> Option<&'a [Entry]>
+    ensures { MatchOption result
+        ((later : _) → IsEntered is_full entries.now setup.now answers.now later → ⊥)
+        (λ rest. IsEntered is_full entries.now setup.now answers.now rest.now) }
+{
     let mut rest = entries;
     let mut calls = setup;
     let mut given = answers;
@@ -38,7 +55,7 @@ pub fn after_setup<'a>(
 }
 
 /// Whether the entries of a session are those of its calls with these answers.
-fn is_settled(
+pub fn is_settled(
     session: u8,
     is_full: bool,
     entries: &[Entry],
@@ -46,6 +63,19 @@ fn is_settled(
     answers: &[Answer],
 ) -> bool
     ensures { IsTrue result ↔ MadeItsCalls is_full entries.now session script.now answers.now }
+{
+    stays_full(answers) && are_entered(session, is_full, entries, script, answers)
+}
+
+/// Whether the entries of a session are those of its next calls with these answers.
+fn are_entered(
+    session: u8,
+    is_full: bool,
+    entries: &[Entry],
+    script: &[(Cred, Request)],
+    answers: &[Answer],
+) -> bool
+    ensures { IsTrue result ↔ AreEntered is_full entries.now session script.now answers.now }
 {
     let mut rest = entries;
     let mut calls = script;

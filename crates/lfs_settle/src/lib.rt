@@ -4,3 +4,4 @@
 pub mod entries;
 mod judging;
 mod stepping;
+pub mod transcripts;

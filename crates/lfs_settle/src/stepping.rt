@@ -1,8 +1,8 @@
 //! One call more, found in a journal or missed there.
 
-ghost use Rattle.std.specs.Prelude.{◌≡◌, ◌↔◌, ◌∷◌, [], IsTrue, MatchOption};
+ghost use Rattle.std.specs.Prelude.{◌≡◌, ◌↔◌, ◌∷◌, [], false, IsTrue, MatchOption};
 ghost use Rattle.lfs_model.specs.Memory.{IsCopying};
-ghost use Rattle.lfs_settle.specs.Interleaving.{IsBegun, MadeItsCalls, MayAnswer, session_entries};
+ghost use Rattle.lfs_settle.specs.Interleaving.{AreEntered, IsEntered, MayAnswer, StaysFull, is_journal_full, session_entries};
 ghost use Rattle.lfs_settle.specs.Entering.{makes_entry};
 
 use lfs_model::journal::Entry;
@@ -38,6 +38,30 @@ pub fn makes_entry(answer: &Answer) -> bool
     )
 }
 
+/// Whether an answer tells that the journal has no room.
+fn is_journal_full(answer: &Answer) -> bool
+    ensures { result ≡ is_journal_full answer.now }
+{
+    matches!(answer, Answer::Refused(Resource::JournalFull))
+}
+
+/// Whether behind an answer that the journal has no room there is no other.
+pub fn stays_full(answers: &[Answer]) -> bool
+    ensures { IsTrue result ↔ StaysFull false answers.now }
+{
+    let mut rest = answers;
+    let mut was_full = false;
+    while let Some((answer, behind)) = rest.split_first() {
+        let is_full = is_journal_full(answer);
+        if was_full && !is_full {
+            return false;
+        }
+        was_full = is_full;
+        rest = behind;
+    }
+    true
+}
+
 /// The first entry of a session, and those behind it.
 pub fn next_of(session: u8, entries: &[Entry]) -> Option<(&Entry, &[Entry])>
     ensures { MatchOption result (session_entries session entries.now ≡ [])
@@ -62,10 +86,10 @@ pub fn after_setup_call<'a>(
 ) -> Option<&'a [Entry]>
     ensures { MatchOption result
         ((setup : _) → (answers : _) → (later : _)
-        → IsBegun is_full entries.now (call.now ∷ setup) (answer.now ∷ answers) later → ⊥)
+        → IsEntered is_full entries.now (call.now ∷ setup) (answer.now ∷ answers) later → ⊥)
         (λ rest. (setup : _) → (answers : _) → (later : _)
-        → IsBegun is_full entries.now (call.now ∷ setup) (answer.now ∷ answers) later
-        ↔ IsBegun is_full rest.now setup answers later) }
+        → IsEntered is_full entries.now (call.now ∷ setup) (answer.now ∷ answers) later
+        ↔ IsEntered is_full rest.now setup answers later) }
 {
     let (cred, request) = call;
     if !may_answer(is_full, request, answer) {
@@ -91,10 +115,10 @@ pub fn after_call<'a>(
 ) -> Option<&'a [Entry]>
     ensures { MatchOption result
         ((script : _) → (answers : _)
-        → MadeItsCalls is_full entries.now session (call.now ∷ script) (answer.now ∷ answers) → ⊥)
+        → AreEntered is_full entries.now session (call.now ∷ script) (answer.now ∷ answers) → ⊥)
         (λ rest. (script : _) → (answers : _)
-        → MadeItsCalls is_full entries.now session (call.now ∷ script) (answer.now ∷ answers)
-        ↔ MadeItsCalls is_full rest.now session script answers) }
+        → AreEntered is_full entries.now session (call.now ∷ script) (answer.now ∷ answers)
+        ↔ AreEntered is_full rest.now session script answers) }
 {
     let (cred, request) = call;
     if !may_answer(is_full, request, answer) {

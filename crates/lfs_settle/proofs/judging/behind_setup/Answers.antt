@@ -1,7 +1,7 @@
 use Rattle.std.proofs.Common.{◌≡◌, ◌==◌, true, length}
 use Rattle.std.proofs.lemmas.Bool.{eqb-true}
 use Rattle.lfs_settle.proofs.SettleLemmas.{begun_whole}
-use Rattle.lfs_settle.proofs.judging.after_setup.Goals as goal
+use Rattle.lfs_settle.proofs.judging.behind_setup.Goals as goal
 
 pub returns : goal.returns
 returns c =
