@@ -1,15 +1,20 @@
 #!/usr/bin/env python3
-"""Shows that the laws of words, denials, refusals and paths fall: by one change of a definition at a time.
+"""Shows that the laws fall: by one change of a definition at a time.
 
 laws-fall.py [TRIALS [SEED]] takes the definitions of `laws_model.py`, the laws as tests of them that share none of their
-words, and a list of changes, each of one definition. For each change it tries each law in TRIALS random trees and calls (by
-default 1,000, some minutes), and prints which are false. Status 1 where a law is false of the definitions as they stand, or where
-none falls with a change. It is a second reading of definitions and laws, not a proof: that is the check of `lfs_laws`.
+words, and a list of changes, each of one definition. Here stand the laws of words, denials and refusals, in `laws_calls.py` those of
+one call, with each rule left out in turn, and in `laws_runs.py` those over runs. For each change it tries the laws in TRIALS random
+trees with calls or a run (by default 1,000, some minutes), and prints which are false. Status 1 where a law is false of the
+definitions as they stand, where none falls with a change, or where a law falls with no change. It is a second reading of definitions
+and laws, not a proof: that is the check of `lfs_laws`.
 """
 import random
 import sys
+from multiprocessing import Pool
 
 sys.dont_write_bytecode = True
+from laws_calls import CALL_LAWS, RULE_CHANGES, fallen_steps, steps_of_runs, steps_without
+from laws_runs import RUN_CHANGES, RUN_LAWS, without
 from laws_model import END, LIMIT, Caller, Model, Row, World, bits, path_of, some_call, some_caller, some_path, some_world
 
 
@@ -178,6 +183,52 @@ def decides_nothing(m, w, c, rng, call):
     return told == m.decide(w, other, call) == m.decide(World(w.level, marks), c, call) and (is_level or told == m.decide(World(level, w.rows), c, call))
 
 
+@of_calls
+def decides_alike(m, w, c, rng, call):
+    name, path, *more = call
+    size = len(w.rows[n].bytes) if name == "Write" and (n := leads(w.rows, path)[0]) else 0
+    within = lambda place, data: (size if place is END else place) + len(data) <= LIMIT
+    data, place = bytes(rng.randrange(4)), rng.choice([rng.randrange(9), LIMIT + rng.randrange(-6, 4)])
+    other = {"Read": lambda: (7, 3), "Write": lambda: (END if more[0] is END else place, data), "SetLength": lambda: (rng.choice([7, LIMIT - 1, LIMIT + 9]),),
+             "Create": lambda: (0o7,), "Mkdir": lambda: (0o7,), "Chmod": lambda: (0o7,), "Chown": lambda: (more[0], rng.choice(c.groups)),
+             "Chflags": lambda: (more[0] ^ rng.choice([0x1, 0x2, 0x4]),)}.get(name, lambda: more)()
+    alike = {"Write": lambda: within(*more) == within(*other), "SetLength": lambda: (more[0] <= LIMIT) == (other[0] <= LIMIT), "Chown": lambda: more[1] in c.groups}
+    return not alike.get(name, lambda: True)() or m.decide(w, c, call) == m.decide(w, c, (name, path, *other))
+
+
+def stat(rows, n): return n, n in rows and rows[n]._replace(bytes=len(rows[n].bytes), parent=0, name="")
+
+
+def view(w, c, call):
+    """What a caller sees along the paths of a call, and of what he may read at its end."""
+    seen = [w.level]
+    for path in [p for p in call[1:3] if isinstance(p, tuple)]:
+        for k, n in enumerate(leads(w.rows, path)[1]):
+            seen.append(stat(w.rows, n))
+            r = w.rows.get(n)
+            if r and k == len(path) and call[0] in ("Read", "List") and granted(c, r, 0o400, 0o40, 4):
+                seen.append(r.bytes if call[0] == "Read" else sorted(x.name for m, x in w.rows.items() if m != 2 and x.parent == n))
+            if not r or r.kind == "f" or not granted(c, r, 0o100, 0o10, 1):
+                break
+    return seen
+
+
+@of_calls
+def same_view(m, w, c, rng, call):
+    n = rng.choice(list(w.rows))
+    other = w.rows[n]._replace(mode=rng.randrange(0o10000), uid=rng.randrange(3), flags=bits(rng), bytes=b"" if w.rows[n].kind == "d" else bytes(rng.randrange(9)))
+    v = World(w.level, w.rows | {n: other})
+    if rng.random() < .5 and n != 2 and not any(r.parent == n for r in w.rows.values()):
+        v = World(w.level, {k: r for k, r in w.rows.items() if k != n})
+    if view(w, c, call) != view(v, c, call):
+        return True
+    one, two = m.decide(w, c, call), m.decide(v, c, call)
+    if one == two:
+        return bool(one) or m.shows(w, call) == m.shows(v, call)
+    first = [d and d[0] for d in (one, two) if not d or d[0] != "K2"]
+    return len(first) == 1 and call[0] in ("Rmdir", "Rename") and first[0] in ((None,) if call[0] == "Rmdir" else (None, "K4", "M2"))
+
+
 def leads(rows, path):
     """The row that names lead to, and those on the way, by parent and name alone."""
     way = [2]
@@ -210,7 +261,7 @@ def paths_by_names(m, w, c, rng):
 
 
 LAWS = [classes_by_bits, owners_by_number, locks_by_bits, levels_by_number, bytes_by_place, limits_by_number, opens_by_number, set_ids_by_bits,
-        paths_by_names, refused_truly, names_what_it_asks, decides_nothing, path_leads_on]
+        paths_by_names, refused_truly, names_what_it_asks, decides_alike, decides_nothing, same_view, path_leads_on]
 
 # ---- the changes
 
@@ -253,21 +304,25 @@ CHANGES = {
     "a Write past the limit is told N1": dict(denial=TOLD("Write", "Z1", "N1")),
     "an Unlink in a sticky directory is told O1": dict(denial=TOLD("Unlink", "Y1", "O1")),
     "K4 is told of the first path": dict(denial=lambda self, call, d: ("K4", 0, d[2]) if d[0] == "K4" else d),
+    "a Write of no bytes passes the limit": dict(denial=lambda self, call, d: None if d[0] == "Z1" and call[0] == "Write" and not call[3] else d),
+    "a Stat asks no search": without("S1", of="Stat"),
+    "a List asks no read": without("M1", of="List"),
+    "an Rmdir asks first whether it is empty": dict(decide=lambda self, w, c, call: next(
+        (d for met, d in self.table(w, c, call) if d[0] == "K2" and call[0] == "Rmdir" and not met), None) or M.decide(self, w, c, call)),
     "a replaced row and the moved one are both gone": dict(renamed=lambda self, rows, n, at, name: {k: r for k, r in M.renamed(self, rows, n, at, name).items() if k != n}),
     "a moved file loses its bytes": dict(renamed=lambda self, rows, n, at, name: M.renamed(self, rows | {n: rows[n]._replace(bytes=b"")}, n, at, name)),
 }
 
 
-def fallen(model, trials, seed):
+def fallen(model, laws, trials, seed):
     """The laws that are false of a model, each as soon as a trial shows it."""
     false = []
-    for law in LAWS:
+    for law in laws:
         rng = random.Random(f"{seed} {law.__name__}")
         for _ in range(trials):
-            w = some_world(rng)
             try:
-                holds = law(model, w, some_caller(rng), rng)
-            except (AttributeError, KeyError, IndexError, RecursionError):
+                holds = law(model, some_world(rng, 0), rng) if law in RUN_LAWS else law(model, some_world(rng), some_caller(rng), rng)
+            except (AttributeError, KeyError, IndexError, RecursionError, TypeError):
                 holds = type(model) is not Model
             if not holds:
                 false.append(law.__name__)
@@ -275,16 +330,32 @@ def fallen(model, trials, seed):
     return false
 
 
+def fallen_with(change, trials, seed):
+    """The laws that are false once a change is made; of none, as the definitions stand."""
+    rng = random.Random(f"{seed} {change}")
+    if change in RULE_CHANGES:
+        return fallen_steps(steps_without(Model(), change, trials, rng))
+    if change in CHANGES:
+        return fallen(type("Changed", (Model,), CHANGES[change])(), LAWS, trials, seed)
+    model = Model() if change is None else type("Changed", (Model,), RUN_CHANGES[change])()
+    return fallen(model, (LAWS if change is None else []) + RUN_LAWS, trials, seed) + fallen_steps(steps_of_runs(model, trials // 2, rng))
+
+
 def main():
     trials, seed = (int(sys.argv[1]) if len(sys.argv) > 1 else 1_000), (sys.argv[2] if len(sys.argv) > 2 else "1")
-    wrong = fallen(Model(), trials, seed)
-    print("as it stands:", ", ".join(wrong) or "no law is false")
-    bad = bool(wrong)
-    for change, words in CHANGES.items():
-        false = fallen(type("Changed", (Model,), words)(), trials, seed)
-        print(f"{change}: {', '.join(false) or 'NO LAW FALLS'}", flush=True)
-        bad = bad or not false
-    sys.exit(bad)
+    changes, seen = [None, *CHANGES, *RULE_CHANGES, *RUN_CHANGES], set()
+    with Pool() as pool:
+        waits = [(change, pool.apply_async(fallen_with, (change, trials, seed))) for change in changes]
+        wrong = waits[0][1].get()
+        print("as it stands:", ", ".join(wrong) or "no law is false", flush=True)
+        bad = bool(wrong)
+        for change, wait in waits[1:]:
+            false = wait.get()
+            print(f"{change}: {', '.join(false) or 'NO LAW FALLS'}", flush=True)
+            bad, seen = bad or not false, seen | set(false)
+    never = [law.__name__ for law in LAWS + CALL_LAWS + RUN_LAWS if law.__name__ not in seen]
+    print("with no change:", ", ".join(never) or "no law")
+    sys.exit(bad or bool(never))
 
 
 if __name__ == "__main__":

@@ -159,6 +159,15 @@ class Model:
         r = w.rows.get(n)
         return (n, r._replace(bytes=len(r.bytes))) if call[0] == "Stat" else self.slice_of(r.bytes, call[2], min(call[3], self.read_max))
 
+    def shows(self, w, call):
+        if call[0] == "List":
+            n = self.reached(w.rows, call[1])
+            return sorted(r.name for k, r in w.rows.items() if k != 2 and r.parent == n)
+        return self.answer(w, call) if call[0] in ("Stat", "Read") else None
+
+    def refused(self, w, c, call): return w
+    def cleaned(self, w): return w
+
     def effect(self, w, c, call):
         name, path, *more = call
         rows, n = dict(w.rows), 0 if name in ("SetLevel", "Sync") else self.reached(w.rows, path)
@@ -216,7 +225,7 @@ class Model:
 
 # ---- random trees and calls
 
-def some_world(rng):
+def some_world(rng, big=.02):
     mode = lambda: rng.choice([0o755, 0o777, 0o1777, 0o700, 0o644, 0o600, rng.randrange(0o10000)])
     flags = lambda: rng.choice([0, 0, 0, rng.choice(FLAGS), sum(rng.sample(FLAGS, 2))])
     rows = {2: Row(2, "", "d", 0, 0, rng.choice([0o755, 0o777, 0o777, mode()]), rng.choice([0, 0, flags()]), b"")}
@@ -224,7 +233,7 @@ def some_world(rng):
         at = rng.choice([m for m, r in rows.items() if r.kind == "d"])
         name, kind = rng.choice("abc"), rng.choice("fd")
         if not any(m != 2 and r.parent == at and r.name == name for m, r in rows.items()):
-            data = b"" if kind == "d" else BIG if rng.random() < .02 else bytes(rng.randrange(256) for _ in range(rng.randrange(9)))
+            data = b"" if kind == "d" else BIG if rng.random() < big else bytes(rng.randrange(256) for _ in range(rng.randrange(9)))
             rows[n] = Row(at, name, kind, rng.randrange(3), rng.randrange(3), mode(), flags(), data)
     return World(rng.randrange(-1, 3), rows)
 
