@@ -39,7 +39,7 @@ pub fn may_be_refused(
 }
 
 /// Whether a call wants a new number.
-fn wants_number(request: &Request) -> bool
+pub(crate) fn wants_number(request: &Request) -> bool
     ensures { IsTrue result ↔ WantsNumber request.now }
 {
     matches!(request, Request::Create { .. } | Request::Mkdir { .. })

@@ -1,7 +1,10 @@
-//! Whether an entry is one that the rules allow, given what they decide: the judgement of a trace, entry by entry.
+//! Whether the entries of a trace are a legal run: each is judged by what the rules decide of its call.
 #![tactic(auto)]
 
 pub mod answers;
+pub mod checker;
 pub mod cleaning;
+pub mod fault;
 #[cfg(test)]
 mod tests;
+pub mod trace;

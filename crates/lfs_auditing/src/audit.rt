@@ -1,0 +1,195 @@
+//! An audit: a journal's lines, each checked behind those before it.
+
+use crate::denials::Denials;
+use crate::fault::{AuditFault, Unread};
+use crate::last::LastOnes;
+use crate::lines::{Piece, read_line};
+use lfs_journal_lines::reading::read_entry;
+use lfs_model::journal::{Entry, Event};
+use lfs_trace::checker::Checker;
+use lfs_trace::fault::EntryFault;
+use lfs_types::answer::{Answer, Served};
+use lfs_types::cred::Cred;
+use lfs_types::fault::FormatFault;
+use lfs_types::path::Path;
+use lfs_types::request::Request;
+use lfs_words::fault::FaultKind;
+use std::alloc::{AllocError, Global};
+use std::io::Read;
+
+/// Where the reading of a journal ended.
+#[derive(Drop)]
+pub enum Stop {
+    /// At its end: all its entries are legal.
+    End,
+    /// At an entry that isn't legal behind those before it.
+    Illegal(Entry),
+    /// At a line that tells no entry.
+    Unread(Unread),
+}
+
+/// An audit of a journal: a checker of its entries, how many were legal so far, who was denied what, who changed which file
+/// last, and which other than its owner read it last.
+#[derive(Drop)]
+pub struct Audit {
+    pub(crate) alloc: Global,
+    pub(crate) checker: Checker,
+    pub(crate) numbers: u32,
+    pub(crate) entries: u64,
+    pub(crate) denials: Denials,
+    pub(crate) changed: LastOnes,
+    pub(crate) read: LastOnes,
+}
+
+impl Audit {
+    /// An audit of the journal of a volume with so many inode numbers and segments.
+    pub fn new(alloc: Global, numbers: u32, segments: u32) -> Result<Audit, FormatFault> {
+        let checker = Checker::new(alloc, numbers, segments)?;
+        let changed = LastOnes::none(alloc, numbers)?;
+        let read = LastOnes::none(alloc, numbers)?;
+        Ok(Audit {
+            alloc,
+            checker,
+            numbers,
+            entries: 0,
+            denials: Denials::none(alloc),
+            changed,
+            read,
+        })
+    }
+
+    /// Reads lines up to the end of the input, or to the first that tells no legal entry.
+    ///
+    /// # Errors
+    ///
+    /// `Read` where the reader fails; `Memory`.
+    pub fn read_journal<R: Read>(&mut self, reader: &mut R) -> Result<Stop, AuditFault> {
+        let mut line = Vec::new(self.alloc);
+        for _ in 0..u64::MAX {
+            match read_line(reader, &mut line)? {
+                Piece::Line => match self.line(&line)? {
+                    None => (),
+                    Some(stop) => return Ok(stop),
+                },
+                Piece::End => return Ok(Stop::End),
+                Piece::Cut => return Ok(Stop::Unread(Unread::Cut)),
+                Piece::TooLong => return Ok(Stop::Unread(Unread::TooLong)),
+            }
+        }
+        Err(AuditFault::Read)
+    }
+
+    /// Checks the entry that a line tells; where there is something against it, the audit stops there.
+    fn line(&mut self, line: &[u8]) -> Result<Option<Stop>, AuditFault> {
+        match read_entry(self.alloc, line) {
+            Ok(entry) => self.entry(entry),
+            Err(fault) => match fault.kind {
+                FaultKind::Memory => Err(AuditFault::Memory),
+                _ => Ok(Some(Stop::Unread(Unread::Line(fault)))),
+            },
+        }
+    }
+
+    /// Checks an entry; where it is illegal, the audit stops there.
+    fn entry(&mut self, entry: Entry) -> Result<Option<Stop>, AuditFault> {
+        match self.checker.entry(&entry) {
+            Ok(()) => {
+                self.entries = self.entries.saturating_add(1);
+                self.note(&entry)?;
+                Ok(None)
+            }
+            Err(EntryFault::Illegal) => Ok(Some(Stop::Illegal(entry))),
+            Err(EntryFault::Memory) => Err(AuditFault::Memory),
+        }
+    }
+
+    /// Puts down what a legal entry tells.
+    fn note(&mut self, entry: &Entry) -> Result<(), AllocError> {
+        self.denials.add(entry)?;
+        match &entry.event {
+            Event::User(request, Answer::Served(shown)) => self.note_served(entry, request, shown),
+            Event::User(..) | Event::Cleaner(..) => Ok(()),
+        }
+    }
+
+    /// Puts down what a served call did.
+    fn note_served(
+        &mut self,
+        entry: &Entry,
+        request: &Request,
+        shown: &Served,
+    ) -> Result<(), AllocError> {
+        match shown {
+            Served::Bytes(_) => match read_of(request) {
+                Some(path) => self.note_read(entry, path),
+                None => Ok(()),
+            },
+            _ => match changed_of(request) {
+                Some(path) => self.note_changed(entry, path, is_making(request)),
+                None => Ok(()),
+            },
+        }
+    }
+
+    /// Puts down who changed last what a path leads to now.
+    fn note_changed(&mut self, entry: &Entry, path: &Path, is_new: bool) -> Result<(), AllocError> {
+        let Some(row) = self.checker.row(path) else {
+            return Ok(());
+        };
+        if is_new {
+            self.read.clear(row.number);
+        }
+        self.changed
+            .put(self.alloc, row.number, path, entry, self.entries)
+    }
+
+    /// Puts down who read last what a path leads to, if it isn't his.
+    fn note_read(&mut self, entry: &Entry, path: &Path) -> Result<(), AllocError> {
+        match self.checker.row(path) {
+            Some(row) if is_other(&entry.cred, row.attrs.uid) => {
+                self.read
+                    .put(self.alloc, row.number, path, entry, self.entries)
+            }
+            _ => Ok(()),
+        }
+    }
+}
+
+/// Whether a caller is neither the superuser nor this owner.
+fn is_other(cred: &Cred, owner: u32) -> bool {
+    !cred.is_superuser() && cred.uid() != owner
+}
+
+/// The path that a call reads.
+fn read_of(request: &Request) -> Option<&Path> {
+    match request {
+        Request::Read { path, .. } => Some(path),
+        _ => None,
+    }
+}
+
+/// The path that leads to what a call has changed.
+fn changed_of(request: &Request) -> Option<&Path> {
+    match request {
+        Request::Write { path, .. }
+        | Request::SetLength { path, .. }
+        | Request::Create { path, .. }
+        | Request::Mkdir { path, .. }
+        | Request::Rename { to: path, .. }
+        | Request::Chmod { path, .. }
+        | Request::Chown { path, .. }
+        | Request::Chflags { path, .. } => Some(path),
+        Request::Stat { .. }
+        | Request::Read { .. }
+        | Request::List { .. }
+        | Request::Unlink { .. }
+        | Request::Rmdir { .. }
+        | Request::SetLevel { .. }
+        | Request::Sync => None,
+    }
+}
+
+/// Whether a call makes a file or a directory.
+fn is_making(request: &Request) -> bool {
+    matches!(request, Request::Create { .. } | Request::Mkdir { .. })
+}

@@ -1,0 +1,64 @@
+//! Why an audit ends before its report, and why a line tells no entry.
+
+ghost use Rattle.std.specs.Prelude.{◌≡◌};
+ghost use Rattle.lfs_auditing.specs.declared.fault.AuditFault.TheVariants.{Memory, Write};
+
+use lfs_io::output::WriteFault;
+use lfs_journal_lines::fault::LineFault;
+use std::alloc::{AllocError, AllocFailed};
+use thiserror::Error;
+
+/// Why an audit ends before its report.
+#[derive(Clone, Copy, PartialEq, Eq, Debug, Error)]
+pub enum AuditFault {
+    /// The file of the journal could not be opened.
+    #[error("journal not opened")]
+    Open,
+    /// The reader failed.
+    #[error("read failed")]
+    Read,
+    /// A growth was refused.
+    #[error("no memory")]
+    Memory,
+    /// The report was not written.
+    #[error("write failed")]
+    Write,
+}
+
+impl From<AllocError> for AuditFault {
+    ghost from_gives = { λ _ fault. fault ≡ Memory };
+
+    fn from(_error: AllocError) -> AuditFault {
+        AuditFault::Memory
+    }
+}
+
+impl<T: Drop> From<AllocFailed<T>> for AuditFault {
+    ghost from_gives = { λ _ fault. fault ≡ Memory };
+
+    fn from(_error: AllocFailed<T>) -> AuditFault {
+        AuditFault::Memory
+    }
+}
+
+impl From<WriteFault> for AuditFault {
+    ghost from_gives = { λ _ fault. fault ≡ Write };
+
+    fn from(_fault: WriteFault) -> AuditFault {
+        AuditFault::Write
+    }
+}
+
+/// Why a line tells no entry.
+#[derive(Clone, Copy, PartialEq, Eq, Debug, Error)]
+pub enum Unread {
+    /// It has no line feed.
+    #[error("line: Cut")]
+    Cut,
+    /// It has more than 4,194,304 bytes.
+    #[error("line: TooLong")]
+    TooLong,
+    /// It has this fault.
+    #[error("{0}")]
+    Line(LineFault),
+}

@@ -1,0 +1,88 @@
+//! Who did something last to which file.
+
+use lfs_model::journal::Entry;
+use lfs_types::path::Path;
+use lfs_words::append::{push_number, push_word};
+use lfs_words::spelling::spell_path;
+use std::alloc::{AllocError, Global};
+
+/// Who did something last to a file: by which name, in which session, and by which entry, counted from 1.
+#[derive(Drop)]
+pub struct Last {
+    path: Path,
+    uid: u32,
+    session: u8,
+    entry: u64,
+}
+
+/// For each inode number, who did something last to its file.
+#[derive(Drop)]
+pub struct LastOnes {
+    ones: Vec<Option<Last>>,
+}
+
+impl LastOnes {
+    /// Nobody, for so many numbers.
+    pub fn none(alloc: Global, numbers: u32) -> Result<LastOnes, AllocError> {
+        let mut ones = Vec::with_capacity(alloc, numbers as usize)?;
+        for _ in 0..numbers {
+            ones.push(None)?;
+        }
+        Ok(LastOnes { ones })
+    }
+
+    /// Puts down that an entry, counted from 1, did it to the file of a number by this path.
+    pub fn put(
+        &mut self,
+        alloc: Global,
+        number: u32,
+        path: &Path,
+        entry: &Entry,
+        count: u64,
+    ) -> Result<(), AllocError> {
+        let path = path.try_clone(alloc)?;
+        self.set(
+            number,
+            Some(Last {
+                path,
+                uid: entry.cred.uid(),
+                session: entry.session,
+                entry: count,
+            }),
+        );
+        Ok(())
+    }
+
+    /// Puts down that nobody did it to the file of a number.
+    pub fn clear(&mut self, number: u32) {
+        self.set(number, None);
+    }
+
+    fn set(&mut self, number: u32, last: Option<Last>) {
+        if let Some(one) = self.ones.as_mut_slice().get_mut(number as usize) {
+            *one = last;
+        }
+    }
+
+    /// Who did it last to the file of a number.
+    pub fn of(&self, number: u32) -> Option<&Last> {
+        match self.ones.as_slice().get(number as usize) {
+            Some(Some(last)) => Some(last),
+            _ => None,
+        }
+    }
+}
+
+impl Last {
+    /// Appends the line: the path, the user, the session and the entry.
+    pub fn push(&self, out: &mut Vec<u8>) -> Result<(), AllocError> {
+        spell_path(out, &self.path)?;
+        push_word(out, "user")?;
+        push_number(out, u64::from(self.uid))?;
+        push_word(out, "session")?;
+        push_number(out, u64::from(self.session))?;
+        push_word(out, "entry")?;
+        push_number(out, self.entry)?;
+        Ok(out.push(b'\n')?)
+    }
+}

@@ -1,0 +1,11 @@
+//! An audit of a journal, line by line: whether it is legal, where it isn't, and what it tells of who did what.
+#![tactic(auto)]
+
+pub mod audit;
+pub mod denials;
+pub mod fault;
+pub mod last;
+pub mod lines;
+pub mod options;
+pub mod program;
+mod telling;

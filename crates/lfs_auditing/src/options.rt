@@ -1,0 +1,174 @@
+//! What the arguments of `lfs_audit_trail` ask for.
+
+ghost use Rattle.std.specs.Prelude.{IfOk};
+ghost use Rattle.lfs_auditing.specs.Ranges.{IsBetween, IsInRange};
+
+use clap::builder::ValueParser;
+use clap::error::ErrorKind;
+use clap::{Arg, ArgAction, ArgMatches, Command, Error};
+use std::alloc::{AllocError, Global};
+use std::convert::AsStr;
+
+/// An option that takes a number.
+#[derive(Clone, Copy)]
+struct NumberOption {
+    /// Its name.
+    name: &'static str,
+    /// The least number that it takes.
+    least: u32,
+    /// The greatest number that it takes.
+    most: u32,
+    /// The number where it is not given.
+    default: u32,
+    /// What `--help` tells of it.
+    help: &'static str,
+    /// What is told of a number that begins with a sign.
+    refusal: &'static str,
+}
+
+const SEGMENTS: NumberOption = NumberOption {
+    name: "segments",
+    least: 6,
+    most: 1024,
+    default: 64,
+    help: "How many segments the log of the volume had, 6 to 1024; by default 64",
+    refusal: "--segments takes a number of decimal digits alone, from 6 to 1024",
+};
+
+const INODES: NumberOption = NumberOption {
+    name: "inodes",
+    least: 16,
+    most: 4096,
+    default: 256,
+    help: "How many inode numbers the volume had, 16 to 4096; by default 256",
+    refusal: "--inodes takes a number of decimal digits alone, from 16 to 4096",
+};
+
+/// The word that names the file of the journal.
+const JOURNAL: &str = "journal";
+
+/// What `--help` tells behind the options.
+const MORE: &str = "Status 0: each entry is legal behind those before it; 1: one isn't, or a line tells none, or a fault;
+2: wrong arguments. The numbers are those that the volume was made with.
+
+Example: printf '0 as 0 0 | create /a 0644 | ok\\n' | lfs_audit_trail";
+
+/// What `lfs_audit_trail` is asked to do.
+#[derive(Clone, Copy, Debug)]
+pub struct Options<'a> {
+    /// How many inode numbers the volume had.
+    pub inodes: u32,
+    /// How many segments its log had.
+    pub segments: u32,
+    /// The file of the journal, where one is named.
+    pub journal: Option<&'a str>,
+}
+
+/// The options that words ask for; the first word is the program's name.
+///
+/// # Errors
+///
+/// What the parser tells, with its exit code: 2 for a word that is no option or a number out of its range, 0 for `--help`; or
+/// want of memory.
+pub fn options_of<'a, S: AsStr>(alloc: Global, words: &'a [S]) -> Result<Options<'a>, Error>
+    ensures { IfOk result IsInRange }
+{
+    let mut command = command(alloc)?;
+    let matches = command.try_get_matches_from_mut(words)?;
+    match numbers_in(&matches) {
+        Ok((inodes, segments)) => {
+            let journal = matches.get_str(JOURNAL);
+            Ok(Options {
+                inodes,
+                segments,
+                journal,
+            })
+        }
+        Err(refusal) => Err(wrong_value(&mut command, refusal)),
+    }
+}
+
+/// The fault of arguments that are no text.
+///
+/// # Errors
+///
+/// It is itself one, with exit code 2; or want of memory.
+pub fn not_utf8(alloc: Global) -> Error {
+    match command(alloc) {
+        Ok(mut command) => wrong_value(&mut command, "the arguments must be UTF-8"),
+        Err(error) => Error::from(error),
+    }
+}
+
+/// The error of a value that is refused, or want of memory.
+fn wrong_value(command: &mut Command<'_>, message: &str) -> Error {
+    match command.error(ErrorKind::ValueValidation, message) {
+        Ok(error) => error,
+        Err(error) => Error::from(error),
+    }
+}
+
+/// The inode numbers and the segments that the matches ask for, or what is told of the first that is refused.
+fn numbers_in(matches: &ArgMatches<'_>) -> Result<(u32, u32), &'static str>
+    ensures inodes { IfOk result (λ numbers. IsBetween 16 4096 numbers.0) }
+    ensures segments { IfOk result (λ numbers. IsBetween 6 1024 numbers.1) }
+{
+    let inodes = number(matches, &INODES)?;
+    let segments = number(matches, &SEGMENTS)?;
+    Ok((inodes, segments))
+}
+
+/// The number that the matches ask for by an option, its default where it is not given, or what is told where it is refused:
+/// it begins with a sign. The parser has read it as a number in its range, which no clause of its says.
+fn number(matches: &ArgMatches<'_>, option: &NumberOption) -> Result<u32, &'static str>
+    requires { IsBetween option.now.least option.now.most option.now.default }
+    ensures { IfOk result (IsBetween option.now.least option.now.most) }
+{
+    if has_sign(matches, option.name) {
+        return Err(option.refusal);
+    }
+    match matches.get_one::<u32>(option.name) {
+        None => Ok(option.default),
+        Some(number) if option.least <= number && number <= option.most => Ok(number),
+        Some(_) => Err(option.refusal),
+    }
+}
+
+/// Whether the value of an argument begins with a sign.
+fn has_sign(matches: &ArgMatches<'_>, name: &str) -> bool {
+    match matches.get_str(name) {
+        Some(text) => text.starts_with('+'),
+        None => false,
+    }
+}
+
+/// The command line.
+fn command<'a>(alloc: Global) -> Result<Command<'a>, AllocError> {
+    Command::new(alloc, "lfs_audit_trail")
+        .about(
+            "Reads the lines of a journal, says whether each entry is one that the rules allow, and reports who did what",
+        )
+        .after_help(MORE)
+        .arg(INODES.arg(alloc))?
+        .arg(SEGMENTS.arg(alloc))?
+        .arg(journal(alloc))
+}
+
+/// The word for the file of the journal.
+fn journal<'a>(alloc: Global) -> Arg<'a> {
+    Arg::new(alloc, JOURNAL)
+        .value_name("JOURNAL")
+        .action(ArgAction::Set)
+        .help("The file of the journal; without it, the journal is read from standard input")
+}
+
+impl NumberOption {
+    /// The option for the command line.
+    fn arg<'a>(self, alloc: Global) -> Arg<'a> {
+        Arg::new(alloc, self.name)
+            .long(self.name)
+            .value_name("N")
+            .value_parser(ValueParser::Unsigned(u64::from(self.least), u64::from(self.most)))
+            .help(self.help)
+    }
+}

@@ -1,0 +1,157 @@
+//! `lfs_audit_trail`: a journal is read, from standard input or from a file, and what is found is told.
+
+use crate::audit::{Audit, Stop};
+use crate::fault::AuditFault;
+use crate::options::{Options, not_utf8, options_of};
+use clap::Error;
+use clap::error::ErrorKind;
+use lfs_io::output::{flush, write_text};
+use lfs_io::tell::tell;
+use lfs_types::fault::FormatFault;
+use std::alloc::{AllocError, Global};
+use std::env::{self, Env};
+use std::fs::File;
+use std::io::{self, BufReader, Read, Write};
+use std::rt::Files;
+
+/// The program's name.
+const NAME: &str = "lfs_audit_trail";
+
+/// Does what the arguments of an environment ask `lfs_audit_trail` for, and gives the status with which it ends: 0 for a journal
+/// that is legal, and for help; 1 for one that isn't, for a line that tells no entry, and for a fault, told in a line on
+/// standard error; 2 for words that are refused.
+pub fn lfs_audit_trail<E, F, R, W, D>(
+    env: &E,
+    files: &F,
+    stdin: &mut R,
+    stdout: &mut W,
+    stderr: &mut D,
+) -> u8
+where
+    E: Env + AllocGlobal,
+    F: Files,
+    R: Read,
+    W: Write,
+    D: Write,
+{
+    let alloc = env.alloc();
+    let words = words(env);
+    match asked(alloc, &words) {
+        Ok(options) => match run(files, alloc, &options, stdin, stdout) {
+            Ok(status) => status,
+            Err(fault) => end(stderr, fault),
+        },
+        Err(error) => refuse(stdout, stderr, &error),
+    }
+}
+
+/// The status behind a fault, which is told.
+fn end<D: Write>(stderr: &mut D, fault: AuditFault) -> u8 {
+    let _ = tell(stderr, NAME, &fault);
+    1
+}
+
+/// Why there are no words.
+#[derive(Clone, Copy, Debug)]
+enum NoWords {
+    /// One is no text.
+    NotUtf8,
+    /// A growth was refused.
+    Memory,
+}
+
+impl From<AllocError> for NoWords {
+    fn from(_error: AllocError) -> NoWords {
+        NoWords::Memory
+    }
+}
+
+/// The words of a command line; the first is the program's name.
+fn words<E: Env + AllocGlobal>(env: &E) -> Result<Vec<String>, NoWords> {
+    match env::args(env) {
+        Ok(words) => Ok(words.collect::<Vec<_>>(env.alloc())?),
+        Err(error) if error.kind() == io::ErrorKind::OutOfMemory => Err(NoWords::Memory),
+        Err(_) => Err(NoWords::NotUtf8),
+    }
+}
+
+/// What the words of a command line ask for.
+fn asked<'a>(
+    alloc: Global,
+    words: &'a Result<Vec<String>, NoWords>,
+) -> Result<Options<'a>, Error> {
+    match words {
+        Ok(words) => options_of(alloc, words.as_slice()),
+        Err(NoWords::Memory) => Err(AllocError.into()),
+        Err(NoWords::NotUtf8) => Err(not_utf8(alloc)),
+    }
+}
+
+/// Tells what was asked for in place of an audit: the help, on standard output, and of words that were refused why, on standard
+/// error. Gives the status with which the program ends.
+fn refuse<W: Write, D: Write>(stdout: &mut W, stderr: &mut D, error: &Error) -> u8 {
+    match error.kind() {
+        ErrorKind::OutOfMemory => end(stderr, AuditFault::Memory),
+        ErrorKind::DisplayHelp => match write!(stdout, "{error}") {
+            Ok(()) => 0,
+            Err(_) => end(stderr, AuditFault::Write),
+        },
+        _ => {
+            let _ = write!(stderr, "{error}");
+            2
+        }
+    }
+}
+
+/// Audits the journal of the file that is named, or that of standard input. Gives the status with which the program ends.
+fn run<F: Files, R: Read, W: Write>(
+    files: &F,
+    alloc: Global,
+    options: &Options<'_>,
+    stdin: &mut R,
+    stdout: &mut W,
+) -> Result<u8, AuditFault> {
+    match options.journal {
+        Some(path) => match File::open(files, path) {
+            Ok(mut file) => audit(alloc, options, &mut file, stdout),
+            Err(_) => Err(AuditFault::Open),
+        },
+        None => audit(alloc, options, stdin, stdout),
+    }
+}
+
+/// Audits the journal of a reader, and writes what is found.
+pub fn audit<R: Read, W: Write>(
+    alloc: Global,
+    options: &Options<'_>,
+    reader: &mut R,
+    writer: &mut W,
+) -> Result<u8, AuditFault> {
+    let mut audit = fresh_audit(alloc, options)?;
+    let Ok(mut reader) = BufReader::new(alloc, reader) else {
+        return Err(AuditFault::Memory);
+    };
+    let stop = audit.read_journal(&mut reader)?;
+    let text = audit.tell(&stop)?;
+    write_text(writer, text.as_slice())?;
+    flush(writer)?;
+    Ok(status_of(&stop))
+}
+
+/// An audit of the journal of a volume of these numbers.
+fn fresh_audit(alloc: Global, options: &Options<'_>) -> Result<Audit, AuditFault> {
+    match Audit::new(alloc, options.inodes, options.segments) {
+        Ok(audit) => Ok(audit),
+        Err(FormatFault::TooFew | FormatFault::TooMany | FormatFault::Memory) => {
+            Err(AuditFault::Memory)
+        }
+    }
+}
+
+/// The status behind an audit that stopped there.
+fn status_of(stop: &Stop) -> u8 {
+    match stop {
+        Stop::End => 0,
+        Stop::Illegal(_) | Stop::Unread(_) => 1,
+    }
+}

@@ -1,0 +1,106 @@
+//! What an audit tells, as text.
+
+use crate::audit::{Audit, Stop};
+use crate::last::LastOnes;
+use lfs_journal_lines::telling::push_entry;
+use lfs_model::journal::{Entry, Event};
+use lfs_print::print::push_answer;
+use lfs_trace::checker::Checker;
+use lfs_types::cred::Cred;
+use lfs_types::request::Request;
+use lfs_why::lines::tell_explanation;
+use lfs_words::append::push_number;
+use std::alloc::{AllocError, Global};
+
+impl Audit {
+    /// The text of an audit that stopped there: what it found, and the report.
+    pub fn tell(&mut self, stop: &Stop) -> Result<Vec<u8>, AllocError> {
+        let mut text = Vec::new(self.alloc);
+        self.push_finding(&mut text, stop)?;
+        self.push_report(&mut text)?;
+        Ok(text)
+    }
+
+    /// Appends what an audit found.
+    fn push_finding(&mut self, out: &mut Vec<u8>, stop: &Stop) -> Result<(), AllocError> {
+        match stop {
+            Stop::End => push_legal(out, self.entries),
+            Stop::Illegal(entry) => {
+                push_place(out, "illegal", self.entries.saturating_add(1))?;
+                push_entry(out, entry)?;
+                self.push_rules(out, entry)
+            }
+            Stop::Unread(unread) => {
+                push_place(out, "unreadable", self.entries.saturating_add(1))?;
+                let fault = format!(in self.alloc; "{unread}\n")?;
+                out.extend_from_slice(fault.as_bytes())
+            }
+        }
+    }
+
+    /// Appends what the rules say of an entry of a user's call: their answer, and the checks that come to it.
+    fn push_rules(&mut self, out: &mut Vec<u8>, entry: &Entry) -> Result<(), AllocError> {
+        match &entry.event {
+            Event::User(request, _) => push_ruled(self.alloc, out, &mut self.checker, &entry.cred, request),
+            Event::Cleaner(..) => Ok(()),
+        }
+    }
+
+    /// Appends the report.
+    fn push_report(&mut self, out: &mut Vec<u8>) -> Result<(), AllocError> {
+        out.extend_from_slice(b"denied:\n")?;
+        self.denials.push(out)?;
+        out.extend_from_slice(b"changed last:\n")?;
+        push_last(out, &self.checker, self.numbers, &self.changed)?;
+        out.extend_from_slice(b"read last by others:\n")?;
+        push_last(out, &self.checker, self.numbers, &self.read)
+    }
+}
+
+/// Appends that so many entries are legal.
+fn push_legal(out: &mut Vec<u8>, entries: u64) -> Result<(), AllocError> {
+    out.extend_from_slice(b"legal")?;
+    push_number(out, entries)?;
+    out.extend_from_slice(b" entries\n")
+}
+
+/// Appends what was found of the entry of a number.
+fn push_place(out: &mut Vec<u8>, found: &str, number: u64) -> Result<(), AllocError> {
+    out.extend_from_slice(found.as_bytes())?;
+    out.extend_from_slice(b" entry")?;
+    push_number(out, number)?;
+    out.extend_from_slice(b": ")
+}
+
+/// Appends the answer of the rules to a call, and the checks that come to it.
+fn push_ruled(
+    alloc: Global,
+    out: &mut Vec<u8>,
+    checker: &mut Checker,
+    cred: &Cred,
+    request: &Request,
+) -> Result<(), AllocError> {
+    let answer = checker.ruled(cred, request)?;
+    out.extend_from_slice(b"by the rules:")?;
+    push_answer(out, &answer)?;
+    out.push(b'\n')?;
+    let explanation = checker.explain(cred, request)?;
+    let text = tell_explanation(alloc, &explanation, cred, request)?;
+    out.extend_from_slice(text.as_slice())
+}
+
+/// Appends a line for each file that is there and of which somebody is put down, by inode number.
+fn push_last(
+    out: &mut Vec<u8>,
+    checker: &Checker,
+    numbers: u32,
+    ones: &LastOnes,
+) -> Result<(), AllocError> {
+    for number in 0..numbers {
+        match ones.of(number) {
+            Some(last) if checker.is_used(number) => last.push(out)?,
+            _ => (),
+        }
+    }
+    Ok(())
+}

@@ -1,0 +1,2 @@
+mod CheckLemmas
+mod Uncrowded
