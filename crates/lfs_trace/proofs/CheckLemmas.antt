@@ -1,6 +1,6 @@
 -- What the answer of a call over a plain store says of an entry.
-use Rattle.std.proofs.Common.{◌≡◌, ◌≢◌, ◌<◌, ◌≤◌, ℕ, List, [], ◌∷◌, ◌++◌, length, None, Some, refl, sym, ap, subst, ◌∙◌, arith}
-use Rattle.std.specs.Prelude.{¬, Result, Ok, Err}
+use Rattle.std.proofs.Common.{◌≡◌, ◌≢◌, ℕ, List, None, Some, refl, sym, ap, subst, ◌∙◌, arith, ⊎_elim}
+use Rattle.std.specs.Prelude.{Result, Ok, Err, Option, MatchOption}
 use Rattle.lfs_types.specs.Caller.{Caller}
 use Rattle.lfs_types.specs.StoreStates.{Shape, StoreState}
 use Rattle.lfs_types.specs.Tree.{World}
@@ -14,13 +14,28 @@ use Rattle.lfs_types.specs.declared.request.Request.TheVariants.{Stat, Read, Wri
 use Rattle.lfs_model.specs.Effects.{answer_of}
 use Rattle.lfs_model.specs.Steps.{IsAnswer, after_answer}
 use Rattle.lfs_model.proofs.LevelLemmas.{level_after}
-use Rattle.lfs_calls.specs.Calls.{IsCallAt, LooksOn, answered}
+use Rattle.lfs_calls.specs.Calls.{IsCall, IsCallAt, LooksOn, answered}
 use Rattle.lfs_calls.specs.Content.{Shows}
 use Rattle.lfs_calls.specs.Outcomes.{IsOutcome}
 use Rattle.lfs_calls.specs.Volumes.{IsVolume}
 use Rattle.lfs_calls.specs.declared.not_served.NotServed.{NotServed}
 use Rattle.lfs_calls.specs.declared.not_served.NotServed.TheVariants as reasons
-use Rattle.lfs_trace.specs.Checking.{IsPlain, MayShow, level_behind}
+use Rattle.lfs_flatfiles.specs.FlatFiles.{opening_state}
+use Rattle.lfs_flatfiles.specs.declared.flat_files.FlatFiles.{FlatFiles}
+use Rattle.lfs_types.specs.Tree.{opening_world}
+use Rattle.lfs_types.specs.declared.attrs.Attrs.{Attrs}
+use Rattle.lfs_types.specs.declared.level.Level.TheVariants.{Insecure}
+use Rattle.lfs_types.specs.declared.answer.Served.TheVariants as shows
+use Rattle.lfs_explain.specs.declared.trail.ShownRow.{ShownRow}
+use Rattle.lfs_model.specs.declared.journal.Entry.{Entry}
+use Rattle.lfs_model.specs.declared.journal.Event.{Event}
+use Rattle.lfs_model.specs.declared.journal.Event.TheVariants.{User, Cleaner}
+use Rattle.lfs_model.specs.Rules.{decide}
+use Rattle.lfs_model.proofs.RunLemmas.{opening_tree}
+use Rattle.lfs_volume.proofs.OpeningLemmas.{shows_opening_state}
+use Rattle.lfs_trace.specs.declared.fault.EntryFault.{EntryFault}
+use Rattle.lfs_trace.specs.declared.fault.EntryFault.TheVariants.{Illegal}
+use Rattle.lfs_trace.specs.Checking.{IsChecked, IsPlain, IsRowAt, MayShow, StandsAt, level_behind, plain_state, standing, superuser}
 use Rattle.lfs_trace.specs.Judging.{IsOfRules, OneAnswer}
 use Rattle.lfs_trace.proofs.Uncrowded.{uncrowded}
 
@@ -50,7 +65,7 @@ same_volume old new w same v = record { shows = subst (λ c. Shows c w) (sym sam
 -- ---- a call over a plain store
 
 -- the answer is one of the rules, where memory was not wanting
-ruled : (s : StoreState) (w : World) (caller : Caller) (request : Request) (answer : Answer) → IsPlain s → IsVolume s w
+pub ruled : (s : StoreState) (w : World) (caller : Caller) (request : Request) (answer : Answer) → IsPlain s → IsVolume s w
     → IsOutcome s w caller request answer → answer ≢ Refused NoMemory → IsOfRules answer × IsAnswer s.shape.numbers w caller request answer
 ruled s w caller request (Served shown) plain v o enough = (tt, o.0)
 ruled s w caller request (Denied denial) plain v o enough = (tt, o)
@@ -94,3 +109,84 @@ pub left_alone : (level : Level) (old new : StoreState) (caller : Caller) (reque
 left_alone level old new caller request (Ok given) shown may other call w at v =
     unmade level old new caller request given shown may (λ same. other (ap Served same)) w v (call.outcome w v at).0.2 call.looks
 left_alone level old new caller request (Err why) shown may other call w at v = same_volume old new w call.halted v
+
+-- ---- what a checker says of a call that was made
+
+pub unserved_checked : OneAnswer → (old new : FlatFiles) (level : Level) (segments : ℕ) (caller : Caller) (request : Request) (made : Answer) (shown : Shown)
+    (fault : EntryFault) (result : Result Shown NotServed) → IsPlain (plain_state old) → MayShow request shown
+    → IsCallAt level (plain_state old) (plain_state new) caller request result → made ≡ answered result → made ≢ Served shown
+    → (fault ≡ Illegal → made ≢ Refused NoMemory)
+    → IsChecked (standing old level segments) (standing new level segments) caller (User request (Served shown)) (Err fault)
+unserved_checked one old new level segments caller request made shown fault result plain may call same other enough = record {
+  legal = tt;
+  leads = tt;
+  illegal = λ is w at. not_served_so one (plain_state old) w caller request made shown plain at.shown
+      (subst (IsOutcome (plain_state old) w caller request) (sym same) (call.outcome w at.shown at.at_level)) (enough (cc)) other;
+  stays = λ w at. record {
+    shown = left_alone level (plain_state old) (plain_state new) caller request result shown may (λ is. other (same ∙ is)) call w at.at_level at.shown;
+    at_level = at.at_level;
+  };
+  numbers = ap (λ (s : Shape). s.numbers) call.follows.shape;
+  segments = refl;
+}
+
+pub served_checked : (old new : FlatFiles) (level after : Level) (segments : ℕ) (caller : Caller) (request : Request) (made : Answer) (shown : Shown)
+    (result : Result Shown NotServed) → IsCallAt level (plain_state old) (plain_state new) caller request result → made ≡ answered result → made ≡ Served shown
+    → after ≡ level_behind level request
+    → IsChecked (standing old level segments) (standing new after segments) caller (User request (Served shown)) (Ok tt)
+served_checked old new level after segments caller request made shown result call same served sets =
+    let is : answered result ≡ Served shown = sym same ∙ served in
+    let numbers = (plain_state old).shape.numbers in
+    record {
+      legal = λ w at. (subst (IsOutcome (plain_state old) w caller request) is (call.outcome w at.shown at.at_level)).0;
+      leads = λ w at. record {
+        shown = subst (λ a. IsVolume (plain_state new) (after_answer numbers w caller request a)) is (call.leaves w at.shown);
+        at_level = served_level numbers w caller level request shown at.at_level ∙ sym sets;
+      };
+      illegal = λ no. absurd (cc);
+      stays = tt;
+      numbers = ap (λ (s : Shape). s.numbers) call.follows.shape;
+      segments = refl;
+    }
+
+-- ---- what an entry tells
+
+abbrev answer_in : Event → Answer → Answer
+answer_in (User request answer) other = answer
+answer_in (Cleaner kind outcome) other = other
+
+pub told_so : (entry : Entry) (request : Request) (made : Answer) (shown : Shown) → entry.event ≡ User request (Served shown)
+    → entry ≡ record { session = entry.session; cred = entry.cred; event = User request made } → made ≡ Served shown
+told_so entry request made shown told same = ap (λ e. answer_in e made) (sym (ap (λ (x : Entry). x.event) same) ∙ told)
+
+pub tells_so : (entry : Entry) (request : Request) (made : Answer) (shown : Shown) → entry.event ≡ User request (Served shown)
+    → made ≡ Served shown → entry ≡ record { session = entry.session; cred = entry.cred; event = User request made }
+tells_so entry request made shown told same = λ i. record { session = entry.session; cred = entry.cred; event = (told ∙ ap (User request) (sym same)) i }
+
+-- ---- the opening, and rows
+
+pub opening_stands : (store : FlatFiles) (numbers segments : ℕ) → plain_state store ≡ opening_state numbers → StandsAt (standing store Insecure segments) opening_world
+opening_stands store numbers segments same = record {
+  shown = record { shows = shows_opening_state (plain_state store) (opening_state numbers) same refl; tree = opening_tree };
+  at_level = refl;
+}
+
+unrow : (s : StoreState) (w : World) (caller : Caller) (path : List (List ℕ)) (result : Result Shown NotServed) → IsOutcome s w caller (Stat path) (answered result)
+    → ((number : ℕ) (attrs : Attrs) → ¬ (result ≡ Ok (shows.Stat number attrs))) → ¬ (decide w caller (Stat path) ≡ None)
+unrow s w caller path (Ok shown) o none allowed = none _ _ (ap Ok o.0.2)
+unrow s w caller path (Err (reasons.Denied denial)) o none allowed = let no = sym allowed ∙ o in absurd (cc)
+unrow s w caller path (Err (reasons.Refused NoMemory)) o none allowed = ⊎_elim (λ no. absurd no.1) (λ no. absurd no) o.3
+unrow s w caller path (Err (reasons.Refused NoSpace)) o none allowed = absurd o.0.1.1
+unrow s w caller path (Err (reasons.Refused NoInodes)) o none allowed = absurd o.1
+unrow s w caller path (Err (reasons.Refused DirectoryFull)) o none allowed = absurd o.1
+unrow s w caller path (Err (reasons.Refused JournalFull)) o none allowed = absurd o
+
+pub row_at : (s new : StoreState) (w : World) (caller : Caller) (path : List (List ℕ)) (result : Result Shown NotServed) (row : Option ShownRow)
+    → IsVolume s w → IsCall s new caller (Stat path) result → caller ≡ superuser
+    → MatchOption row ((number : ℕ) (attrs : Attrs) → ¬ (result ≡ Ok (shows.Stat number attrs))) (λ row. result ≡ Ok (shows.Stat row.number row.attrs))
+    → IsRowAt w path row
+row_at s new w caller path result None v call is told = λ allowed.
+    unrow s w caller path result ((call w.level).outcome w v refl) told (subst (λ c. decide w c (Stat path) ≡ None) (sym is) allowed)
+row_at s new w caller path result (Some row) v call is told =
+    let o = subst (λ r. IsOutcome s w caller (Stat path) (answered r)) told ((call w.level).outcome w v refl) in
+    (subst (λ c. decide w c (Stat path) ≡ None) is o.0.0, o.0.2)

@@ -1,7 +1,5 @@
 -- A plain store has fewer numbers than a file may have blocks, so that no directory of its tree is crowded.
-use Rattle.std.proofs.Common.{◌≡◌, ◌<◌, ◌≤◌, ℕ, length, get_or, None, Some, ⊎_elim, sym, ap, subst, ◌∙◌, arith}
-use Rattle.std.specs.Prelude.{¬, IsSome}
-use Rattle.std.specs.FinMap as map
+use Rattle.std.proofs.Common.{◌≤◌, ℕ, length, get_or, arith}
 use Rattle.std.proofs.lemmas.List.Elements.{Contains-get_or}
 use Rattle.std.proofs.lemmas.Map.Views.{length-le_from_below}
 use Rattle.lfs_types.proofs.Somewhere.{present}

@@ -1,11 +1,16 @@
 //! Entries that are judged by hand.
 
 use crate::answers::{is_as_made, may_be_refused, one_answer};
+use crate::checker::Checker;
 use crate::cleaning::is_cleaning;
+use crate::fault::TraceFault;
+use crate::trace::check_trace;
 use lfs_model::journal::{CleanerKind, CleanerOutcome, Entry, Event};
 use lfs_types::answer::{Answer, Resource, Served};
 use lfs_types::cleaner::CleanFault;
 use lfs_types::cred::Cred;
+use lfs_types::fault::FormatFault;
+use lfs_types::mode::Mode;
 use lfs_types::path::Path;
 use lfs_types::request::Request;
 use lfs_types::rule::{Denial, Rule};
@@ -133,4 +138,60 @@ fn cleaner_calls(rt: HostRuntime) {
         true,
     );
     expect(&rt, is_cleaning(16, 6, &user(&rt, 7), infos, active), false);
+}
+
+/// The entry of a call by user 7 in session 1, with this answer.
+fn entry_of(rt: &impl Abort, request: Request, answer: Answer) -> Entry {
+    Entry {
+        session: 1,
+        cred: user(rt, 7),
+        event: Event::User(request, answer),
+    }
+}
+
+/// A path.
+fn path(rt: &impl Abort, alloc: Global, text: &str) -> Path {
+    Path::parse(alloc, text).expect(rt, "a path")
+}
+
+/// The entries of a Mkdir of `/a` by user 7, denied as the root is the superuser's, and a Stat of `/a`.
+fn two_entries(rt: &impl Abort, alloc: Global, at: u32) -> [Entry; 2] {
+    let mkdir = Request::Mkdir {
+        path: path(rt, alloc, "/a"),
+        mode: Mode::new(0o755).expect(rt, "a mode"),
+    };
+    let stat = Request::Stat {
+        path: path(rt, alloc, "/a"),
+    };
+    [
+        entry_of(rt, mkdir, denied(Rule::GrantsWrite, 0)),
+        entry_of(rt, stat, denied(Rule::NameThere, at)),
+    ]
+}
+
+#[test]
+fn traces(rt: HostRuntime) {
+    let legal = two_entries(&rt, rt.alloc(), 1);
+    assert!(&rt; check_trace(rt.alloc(), 16, 6, &legal) == Ok(()));
+    let illegal = two_entries(&rt, rt.alloc(), 0);
+    assert!(&rt; check_trace(rt.alloc(), 16, 6, &illegal) == Err(TraceFault::Illegal(1)));
+    let few = check_trace(rt.alloc(), 15, 6, &legal);
+    assert!(&rt; few == Err(TraceFault::Volume(FormatFault::TooFew)));
+}
+
+#[test]
+fn a_checker_says_what_the_rules_answer(rt: HostRuntime) {
+    let alloc = rt.alloc();
+    let mut checker = Checker::new(alloc, 16, 6).expect(&rt, "a checker");
+    let root = path(&rt, alloc, "/");
+    let row = checker.row(&root).expect(&rt, "a row");
+    expect(&rt, row.number == 2 && checker.is_used(2), true);
+    expect(&rt, checker.is_used(4), false);
+    let list = Request::List { path: root };
+    let answer = checker.ruled(&user(&rt, 7), &list).expect(&rt, "memory");
+    let names = match answer {
+        Answer::Served(Served::Names(names)) => names,
+        _ => panic!(&rt; "no names"),
+    };
+    expect(&rt, names.as_slice().is_empty(), true);
 }

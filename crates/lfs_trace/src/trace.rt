@@ -1,7 +1,6 @@
 //! A trace checked whole.
 
-ghost use Rattle.std.specs.Prelude.{◌≡◌, ◌↔◌, ◌<◌, IfErr, IsErrOf, OnOk};
-ghost use Rattle.lfs_types.specs.Ranges.{least_inodes, most_inodes};
+ghost use Rattle.std.specs.Prelude.{◌≡◌, ℕ, IfErr, OnOk};
 ghost use Rattle.lfs_types.specs.Tree.{opening_world};
 ghost use Rattle.lfs_model.specs.Steps.{IsLegal};
 ghost use Rattle.lfs_trace.specs.Checking.{IsFirstIllegal};
