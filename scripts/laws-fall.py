@@ -4,7 +4,7 @@
 laws-fall.py [TRIALS [SEED]] takes the definitions of `laws_model.py`, the laws as tests of them that share none of their
 words, and a list of changes, each of one definition. Here stand the laws of words, denials and refusals, in `laws_calls.py` those of
 one call, with each rule left out in turn, and in `laws_runs.py` those over runs. For each change it tries the laws in TRIALS random
-trees with calls or a run (by default 1,000, some minutes), and prints which are false. Status 1 where a law is false of the
+trees with calls or a run (by default 600, some minutes), and prints which are false. Status 1 where a law is false of the
 definitions as they stand, where none falls with a change, or where a law falls with no change. It is a second reading of definitions
 and laws, not a proof: that is the check of `lfs_laws`.
 """
@@ -342,7 +342,7 @@ def fallen_with(change, trials, seed):
 
 
 def main():
-    trials, seed = (int(sys.argv[1]) if len(sys.argv) > 1 else 1_000), (sys.argv[2] if len(sys.argv) > 2 else "1")
+    trials, seed = (int(sys.argv[1]) if len(sys.argv) > 1 else 600), (sys.argv[2] if len(sys.argv) > 2 else "1")
     changes, seen = [None, *CHANGES, *RULE_CHANGES, *RUN_CHANGES], set()
     with Pool() as pool:
         waits = [(change, pool.apply_async(fallen_with, (change, trials, seed))) for change in changes]
