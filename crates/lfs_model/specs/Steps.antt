@@ -28,7 +28,7 @@ LacksInodes numbers w (Create path mode) = AllUsed numbers w.rows
 LacksInodes numbers w (Mkdir path mode) = AllUsed numbers w.rows
 LacksInodes numbers w request = ⊥
 
--- the call puts a new name in a directory that has at least 140, one for each block; a Rename, one that isn't there
+-- the call puts a new name in a directory that has at least 16,524, one for each block; a Rename, one that isn't there
 abbrev pub IsCrowded : World → Request → Type 0
 IsCrowded w (Create path mode) = FILE_BLOCKS ≤ length (children w.rows (reached w.rows root (front path)))
 IsCrowded w (Mkdir path mode) = FILE_BLOCKS ≤ length (children w.rows (reached w.rows root (front path)))
