@@ -186,6 +186,9 @@ def decides_nothing(m, w, c, rng, call):
 @of_calls
 def decides_alike(m, w, c, rng, call):
     name, path, *more = call
+    if name == "Write" and more[0] is not END and rng.random() < .5:
+        more[0] = LIMIT + rng.randrange(-3, 3)
+        call = (name, path, *more)
     size = len(w.rows[n].bytes) if name == "Write" and (n := leads(w.rows, path)[0]) else 0
     within = lambda place, data: (size if place is END else place) + len(data) <= LIMIT
     data, place = bytes(rng.randrange(4)), rng.choice([rng.randrange(9), LIMIT + rng.randrange(-6, 4)])
