@@ -5,7 +5,7 @@ use Rattle.std.proofs.lemmas.Bool.{cases_eq}
 use Rattle.std.specs.FinMap as map
 use Rattle.lfs_types.specs.Caller.{Caller}
 use Rattle.lfs_types.specs.Splicing.{splice}
-use Rattle.lfs_types.specs.Tree.{File, Row, World, root}
+use Rattle.lfs_types.specs.Tree.{File, Row, World, root, opening_world}
 use Rattle.lfs_types.specs.declared.answer.Answer.TheVariants.{Served, Denied, Refused}
 use Rattle.lfs_types.specs.declared.attrs.Kind.{Kind}
 use Rattle.lfs_types.specs.declared.attrs.Kind.TheVariants.{File as Regular, Directory}
@@ -20,13 +20,14 @@ use Rattle.lfs_model.specs.World.{Rows, child, file_at}
 use Rattle.lfs_model.specs.Rules.{attrs_at, reached, front, last, start_in}
 use Rattle.lfs_model.specs.Effects.{effect, after_rename, least_unused, with_file, with_place, without_row, mode_after, written, cut, given}
 use Rattle.lfs_model.specs.Steps.{AllUsed, IsEvent, IsLegal, LacksInodes, after_event, world_after}
-use Rattle.lfs_laws.specs.LawLastSet.{FlagsLastSet, Giving, GroupLastSet, IsAbout, IsLeft, IsSetLast, KindLastSet, LastSet, OwnerLastSet, PermissionsLastSet, PlaceLastSet, SetIdsLastSet, SetsAny, SetsTo, SizeLastSet, bits_taken, end_past, flags_given, group_given, kind_given, owner_given, permissions_given, place_given, set_ids_given, size_given}
+use Rattle.lfs_laws.specs.LawLastSet.{AllSetSinceOpening, SetSinceOpening, FlagsLastSet, Giving, GroupLastSet, IsAbout, IsLeft, IsSetLast, KindLastSet, LastSet, OwnerLastSet, PermissionsLastSet, PlaceLastSet, SetIdsLastSet, SetsAny, SetsTo, SizeLastSet, bits_taken, end_past, flags_given, group_given, kind_given, owner_given, permissions_given, place_given, set_ids_given, size_given}
 use Rattle.lfs_laws.specs.LawNew.{IsLeastUnused}
 use Rattle.lfs_laws.specs.LawsRuns.{IsServed}
 use Rattle.lfs_laws.proofs.CallLaws.{least_number}
 use Rattle.lfs_laws.proofs.Fates.{le-true}
 use Rattle.lfs_laws.proofs.LawBytes.{length-spliced, new_row, was}
 use Rattle.lfs_model.proofs.Children.{child-is}
+use Rattle.lfs_model.proofs.RunLemmas.{only_root}
 use Rattle.lfs_types.proofs.Maps.{get-insert_same, get-insert_other, get-remove_same, get-remove_other}
 use Rattle.lfs_types.proofs.Pieces.{length-resized}
 use Rattle.lfs_types.proofs.Somewhere.{none_there}
@@ -380,3 +381,23 @@ place_is numbers n w caller s request None at about e = absurd (cc)
 
 pub place_last_set : PlaceLastSet
 place_last_set = last_set (ℕ × List ℕ) (λ r. (r.parent, r.name)) place_given place_is
+
+-- ---- a fresh volume
+
+set_since_opening : (A : Type 0) (of : Row → A) (gives : Giving A) → LastSet A of gives → SetSinceOpening A of gives
+set_since_opening A of gives law numbers segments entries n r legal there other = ⊎_elim
+    (λ set. set)
+    (λ left. absurd (other (only_root n left.row left.there).0))
+    (law numbers segments entries opening_world n r legal there)
+
+pub all_set_since_opening : AllSetSinceOpening
+all_set_since_opening = record {
+  kind = set_since_opening Kind (λ r. r.file.kind) kind_given kind_last_set;
+  size = set_since_opening ℕ (λ r. length r.file.bytes) size_given size_last_set;
+  owner = set_since_opening ℕ (λ r. r.file.uid) owner_given owner_last_set;
+  group = set_since_opening ℕ (λ r. r.file.gid) group_given group_last_set;
+  permissions = set_since_opening ℕ (λ r. r.file.mode % 0o2000) permissions_given permissions_last_set;
+  set_ids = set_since_opening ℕ (λ r. r.file.mode / 0o2000) set_ids_given set_ids_last_set;
+  flags = set_since_opening ℕ (λ r. r.file.flags) flags_given flags_last_set;
+  place = set_since_opening (ℕ × List ℕ) (λ r. (r.parent, r.name)) place_given place_last_set;
+}

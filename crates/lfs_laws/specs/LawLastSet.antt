@@ -1,15 +1,15 @@
 -- Who set an attribute of a row last: its kind, size, owner, group, mode, flags or place.
-use Rattle.std.specs.Prelude.{◌≡◌, ◌⊎◌, ℕ, ◌+◌, ◌/◌, ◌%◌, ◌==◌, nat_le, List, [], ◌∷◌, ◌++◌, length, Option, None, Some, if◌then◌else◌}
+use Rattle.std.specs.Prelude.{◌≡◌, ◌≢◌, ◌⊎◌, ℕ, ◌+◌, ◌/◌, ◌%◌, ◌==◌, nat_le, List, [], ◌∷◌, ◌++◌, length, Option, None, Some, if◌then◌else◌}
 use Rattle.std.specs.FinMap as map
 use Rattle.lfs_types.specs.Caller.{Caller}
-use Rattle.lfs_types.specs.Tree.{Row, World, root}
+use Rattle.lfs_types.specs.Tree.{Row, World, root, opening_world}
 use Rattle.lfs_types.specs.declared.attrs.Kind.{Kind}
 use Rattle.lfs_types.specs.declared.attrs.Kind.TheVariants.{File as Regular, Directory}
 use Rattle.lfs_types.specs.declared.request.Request.{Request}
 use Rattle.lfs_types.specs.declared.request.Request.TheVariants.{Write, SetLength, Create, Mkdir, Rename, Chmod, Chown, Chflags}
 use Rattle.lfs_model.specs.declared.journal.Entry.{Entry}
 use Rattle.lfs_model.specs.Rules.{attrs_at, front, last, reached, start_in}
-use Rattle.lfs_model.specs.Steps.{IsLegal, after_event, world_after}
+use Rattle.lfs_model.specs.Steps.{IsLegal, after_event, world_after, world_of}
 use Rattle.lfs_laws.specs.LawNew.{IsLeastUnused}
 use Rattle.lfs_laws.specs.LawsRuns.{IsServed, NoneServed}
 
@@ -62,6 +62,15 @@ LastSet A of gives =
     → IsLegal numbers segments entries w
     → map.get (world_after numbers entries w).rows n ≡ Some r
     → IsSetLast A gives numbers entries w n (of r) ⊎ IsLeft A of gives numbers entries w n (of r)
+
+-- in a run from the opening world on, which has the root alone, it is the former for each row but the root
+abbrev pub SetSinceOpening : (A : Type 0) → (Row → A) → Giving A → Type 0
+SetSinceOpening A of gives =
+    (numbers segments : ℕ) (entries : List Entry) (n : ℕ) (r : Row)
+    → IsLegal numbers segments entries opening_world
+    → map.get (world_of numbers entries).rows n ≡ Some r
+    → n ≢ root
+    → IsSetLast A gives numbers entries opening_world n (of r)
 
 -- ---- kind and size
 
@@ -169,3 +178,16 @@ place_given w caller request = None
 
 abbrev pub PlaceLastSet : Type 0
 PlaceLastSet = LastSet (ℕ × List ℕ) (λ r. (r.parent, r.name)) place_given
+
+-- ---- a fresh volume
+
+-- each of these attributes of each row but the root was set by a call
+pub record AllSetSinceOpening : Type 0 where
+  pub kind : SetSinceOpening Kind (λ r. r.file.kind) kind_given
+  pub size : SetSinceOpening ℕ (λ r. length r.file.bytes) size_given
+  pub owner : SetSinceOpening ℕ (λ r. r.file.uid) owner_given
+  pub group : SetSinceOpening ℕ (λ r. r.file.gid) group_given
+  pub permissions : SetSinceOpening ℕ (λ r. r.file.mode % 0o2000) permissions_given
+  pub set_ids : SetSinceOpening ℕ (λ r. r.file.mode / 0o2000) set_ids_given
+  pub flags : SetSinceOpening ℕ (λ r. r.file.flags) flags_given
+  pub place : SetSinceOpening (ℕ × List ℕ) (λ r. (r.parent, r.name)) place_given

@@ -22,7 +22,7 @@ ghost use Rattle.lfs_laws.specs.LawGone.{Gone};
 ghost use Rattle.lfs_laws.specs.LawHidden.{HidesFromCall, HidesFromRun};
 ghost use Rattle.lfs_laws.specs.LawIdle.{CallersAlike, LevelsAlike, MarksAlike};
 ghost use Rattle.lfs_laws.specs.LawKept.{RowIsKept};
-ghost use Rattle.lfs_laws.specs.LawLastSet.{FlagsLastSet, GroupLastSet, KindLastSet, OwnerLastSet, PermissionsLastSet, PlaceLastSet, SetIdsLastSet, SizeLastSet};
+ghost use Rattle.lfs_laws.specs.LawLastSet.{AllSetSinceOpening, FlagsLastSet, GroupLastSet, KindLastSet, OwnerLastSet, PermissionsLastSet, PlaceLastSet, SetIdsLastSet, SizeLastSet};
 ghost use Rattle.lfs_laws.specs.LawLeads.{LeadsByNames, ShowsByNames};
 ghost use Rattle.lfs_laws.specs.LawLeadsOn.{PathLeadsOn, PathLeadsThrough};
 ghost use Rattle.lfs_laws.specs.LawLevel.{Relevelled};
@@ -266,7 +266,8 @@ pub fn last_written()
 /// tree that the run began with. What makes the row sets all: its kind, no bytes, the caller as owner, the parent's group, the mode of
 /// the call, no flags, its place. Besides, a Write that ends past the file's end sets the size to where it ends, and a SetLength to its
 /// length; a Chown sets owner and group; a Chmod the mode; a Chflags the flags; and a Rename from the row's path its place. Of set-id
-/// bits a row has none after a Write of a byte, a SetLength or a Chown of another than user 0.
+/// bits a row has none after a Write of a byte, a SetLength or a Chown of another than user 0. From a fresh volume's tree on, a call
+/// set each of these of each row but the root.
 pub fn last_set()
     ensures kind { KindLastSet }
     ensures size { SizeLastSet }
@@ -276,6 +277,7 @@ pub fn last_set()
     ensures set_ids { SetIdsLastSet }
     ensures flags { FlagsLastSet }
     ensures place { PlaceLastSet }
+    ensures opening { AllSetSinceOpening }
 {}
 
 /// An immutable file or directory stays in its directory with its name, its bytes and its attributes, whatever is
