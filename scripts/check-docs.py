@@ -5,8 +5,9 @@ A name between backticks that looks like a crate, a file, an item, a clause, a w
 in the repository; where the text says of which crate it is, in that crate. The crates of crates.txt, README's table and
 the map of docs/ARCHITECTURE.md must be the same, and a crate must lead to what it uses. Each wrong body must be named
 and replace a text that stands once, and each one that is named be there. Links must lead somewhere, no line may name a place of one machine, the tables of
-docs/TRUST.md must be those that scripts/reading-list.py makes, the tutorial shows its scripts as the gate runs them, and
-README.md with docs/*.md stays under 160 KiB.
+docs/TRUST.md must be those that scripts/reading-list.py makes, docs/SPEC.md is what scripts/spec-page.py makes, the
+tutorial shows its scripts as the gate runs them, and README.md with the pages of docs/ that are written by hand stays under
+160 KiB.
 
 Prints FILE:LINE: WHAT for each problem and ends with status 1, else one line.
 """
@@ -324,12 +325,16 @@ def main():
     check_edits(told)
     check_crates(told)
     check_tutorial(told)
-    size = sum(path.stat().st_size for path in [TOP / "README.md", *(TOP / "docs").glob("*.md")])
+    written = [TOP / "README.md", *(path for path in (TOP / "docs").glob("*.md") if path.name != "SPEC.md")]
+    size = sum(path.stat().st_size for path in written)
     if size >= MOST_BYTES:
         told(TOP / "README.md", 1, f"README.md and docs/*.md have {size} bytes, and may have {MOST_BYTES}")
     ran = subprocess.run([sys.executable, TOP / "scripts/reading-list.py", "--check"], capture_output=True, text=True)
     if ran.returncode:
         told(TOP / "docs/TRUST.md", 1, ran.stderr.strip())
+    ran = subprocess.run([sys.executable, TOP / "scripts/spec-page.py"], capture_output=True, text=True)
+    if ran.returncode:
+        told(TOP / "docs/SPEC.md", 1, ran.stdout.strip())
     if problems:
         print("\n".join(problems))
         return 1
