@@ -5,7 +5,7 @@ ghost use Rattle.lfs_logstore.specs.States.{opening_state};
 
 use crate::tests::expect_eq;
 use lfs_ifile::{SegState, SegUse, usage_in};
-use lfs_logstore::LogStore;
+use lfs_logstore::{LogStore, NotGainful};
 use lfs_types::attrs::{Attrs, Kind};
 use lfs_types::cleaned::CleanedStore;
 use lfs_types::cleaner::{BlockInfo, CleanFault, INODE_BLOCK, InfoList, MarkList, SINGLE_BLOCK};
@@ -320,4 +320,21 @@ fn a_new_file_has_no_address_before_a_sync(rt: HostRuntime) {
     expect_eq(&rt, store.sync().is_ok(), true);
     expect_row(&rt, &store, [0, 0, 0, 4, 0, 0, 0, 1, 0, 0, 0, 1]);
     expect_record_at(&rt, &store, 4);
+}
+
+/// Asserts what becomes of a try to gain room, and how many segments are clean behind it.
+fn expect_gain(rt: &impl Abort, store: &mut LogStore, wanted: Result<(), NotGainful>, clean: u32) {
+    expect_eq(rt, store.gain(), wanted);
+    expect_clean(rt, store, clean);
+}
+
+#[test]
+fn a_gain_takes_what_was_counted(rt: HostRuntime) {
+    let mut store = written_twice(&rt, rt.alloc());
+    expect_gain(&rt, &mut store, Ok(()), 4);
+    // A summary at block 130, and behind it file 4's record; the second segment takes nothing.
+    expect_record_at(&rt, &store, 131);
+    expect_gain(&rt, &mut store, Ok(()), 5);
+    expect_record_at(&rt, &store, 131);
+    expect_gain(&rt, &mut store, Err(NotGainful), 5);
 }
