@@ -186,12 +186,13 @@ def decides_nothing(m, w, c, rng, call):
 @of_calls
 def decides_alike(m, w, c, rng, call):
     name, path, *more = call
-    if name == "Write" and more[0] is not END and rng.random() < .5:
-        more[0] = LIMIT + rng.randrange(-3, 3)
+    near = lambda: (LIMIT + rng.randrange(-2, 3), rng.choice([b"", b"xy"]))
+    if name == "Write" and more[0] is not END and rng.random() < .7:
+        more = near()
         call = (name, path, *more)
     size = len(w.rows[n].bytes) if name == "Write" and (n := leads(w.rows, path)[0]) else 0
     within = lambda place, data: (size if place is END else place) + len(data) <= LIMIT
-    data, place = bytes(rng.randrange(4)), rng.choice([rng.randrange(9), LIMIT + rng.randrange(-6, 4)])
+    place, data = near() if rng.random() < .7 else (rng.randrange(9), bytes(rng.randrange(4)))
     other = {"Read": lambda: (7, 3), "Write": lambda: (END if more[0] is END else place, data), "SetLength": lambda: (rng.choice([7, LIMIT - 1, LIMIT + 9]),),
              "Create": lambda: (0o7,), "Mkdir": lambda: (0o7,), "Chmod": lambda: (0o7,), "Chown": lambda: (more[0], rng.choice(c.groups)),
              "Chflags": lambda: (more[0] ^ rng.choice([0x1, 0x2, 0x4]),)}.get(name, lambda: more)()
@@ -307,7 +308,7 @@ CHANGES = {
     "a Write past the limit is told N1": dict(denial=TOLD("Write", "Z1", "N1")),
     "an Unlink in a sticky directory is told O1": dict(denial=TOLD("Unlink", "Y1", "O1")),
     "K4 is told of the first path": dict(denial=lambda self, call, d: ("K4", 0, d[2]) if d[0] == "K4" else d),
-    "a Write of no bytes passes the limit": dict(denial=lambda self, call, d: None if d[0] == "Z1" and call[0] == "Write" and not call[3] else d),
+    "a Read and a Write of no bytes are allowed": dict(denial=lambda self, call, d: None if call[0] in ("Read", "Write") and not call[3] else d),
     "a Stat asks no search": without("S1", of="Stat"),
     "a List asks no read": without("M1", of="List"),
     "an Rmdir asks first whether it is empty": dict(decide=lambda self, w, c, call: next(
