@@ -15,7 +15,8 @@ TOP = Path(__file__).resolve().parent.parent
 TABLES = [
     ("A volume: `Volume::new`, `over`, `call`, `clean`, `run_steps` and `drain`, and the type of `Volume`",
      [("lfs_volume/src/volume.rt", ["new", "over", "call", "clean", "run_steps", "drain"], ["Model for Volume"])]),
-    ("Sessions on threads: `serve`", [("lfs_server/src/serve.rt", ["serve"], [])]),
+    ("Sessions on threads: `serve` and `serve_clients`",
+     [("lfs_server/src/serve.rt", ["serve"], []), ("lfs_server/src/live.rt", ["serve_clients"], [])]),
     ("Scripts and their texts: `run_script` and `run_threads`",
      [("lfs_audit/src/run.rt", ["run_script"], []), ("lfs_audit/src/threads.rt", ["run_threads"], [])]),
     ("The log's own relations: the type of `LogStore`, and what its cleaner's calls mean",

@@ -1,6 +1,6 @@
 //! When a pass is wanted, and as whom the cleaner calls.
 
-ghost use Rattle.std.specs.Prelude.{◌≡◌, ◌↔◌, ◌<◌, ◌≤◌, ◌⊎◌, IsTrue};
+ghost use Rattle.std.specs.Prelude.{◌≡◌, ◌↔◌, ◌<◌, ◌≤◌, ◌⊎◌, [], ◌∷◌, false, IsTrue};
 
 use lfs_types::answer::{Answer, Resource};
 use lfs_types::cred::Cred;
@@ -24,9 +24,9 @@ fn is_no_space(answer: &Answer) -> bool
     matches!(answer, Answer::Refused(Resource::NoSpace))
 }
 
-/// The credential of the cleaner, which is user 0.
+/// The credential of the cleaner: user 0 with group 0 alone, and not init.
 pub fn superuser() -> Cred
-    ensures { result.uid ≡ 0 }
+    ensures { result ≡ record { uid = 0; groups = 0 ∷ []; init = false } }
 {
     match Cred::new(0, &[0], false) {
         Ok(cred) => cred,

@@ -1,9 +1,12 @@
 -- Why a run is not handed out.
-use Rattle.std.specs.Prelude.{◌≡◌, ℕ, ◌<◌, ◌≤◌, ◌⊎◌}
+use Rattle.std.specs.Prelude.{◌≡◌, ℕ, ◌<◌, ◌≤◌, ◌⊎◌, List}
 use Rattle.lfs_types.specs.declared.fault.FormatFault.{FormatFault}
 use Rattle.lfs_types.specs.declared.fault.FormatFault.TheVariants.{TooFew, TooMany}
 use Rattle.lfs_types.specs.declared.fault.FormatFault.TheVariants as formats
+use Rattle.lfs_model.specs.declared.journal.Entry.{Entry}
 use Rattle.lfs_settle.specs.Interleaving.{IsLowestToDiffer, Run}
+use Rattle.lfs_settle.specs.Settled.{Differs}
+use Rattle.lfs_settle.specs.declared.transcripts.Transcript.{Transcript}
 use Rattle.lfs_staging.specs.Opening.{IsTooFew, IsTooMany}
 use Rattle.lfs_server.specs.declared.serving.ServeFault.{ServeFault}
 use Rattle.lfs_server.specs.declared.serving.ServeFault.TheVariants.{Sessions, Format, Memory, Unsettled}
@@ -43,3 +46,8 @@ IsServeFault sessions segments inodes frames (Format TooFew) = IsTooFew segments
 IsServeFault sessions segments inodes frames (Format TooMany) = IsTooMany segments inodes frames × (0 < sessions) × (sessions ≤ 8)
 IsServeFault sessions segments inodes frames (Format fault) = ⊥
 IsServeFault sessions segments inodes frames fault = (0 < sessions) × (sessions ≤ 8) × IsInRange segments inodes frames
+
+-- the fault of stopping a server whose journal and limit these are: it names a session whose transcript the journal hasn't
+abbrev pub IsStopFault : List Entry → ℕ → List Transcript → ServeFault → Type 0
+IsStopFault journal limit transcripts (Unsettled session) = Differs journal limit transcripts session
+IsStopFault journal limit transcripts fault = ⊥

@@ -21,7 +21,7 @@ impl Gate for () {
 
 /// The turns of a session at a gate.
 #[derive(Drop)]
-pub(crate) struct Turns {
+pub struct Turns {
     /// The session.
     session: u8,
     /// The index of its next call.
@@ -46,7 +46,22 @@ impl Turns {
         gate.before(self.session, self.index);
         let answer = call();
         gate.after(self.session, self.index);
-        self.index = self.index.saturating_add(1);
+        self.step();
         answer
+    }
+
+    /// The session, and the index of its next call.
+    pub(crate) fn next(&self) -> (u8, u32)
+        ensures { result ≡ (self.now.session, self.now.index) }
+    {
+        (self.session, self.index)
+    }
+
+    /// The next call is made.
+    pub(crate) fn step(&mut self)
+        ensures { self.new ≡ record
+            { session = self.old.session; index = min (self.old.index + 1) 4294967295 } }
+    {
+        self.index = self.index.saturating_add(1);
     }
 }

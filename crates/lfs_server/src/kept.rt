@@ -1,11 +1,17 @@
 //! The volume as it stands behind the lock: its type keeps what no call changes.
 
-ghost use Rattle.std.specs.Prelude.{◌≡◌, ◌↔◌, ◌<◌, ◌≤◌, ◌++◌, ◌⊎◌, IsTrue};
+ghost use Rattle.std.specs.Prelude.{◌≡◌, ◌↔◌, ◌<◌, ◌≤◌, ◌++◌, ◌⊎◌, IsTrue, length};
 ghost use Rattle.lfs_model.specs.Runs.{kept_cleaning, kept_entry};
+ghost use Rattle.lfs_calls.specs.Outcomes.{IsOutcome};
+ghost use Rattle.lfs_volume.specs.Cleanings.{IsCleanerAnswer, cleaner_of};
+ghost use Rattle.lfs_volume.specs.Journals.{AtPresent};
+ghost use Rattle.lfs_server.specs.Telling.{HasRoom, IsTold};
 
+use crate::telling::keep;
 use lfs_cleaner::wanting::is_wanted;
 use lfs_model::journal::CleanerAnswer;
 use lfs_settle::entries::CLEANER;
+use lfs_settle::transcripts::Transcript;
 use lfs_types::answer::{Answer, Resource};
 use lfs_types::cleaned::CleanedStore;
 use lfs_types::cleaner::CleanerCall;
@@ -96,6 +102,10 @@ impl<S: Sizes, F: FileStore + Drop> Kept<S, F> {
     /// Makes a user's call, and says whether the cleaner is wanted after it: it was refused for want of space, or it
     /// lowered the clean segments to three or fewer.
     pub fn call(&mut self, session: u8, cred: &Cred, request: Request) -> (Answer, bool)
+        ensures full { (result.0 ≡ Answer.Refused Resource.JournalFull)
+            ↔ (length self.old.journal ≡ self.old.limit) }
+        ensures outcome { length self.old.journal < self.old.limit → AtPresent F.state self.old
+            (λ w. IsOutcome (F.state self.old.store) w cred.now request result.0) }
         ensures entered { self.new.journal ≡ self.old.journal
             ++ kept_entry session cred.now request result.0 }
         ensures wanted { IsTrue result.1 ↔ ((result.0 ≡ Answer.Refused Resource.NoSpace)
@@ -107,12 +117,34 @@ impl<S: Sizes, F: FileStore + Drop> Kept<S, F> {
         let wants_cleaner = is_wanted(&answer, before, self.volume.clean_segments());
         (answer, wants_cleaner)
     }
+
+    /// Makes the next call of a session, of a copy of what it asks, and keeps it with its answer in the session's
+    /// transcript, which has room for both. Says whether the cleaner is wanted after it.
+    pub fn tell(
+        &mut self,
+        transcript: &mut Transcript,
+        call: (Cred, Request),
+        copy: Request,
+    ) -> bool
+        requires copy { copy ≡ call.1 }
+        requires room { HasRoom transcript.old }
+        ensures told { IsTold self.old.journal self.new.journal call transcript.old transcript.new }
+    {
+        let (answer, wants_cleaner) = self.call(transcript.session, &call.0, copy);
+        keep(transcript, call, answer);
+        wants_cleaner
+    }
 }
 
 impl<S: Sizes, F: CleanedStore + Drop> Kept<S, F> {
     /// Makes a call of the cleaner, in its session.
     pub fn clean(&mut self, cred: &Cred, call: CleanerCall) -> CleanerAnswer
-        ensures { self.new.journal ≡ self.old.journal
+        ensures full { (result ≡ CleanerAnswer.Refused Resource.JournalFull)
+            ↔ (length self.old.journal ≡ self.old.limit) }
+        ensures answered { length self.old.journal < self.old.limit → IsCleanerAnswer
+            (cleaner_of F.state F.is_settled F.cleaner)
+            self.old.store cred.now call result self.new.store }
+        ensures entered { self.new.journal ≡ self.old.journal
             ++ kept_cleaning 255 cred.now call result }
     {
         self.volume.clean(CLEANER, cred, call)

@@ -6,11 +6,17 @@ mod doorbell;
 pub mod fresh;
 pub mod gate;
 mod kept;
+pub mod live;
+mod live_server;
+pub mod live_session;
 mod run;
+mod running;
 pub mod serve;
 pub mod serving;
 mod session;
 pub mod settle;
+mod telling;
 
 pub use lfs_cleaner::pass;
+pub use lfs_settle::transcripts;
 pub use lfs_types::script;

@@ -274,7 +274,7 @@ where
 }
 
 /// Starts the cleaner on a thread of its own.
-fn start_cleaner<'s, E, S, R, F, G>(
+pub(crate) fn start_cleaner<'s, E, S, R, F, G>(
     scope: &Scope<'s, E>,
     run: &'s Run<'s, R, G>,
     volume: &'s Mutex<Kept<S, F>>,

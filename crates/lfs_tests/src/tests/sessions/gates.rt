@@ -15,11 +15,11 @@ use std::thread::Threads;
 /// Holds the first call of each of two sessions until the other's is begun, and the second until the other's first is
 /// made.
 #[derive(Drop)]
-struct Meeting<'a, R: Wait> {
+pub struct Meeting<'a, R: Wait> {
     /// The calls that are begun.
-    begun: Watch<'a, R>,
+    pub begun: Watch<'a, R>,
     /// The first calls that are made.
-    made: Watch<'a, R>,
+    pub made: Watch<'a, R>,
 }
 
 impl<'a, R: Wait + Sync> Gate for Meeting<'a, R> {

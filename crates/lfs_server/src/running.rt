@@ -1,0 +1,137 @@
+//! A live server from its start to its stop.
+
+ghost use Rattle.std.specs.Prelude.{◌≡◌, [], IfErr, IfOk};
+ghost use Rattle.lfs_settle.specs.Settled.{IsInterleavingOf};
+ghost use Rattle.lfs_volume.specs.Journals.{IsJournal, Since};
+ghost use Rattle.lfs_server.specs.Serving.{IsRunFault, IsStopFault};
+
+use crate::doorbell::{Button, Rings, doorbell};
+use crate::gate::Gate;
+use crate::kept::{Kept, Sizes};
+use crate::live::{Clients, Stopped};
+use crate::live_server::{Server, Told};
+use crate::run::Run;
+use crate::serving::{ServeFault, start_cleaner};
+use lfs_settle::entries::Unsettled;
+use lfs_settle::transcripts::{Transcript, settle_transcripts};
+use lfs_types::cleaned::CleanedStore;
+use lfs_types::store::FileStore;
+use lfs_volume::volume::Volume;
+use std::sync::{Mutex, Wait};
+use std::thread;
+use std::thread::Threads;
+
+/// Lets clients use a server over a volume of these sizes, and hands out what they leave.
+pub fn serve_kept<S, R, F, C, G>(
+    run: &Run<'_, R, G>,
+    volume: Volume<F>,
+    clients: C,
+) -> Result<Stopped<F>, ServeFault>
+where
+    S: Sizes + Send,
+    R: Threads + Wait + Sync,
+    F: CleanedStore + Send + Drop,
+    C: Clients + Drop,
+    G: Gate,
+    requires shaped { (F.state volume.store).shape ≡ S.shape }
+    requires limited { volume.limit ≡ S.limit }
+    requires begun { F.state volume.since ≡ S.since }
+    requires begun_level { volume.since_level ≡ S.since_level }
+    ensures settled { IfOk result (λ stopped. IsInterleavingOf
+        stopped.volume.journal stopped.volume.limit stopped.transcripts.items) }
+    ensures limit { IfOk result (λ stopped. stopped.volume.limit ≡ S.limit) }
+    ensures shape { IfOk result (λ stopped. (F.state stopped.volume.store).shape ≡ S.shape) }
+    ensures since { IfOk result (λ stopped. F.state stopped.volume.since ≡ S.since) }
+    ensures since_level { IfOk result (λ stopped. stopped.volume.since_level ≡ S.since_level) }
+    ensures legal { IfOk result (λ stopped.
+        Since (F.state stopped.volume.since) stopped.volume.since_level (λ from. IsJournal from
+        (F.state stopped.volume.store) stopped.volume.level
+        stopped.volume.journal stopped.volume.limit)) }
+    ensures fault { IfErr result IsRunFault }
+{
+    let (button, rings) = doorbell(run.alloc)?;
+    let volume = Mutex::new(Kept::<S, F>::new(volume));
+    let told = Mutex::new(Told::none(run.alloc));
+    run_clients(run, &volume, &told, button, &rings, clients)?;
+    stop(
+        volume.into_inner().into_volume(),
+        told.into_inner().into_transcripts(),
+    )
+}
+
+/// Runs the clients, and the cleaner on a thread of its own, until both have ended.
+fn run_clients<S, R, F, C, G>(
+    run: &Run<'_, R, G>,
+    volume: &Mutex<Kept<S, F>>,
+    told: &Mutex<Told>,
+    button: Button,
+    rings: &Rings,
+    clients: C,
+) -> Result<(), ServeFault>
+where
+    S: Sizes + Send,
+    R: Threads + Wait + Sync,
+    F: CleanedStore + Send + Drop,
+    C: Clients + Drop,
+    G: Gate,
+    ensures { IfErr result IsRunFault }
+{
+    button.ring(run.rt);
+    thread::scope(
+        thread::scope_env(),
+        run.rt,
+        move |scope| -> Result<(), ServeFault>
+            ensures { IfErr result IsRunFault }
+        {
+            start_cleaner(scope, run, volume, rings)?;
+            let server = Server {
+                run,
+                volume,
+                told,
+                button,
+            };
+            attend(server, clients);
+            Ok(())
+        },
+    )
+}
+
+/// Runs the clients on a server. Behind them its button is gone, so that the cleaner ends.
+fn attend<S, R, F, C, G>(server: Server<'_, S, R, F, G>, clients: C)
+where
+    S: Sizes + Send,
+    R: Threads + Wait + Sync,
+    F: CleanedStore + Send + Drop,
+    C: Clients + Drop,
+    G: Gate,
+{
+    clients.run(&server);
+}
+
+/// Hands out a volume whose journal is an interleaving of these transcripts and of the cleaner's calls.
+fn stop<F: FileStore + Drop>(
+    volume: Volume<F>,
+    transcripts: Vec<Transcript>,
+) -> Result<Stopped<F>, ServeFault>
+    ensures volume { IfOk result (λ stopped. stopped.volume ≡ volume) }
+    ensures settled { IfOk result (λ stopped. IsInterleavingOf
+        stopped.volume.journal stopped.volume.limit stopped.transcripts.items) }
+    ensures legal { IfOk result (λ stopped.
+        Since (F.state stopped.volume.since) stopped.volume.since_level (λ from. IsJournal from
+        (F.state stopped.volume.store) stopped.volume.level
+        stopped.volume.journal stopped.volume.limit)) }
+    ensures fault { IfErr result (IsStopFault volume.journal volume.limit transcripts.items) }
+{
+    let settled = settle_transcripts(
+        volume.journal(),
+        volume.journal_limit(),
+        transcripts.as_slice(),
+    );
+    match settled {
+        Ok(()) => Ok(Stopped {
+            volume,
+            transcripts,
+        }),
+        Err(Unsettled(session)) => Err(ServeFault::Unsettled(session)),
+    }
+}
