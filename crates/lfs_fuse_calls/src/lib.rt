@@ -1,0 +1,9 @@
+//! A message of a kernel as the calls that it asks for, and answers as what the kernel is told. Nothing here has a volume.
+#![tactic(auto)]
+
+pub mod asked;
+pub mod attr;
+pub mod caller;
+pub mod errors;
+pub mod pieces;
+pub mod shown;
