@@ -2,5 +2,8 @@ pub mod Asked
 pub mod Attrs
 pub mod Callers
 pub mod Errors
+pub mod Paths
 pub mod Pieces
 pub mod Shown
+pub mod Telling
+pub mod Told

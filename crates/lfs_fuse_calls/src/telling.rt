@@ -1,0 +1,135 @@
+//! What a kernel is told of answers.
+
+ghost use Rattle.std.specs.Prelude.{◌≡◌, ◌*◌, ◌≤◌, min, length};
+ghost use Rattle.lfs_fuse_calls.specs.Telling.{TellsBytes, access_told, attr_told, count_served, grant_told, is_granted, or_else, refusal_at_once, refusal_in, seen_in, seen_of, written_by};
+ghost use Rattle.lfs_fuse_calls.specs.Shown.{all_bytes};
+
+use crate::attr::attr;
+use crate::errors::refusal;
+use crate::shown::{all_bytes, is_served};
+use crate::told::Told;
+use lfs_fuse_reply::errno::Errno;
+use lfs_fuse_wire::attributes::Access;
+use lfs_rules::access::grants;
+use lfs_types::answer::{Answer, Served};
+use lfs_types::attrs::{Attrs, Bit};
+use lfs_types::cred::Cred;
+use std::alloc::Global;
+
+/// What a Stat shows.
+#[derive(Clone, Copy)]
+pub struct Seen {
+    /// The inode number.
+    pub number: u32,
+    /// The attributes.
+    pub attrs: Attrs,
+}
+
+/// What the first of the Stats among answers shows.
+pub fn seen_in(answers: &[Answer]) -> Option<Seen>
+    ensures { result ≡ seen_in answers.now }
+{
+    let mut rest = answers;
+    while let Some((first, behind)) = rest.split_first() {
+        if let Answer::Served(Served::Stat(number, attrs)) = first {
+            return Some(Seen {
+                number: *number,
+                attrs: *attrs,
+            });
+        }
+        rest = behind;
+    }
+    None
+}
+
+/// The error of the first answer that isn't served.
+pub fn refusal_in(answers: &[Answer]) -> Option<Errno>
+    ensures { result ≡ refusal_in answers.now }
+{
+    let mut rest = answers;
+    while let Some((first, behind)) = rest.split_first() {
+        if let Some(errno) = refusal(first) {
+            return Some(errno);
+        }
+        rest = behind;
+    }
+    None
+}
+
+/// The error of the first answer, if that isn't served.
+pub fn refusal_at_once(answers: &[Answer]) -> Option<Errno>
+    ensures { result ≡ refusal_at_once answers.now }
+{
+    match answers.split_first() {
+        Some((first, _)) => refusal(first),
+        None => None,
+    }
+}
+
+/// How many answers are served, counted up to 32.
+fn count_served(answers: &[Answer]) -> usize
+    ensures count { result ≡ min 32 (count_served answers.now) }
+    ensures few { result ≤ 32 }
+{
+    let mut count = 0;
+    let mut rest = answers;
+    while let Some((first, behind)) = rest.split_first() {
+        if is_served(first) && count < 32 {
+            count += 1;
+        }
+        rest = behind;
+    }
+    count
+}
+
+/// How many of so many bytes were written.
+pub fn written_by(size: usize, answers: &[Answer]) -> u32
+    ensures { result ≡ written_by size answers.now }
+{
+    (4_096 * count_served(answers)).min(size) as u32
+}
+
+/// Whether a mode grants what is asked.
+fn is_granted(cred: &Cred, wanted: &Access, attrs: &Attrs) -> bool
+    ensures { result ≡ is_granted cred.now wanted.now attrs.now }
+{
+    (!wanted.read || grants(attrs, cred, Bit::Read))
+        && (!wanted.write || grants(attrs, cred, Bit::Write))
+        && (!wanted.execute || grants(attrs, cred, Bit::Search))
+}
+
+/// Whether a user may do what he asks, by what a Stat shows.
+pub fn access_told(cred: &Cred, wanted: &Access, answers: &[Answer]) -> Told
+    ensures { result ≡ access_told cred.now wanted.now (seen_in answers.now) }
+{
+    match seen_in(answers) {
+        Some(seen) => {
+            if is_granted(cred, wanted, &seen.attrs) {
+                Told::Done
+            } else {
+                Told::Error(Errno::EACCES)
+            }
+        }
+        None => Told::Error(Errno::EIO),
+    }
+}
+
+/// The attributes that a Stat shows.
+pub fn attr_told(answers: &[Answer]) -> Told
+    ensures { result ≡ attr_told (seen_in answers.now) }
+{
+    match seen_in(answers) {
+        Some(seen) => Told::Attr(attr(seen.number, &seen.attrs)),
+        None => Told::Error(Errno::EIO),
+    }
+}
+
+/// The bytes that Reads show, one behind the other.
+pub fn bytes_told(alloc: Global, answers: &[Answer]) -> Told
+    ensures { TellsBytes (all_bytes answers.now) result }
+{
+    match all_bytes(alloc, answers) {
+        Ok(bytes) => Told::Bytes(bytes),
+        Err(_) => Told::Error(Errno::ENOMEM),
+    }
+}
