@@ -1,5 +1,5 @@
 -- The paths of nodes.
-use Rattle.std.specs.Prelude.{◌≡◌, ℕ, List, [], ◌∷◌, ◌++◌, Option, None, Some, Ok}
+use Rattle.std.specs.Prelude.{◌≡◌, ℕ, List, ◌++◌, Option, Ok}
 use Rattle.std.specs.Option.{option_to_list}
 use Rattle.lfs_types.specs.Paths.{path_text}
 use Rattle.lfs_nodes.specs.declared.node.Hang.{Hang}

@@ -1,9 +1,9 @@
 -- What answers show.
-use Rattle.std.specs.Prelude.{ℕ, ◌*◌, ◌==◌, min, Bool, true, false, List, [], ◌∷◌, length, Option, None, Some}
+use Rattle.std.specs.Prelude.{ℕ, ◌==◌, Bool, true, false, List, [], length, Option, None, Some}
 use Rattle.std.specs.List.{flat_map}
 use Rattle.lfs_types.specs.declared.answer.Answer.{Answer}
 use Rattle.lfs_types.specs.declared.answer.Answer.TheVariants as answers
-use Rattle.lfs_types.specs.declared.answer.Served.TheVariants.{Stat, Bytes, Names, Done}
+use Rattle.lfs_types.specs.declared.answer.Served.TheVariants.{Bytes}
 use Rattle.lfs_types.specs.declared.request.Request.{Request}
 use Rattle.lfs_types.specs.declared.request.Request.TheVariants.{Read}
 

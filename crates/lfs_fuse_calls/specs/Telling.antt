@@ -1,6 +1,5 @@
 -- What a kernel is told of the answers to the calls of a message.
-use Rattle.std.specs.Prelude.{◌≡◌, ℕ, ◌+◌, ◌*◌, min, ◌==◌, Bool, true, false, ◌&&◌, ◌||◌, not, List, [], ◌∷◌, length, Option, None, Some, if◌then◌else◌, ⊤}
-use Rattle.std.specs.Option.{option_map}
+use Rattle.std.specs.Prelude.{◌≡◌, ℕ, ◌+◌, ◌*◌, min, Bool, true, false, ◌&&◌, ◌||◌, not, List, [], ◌∷◌, length, Option, None, Some, if◌then◌else◌, ⊤}
 use Rattle.lfs_types.specs.Caller.{Caller}
 use Rattle.lfs_types.specs.declared.answer.Answer.{Answer}
 use Rattle.lfs_types.specs.declared.answer.Answer.TheVariants as answers
@@ -9,7 +8,7 @@ use Rattle.lfs_types.specs.declared.attrs.Attrs.{Attrs}
 use Rattle.lfs_types.specs.declared.attrs.Bit.TheVariants as bit
 use Rattle.lfs_rules.specs.Grants.{grants_of}
 use Rattle.lfs_fuse_wire.specs.declared.attributes.Access.{Access}
-use Rattle.lfs_fuse_wire.specs.Said.{Said, lookup, getattr, access, mknod, mkdir, create, unlink, rmdir, rename, opening, read, write, opendir, fsync, fsyncdir, setattr}
+use Rattle.lfs_fuse_wire.specs.Said.{Said, lookup, getattr, access, mknod, mkdir, create, unlink, rmdir, opening, read, write, opendir}
 use Rattle.lfs_fuse_reply.specs.declared.errno.Errno.{Errno}
 use Rattle.lfs_fuse_reply.specs.declared.errno.Errno.TheVariants as errno
 use Rattle.lfs_fuse_reply.specs.declared.reply.Opened.{Opened}
@@ -74,12 +73,26 @@ TellsEntry (Some seen) (told.Entry entry) = entry.attr ≡ attr_of seen.number s
 TellsEntry (Some seen) (told.Error errno.ESTALE) = ⊤
 TellsEntry (Some seen) (told.Error errno.EOVERFLOW) = ⊤
 TellsEntry (Some seen) (told.Error errno.ENOMEM) = ⊤
+TellsEntry (Some seen) (told.Error errno.EIO) = ⊤
 TellsEntry None (told.Error errno.EIO) = ⊤
 TellsEntry seen reply = ⊥
 
+-- the same of a file that is opened too
 abbrev pub TellsCreated : Option Seen → Told → Type 0
 TellsCreated (Some seen) (told.Create entry opened) = (entry.attr ≡ attr_of seen.number seen.attrs) × (opened ≡ opened_file)
-TellsCreated seen reply = TellsEntry None reply
+TellsCreated (Some seen) (told.Error errno.ESTALE) = ⊤
+TellsCreated (Some seen) (told.Error errno.EOVERFLOW) = ⊤
+TellsCreated (Some seen) (told.Error errno.ENOMEM) = ⊤
+TellsCreated (Some seen) (told.Error errno.EIO) = ⊤
+TellsCreated None (told.Error errno.EIO) = ⊤
+TellsCreated seen reply = ⊥
+
+-- a directory's handle, or want of memory for its names
+abbrev pub TellsListing : Told → Type 0
+TellsListing (told.Open opened) = opened.direct_io ≡ false
+TellsListing (told.Error errno.ENOMEM) = ⊤
+TellsListing (told.Error errno.EIO) = ⊤
+TellsListing reply = ⊥
 
 abbrev pub attr_told : Option Seen → Told
 attr_told (Some seen) = told.Attr (attr_of seen.number seen.attrs)
@@ -94,3 +107,44 @@ abbrev pub TellsBytes : List ℕ → Told → Type 0
 TellsBytes bytes (told.Bytes given) = given.items ≡ bytes
 TellsBytes bytes (told.Error errno.ENOMEM) = ⊤
 TellsBytes bytes reply = ⊥
+
+-- the name that a message tells, in the directory that its node is
+abbrev pub named_in : Said → Option (List ℕ)
+named_in (lookup name) = Some name
+named_in (mknod fields name) = Some name
+named_in (mkdir fields name) = Some name
+named_in (create fields name) = Some name
+named_in (unlink name) = Some name
+named_in (rmdir name) = Some name
+named_in message = None
+
+-- The error that is told of answers: the first refusal; of reads and writes in pieces the first piece's alone, since pieces
+-- before a refused one are told.
+abbrev pub refusal_told : Said → List Answer → Option Errno
+refusal_told (read fields) given = refusal_at_once given
+refusal_told (write fields bytes) given = refusal_at_once given
+refusal_told message given = refusal_in given
+
+-- what is told of answers that are served
+abbrev pub SaysServed : Caller → Said → List Answer → Told → Type 0
+SaysServed caller (lookup name) given reply = TellsEntry (seen_in given) reply
+SaysServed caller (mknod fields name) given reply = TellsEntry (seen_in given) reply
+SaysServed caller (mkdir fields name) given reply = TellsEntry (seen_in given) reply
+SaysServed caller (create fields name) given reply = TellsCreated (seen_in given) reply
+SaysServed caller (getattr fields) given reply = reply ≡ attr_told (seen_in given)
+SaysServed caller (access wanted) given reply = reply ≡ access_told caller wanted (seen_in given)
+SaysServed caller (unlink name) given reply = reply ≡ told.Done
+SaysServed caller (rmdir name) given reply = reply ≡ told.Done
+SaysServed caller (opening fields) given reply = reply ≡ told.Open opened_file
+SaysServed caller (read fields) given reply = TellsBytes (all_bytes given) reply
+SaysServed caller (write fields bytes) given reply = reply ≡ told.Written (written_by (length bytes) given)
+SaysServed caller (opendir fields) given reply = TellsListing reply
+SaysServed caller message given reply = reply ≡ told.Error errno.EINVAL
+
+abbrev pub SaysOr : Option Errno → Type 0 → Told → Type 0
+SaysOr (Some error) Served reply = reply ≡ told.Error error
+SaysOr None Served reply = Served
+
+-- What a caller is told of the answers to a message: an error where one is refused, else what they show.
+abbrev pub Says : Caller → Said → List Answer → Told → Type 0
+Says caller message given reply = SaysOr (refusal_told message given) (SaysServed caller message given reply) reply

@@ -1,7 +1,8 @@
 //! What a kernel is told of answers.
 
-ghost use Rattle.std.specs.Prelude.{◌≡◌, ◌*◌, ◌≤◌, min, length};
-ghost use Rattle.lfs_fuse_calls.specs.Telling.{TellsBytes, access_told, attr_told, count_served, grant_told, is_granted, or_else, refusal_at_once, refusal_in, seen_in, seen_of, written_by};
+ghost use Rattle.std.specs.Prelude.{◌≡◌, ◌*◌, ◌≤◌, min, length, option_copied};
+ghost use Rattle.lfs_fuse_calls.specs.Telling.{TellsBytes, access_told, attr_told, count_served, grant_told, is_granted, or_else, refusal_at_once, refusal_in, seen_in, seen_of, written_by, named_in, refusal_told};
+ghost use Rattle.lfs_fuse_wire.specs.Views.{view};
 ghost use Rattle.lfs_fuse_calls.specs.Shown.{all_bytes};
 
 use crate::attr::attr;
@@ -10,6 +11,7 @@ use crate::shown::{all_bytes, is_served};
 use crate::told::Told;
 use lfs_fuse_reply::errno::Errno;
 use lfs_fuse_wire::attributes::Access;
+use lfs_fuse_wire::message::Message;
 use lfs_rules::access::grants;
 use lfs_types::answer::{Answer, Served};
 use lfs_types::attrs::{Attrs, Bit};
@@ -131,5 +133,28 @@ pub fn bytes_told(alloc: Global, answers: &[Answer]) -> Told
     match all_bytes(alloc, answers) {
         Ok(bytes) => Told::Bytes(bytes),
         Err(_) => Told::Error(Errno::ENOMEM),
+    }
+}
+
+/// The name that a message tells, in the directory that its node is.
+pub fn named_in<'m>(message: &Message<'m>) -> Option<&'m [u8]>
+    ensures { option_copied result ≡ named_in (view message.now) }
+{
+    match message {
+        Message::Lookup(name) | Message::Unlink(name) | Message::Rmdir(name) => Some(*name),
+        Message::Mknod(_, name) => Some(*name),
+        Message::Mkdir(_, name) => Some(*name),
+        Message::Create(_, name) => Some(*name),
+        _ => None,
+    }
+}
+
+/// The error that is told of answers: the first refusal; of reads and writes in pieces the first piece's alone.
+pub fn refusal_told(message: &Message<'_>, answers: &[Answer]) -> Option<Errno>
+    ensures { result ≡ refusal_told (view message.now) answers.now }
+{
+    match message {
+        Message::Read(_) | Message::Write(_, _) => refusal_at_once(answers),
+        _ => refusal_in(answers),
     }
 }

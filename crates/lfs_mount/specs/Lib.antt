@@ -1,0 +1,4 @@
+pub mod Handled
+pub mod Making
+pub mod Telling
+pub mod Told

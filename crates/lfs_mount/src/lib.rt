@@ -1,0 +1,13 @@
+//! A mount: a message of the kernel as calls on a volume, made as the caller of its header and of no other, and their
+//! answers as one reply.
+#![tactic(auto)]
+
+mod answering;
+mod calling;
+mod changing;
+mod listing;
+mod making;
+pub mod mount;
+mod naming;
+mod room;
+mod tending;
