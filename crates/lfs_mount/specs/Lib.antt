@@ -1,4 +1,2 @@
 pub mod Handled
 pub mod Making
-pub mod Telling
-pub mod Told

@@ -1,6 +1,7 @@
 //! Directories that are open, each with its names as they were when it was opened.
 
-ghost use Rattle.std.specs.Prelude.{◌≡◌, ◌<◌, IfSome, length};
+ghost use Rattle.std.specs.Prelude.{◌<◌, IfSome, length};
+ghost use Rattle.lfs_fuse_calls.specs.Telling.{TellsListing};
 
 use lfs_fuse_calls::told::Told;
 use lfs_fuse_reply::errno::Errno;
@@ -33,7 +34,9 @@ impl Listings {
     }
 
     /// Keeps the names of a directory that is opened, and tells its handle.
-    fn keep(&mut self, names: Names) -> Told {
+    fn keep(&mut self, names: Names) -> Told
+        ensures { TellsListing result }
+    {
         let handle = self.next;
         self.next = handle.wrapping_add(1);
         match self.names.insert(handle, names) {
@@ -46,7 +49,9 @@ impl Listings {
     }
 
     /// Keeps the names that a List shows.
-    pub(crate) fn open(&mut self, answers: Vec<Answer>) -> Told {
+    pub(crate) fn open(&mut self, answers: Vec<Answer>) -> Told
+        ensures { TellsListing result }
+    {
         for answer in answers {
             if let Answer::Served(Served::Names(names)) = answer {
                 return self.keep(names);

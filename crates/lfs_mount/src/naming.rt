@@ -1,7 +1,9 @@
 //! Nodes of entries that were found, made, moved or removed.
 
-ghost use Rattle.std.specs.Prelude.{◌≡◌};
+ghost use Rattle.std.specs.Prelude.{◌≡◌, IfOk, IfErr};
+ghost use Rattle.lfs_fuse_calls.specs.Attrs.{attr_of};
 ghost use Rattle.lfs_fuse_calls.specs.Telling.{TellsEntry, TellsCreated};
+ghost use Rattle.lfs_mount.specs.Handled.{IsNodeFault};
 
 use crate::mount::Mount;
 use lfs_fuse_calls::attr::attr;
@@ -10,8 +12,9 @@ use lfs_fuse_calls::told::Told;
 use lfs_fuse_reply::attr::Entry;
 use lfs_fuse_reply::errno::Errno;
 use lfs_fuse_reply::reply::Opened;
-use lfs_nodes::{LookUpFault, NodeId, Nodes};
+use lfs_nodes::{LookUpFault, NodeId};
 use lfs_types::name::Name;
+use lfs_types::store::FileStore;
 use std::alloc::Global;
 
 /// A file's handle tells nothing apart, as each read and write names its file.
@@ -21,10 +24,93 @@ pub(crate) const OPENED_FILE: Opened = Opened {
 };
 
 /// The error of a look-up that is given no node.
-fn error_of(fault: LookUpFault) -> Errno {
+fn error_of(fault: LookUpFault) -> Errno
+    ensures { IsNodeFault result }
+{
     match fault {
         LookUpFault::Stale => Errno::ESTALE,
         LookUpFault::Exhausted => Errno::EOVERFLOW,
         LookUpFault::Memory => Errno::ENOMEM,
+    }
+}
+
+impl<F: FileStore + Drop> Mount<F> {
+    /// The node of what a name in a directory leads to, with the attributes that a Stat showed.
+    fn entry(
+        &mut self,
+        alloc: Global,
+        directory: u64,
+        name: Option<Name>,
+        seen: &Seen,
+    ) -> Result<Entry, Errno>
+        ensures entry { IfOk result (λ entry. entry.attr ≡ attr_of seen.now.number seen.now.attrs) }
+        ensures fault { IfErr result IsNodeFault }
+        ensures volume { self.new.volume ≡ self.old.volume }
+    {
+        let Some(name) = name else {
+            return Err(Errno::EIO);
+        };
+        match self
+            .nodes
+            .look_up(alloc, NodeId(directory), name, seen.number)
+        {
+            Ok(node) => Ok(Entry {
+                node: node.0,
+                generation: 0,
+                attr: attr(seen.number, &seen.attrs),
+            }),
+            Err(fault) => Err(error_of(fault)),
+        }
+    }
+
+    /// Tells an entry that was found or made.
+    pub(crate) fn entry_told(
+        &mut self,
+        alloc: Global,
+        directory: u64,
+        name: Option<Name>,
+        seen: Option<Seen>,
+    ) -> Told
+        ensures told { TellsEntry seen result }
+        ensures volume { self.new.volume ≡ self.old.volume }
+    {
+        let Some(seen) = seen else {
+            return Told::Error(Errno::EIO);
+        };
+        match self.entry(alloc, directory, name, &seen) {
+            Ok(entry) => Told::Entry(entry),
+            Err(errno) => Told::Error(errno),
+        }
+    }
+
+    /// Tells a file that was made, and is open.
+    pub(crate) fn created_told(
+        &mut self,
+        alloc: Global,
+        directory: u64,
+        name: Option<Name>,
+        seen: Option<Seen>,
+    ) -> Told
+        ensures told { TellsCreated seen result }
+        ensures volume { self.new.volume ≡ self.old.volume }
+    {
+        let Some(seen) = seen else {
+            return Told::Error(Errno::EIO);
+        };
+        match self.entry(alloc, directory, name, &seen) {
+            Ok(entry) => Told::Create(entry, OPENED_FILE),
+            Err(errno) => Told::Error(errno),
+        }
+    }
+
+    /// A file or a directory was removed: its node is gone.
+    pub(crate) fn removed_told(&mut self, directory: u64, name: Option<Name>) -> Told
+        ensures told { result ≡ Told.Done }
+        ensures volume { self.new.volume ≡ self.old.volume }
+    {
+        if let Some(name) = name {
+            self.nodes.removed(NodeId(directory), name);
+        }
+        Told::Done
     }
 }

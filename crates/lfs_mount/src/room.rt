@@ -2,11 +2,9 @@
 
 ghost use Rattle.std.specs.Prelude.{◌≡◌};
 
+use crate::mount::Mount;
 use lfs_fuse_reply::reply::{InitReply, Statfs};
 use lfs_fuse_wire::init::{Init, InitFlags};
-
-use crate::mount::Mount;
-use lfs_types::limits::SEGMENT_BLOCKS;
 use lfs_types::store::FileStore;
 
 /// What is taken up of the kernel's offer: larger writes, O_TRUNC in OPEN, control calls of directories, set-id bits as the
@@ -34,10 +32,10 @@ pub(crate) fn init_reply(init: &Init) -> InitReply {
 impl<F: FileStore + Drop> Mount<F> {
     /// The room of the volume. Those of its segments are free that are clean; how many inode numbers are used isn't known.
     pub(crate) fn room(&self) -> Statfs {
-        let segment = u64::from(SEGMENT_BLOCKS);
-        let free = u64::from(self.volume.clean_segments()) * segment;
+        // A segment has 64 blocks of 512 bytes.
+        let free = u64::from(self.volume.clean_segments()) * 64;
         Statfs {
-            blocks: u64::from(self.sizes.segments) * segment,
+            blocks: u64::from(self.sizes.segments) * 64,
             free_blocks: free,
             available_blocks: free,
             files: u64::from(self.sizes.inodes),

@@ -1,0 +1,94 @@
+use Rattle.std.proofs.Common.{rules, ◌≡◌, ◌<◌, ◌∷◌, [], ◌++◌, List, length, true, false, sym, ap, subst, ◌∙◌, arith, length-append, append_assoc, append-nil}
+use Rattle.std.proofs.lemmas.Grind.{common_steps}
+use Rattle.lfs_types.specs.declared.request.Request.{Request}
+use Rattle.lfs_types.specs.declared.answer.Answer.{Answer}
+use Rattle.lfs_model.specs.Runs.{kept}
+use Rattle.lfs_volume.specs.CallRuns.{AreAnswers, IsCallMade}
+use Rattle.lfs_volume.specs.Journals.{Since}
+use Rattle.lfs_volume.proofs.CallLemmas.{call_made}
+use Rattle.lfs_fuse_calls.specs.Shown.{is_full, wanted_by}
+use Rattle.lfs_mount.specs.Making.{GoUpTo, calls_as}
+use Rattle.lfs_mount.proofs.MakingLemmas.{AllFull, AllFull-append, are_made, entered_more, one_more, up_to_all, up_to_one}
+use Rattle.lfs_mount.proofs.making.make.Goals as goal
+
+pub loop-request-init : goal.loop-request-init
+loop-request-init g c = search rules
+
+pub loop-request-preserved : goal.loop-request-preserved
+loop-request-preserved g c =
+    let i = c.loop-request.invariant in
+    let made = c.call-answer.ensures in
+    let answer = c.call-answer.result in
+    let request = c.in-Some.request in
+    let caller = c.args.cred.now in
+    let done = c.loop-request.yielded in
+    let answers = c.loop-request.answers.items in
+    let before = c.loop-request.volume in
+    let next = c.call-answer.new.self in
+    let old = c.args.volume.now in
+    let state = g.F.FileStore.state in
+    let settled = g.F.FileStore.is_settled in
+    let pushed : c.push_within.new.items.items ≡ answers ++ answer ∷ [] = c.push_within.ensures.pushed in
+    let stepped : c.loop-request.request-iterator.rest.items ≡ request ∷ c.next.new.self.rest.items = c.in-Some.ensures.steps.0 in
+    let full : is_full (wanted_by request) answer ≡ true = grind (arith, common_steps) in
+    record {
+      each = subst (λ l. Since (state old.since) old.since_level (λ from. AreAnswers state settled old.limit from old.journal old.store (calls_as caller (done ++ request ∷ [])) l next.store)) (sym pushed)
+          (one_more state settled caller old before next done answers request answer i.each i.entered i.since i.since_level i.limit
+          (λ from here. call_made state settled from before next caller request answer made.full made.at_limit (made.shown from here) (λ room. made.outcome room from here) (made.entries from here) made.unserved made.synced made.follows));
+      entered = subst (λ l. next.journal ≡ old.journal ++ kept (calls_as caller (done ++ request ∷ [])) l) (sym pushed)
+          (entered_more caller old.journal before.journal next.journal done answers request answer i.count i.entered made.entered);
+      full = subst (λ l. AllFull (done ++ request ∷ []) l) (sym pushed) (AllFull-append done answers request answer i.full full);
+      all = append_assoc done (request ∷ []) c.next.new.self.rest.items ∙ ap (λ l. done ++ l) (sym stepped) ∙ i.all;
+      count = simp (pushed, length-append) (omega (arith, i.count));
+      room = omega (arith, i.room, c.push_within.ensures.room);
+      since = made.since ∙ i.since;
+      since_level = made.since_level ∙ i.since_level;
+      limit = made.limit ∙ i.limit;
+    }
+
+pub push_within-requires : goal.push_within-requires
+push_within-requires g c = grind (arith, common_steps)
+
+pub returns-then-not-goes_on-clause-made : goal.returns-then-not-goes_on-clause-made
+returns-then-not-goes_on-clause-made g c =
+    let i = c.loop-request.invariant in
+    let made = c.call-answer.ensures in
+    let answer = c.call-answer.result in
+    let request = c.in-Some.request in
+    let caller = c.args.cred.now in
+    let done = c.loop-request.yielded in
+    let answers = c.loop-request.answers.items in
+    let before = c.loop-request.volume in
+    let next = c.call-answer.new.self in
+    let old = c.args.volume.now in
+    let rest = c.next.new.self.rest.items in
+    let state = g.F.FileStore.state in
+    let settled = g.F.FileStore.is_settled in
+    let pushed : c.push_within.new.items.items ≡ answers ++ answer ∷ [] = c.push_within.ensures.pushed in
+    let stepped : c.loop-request.request-iterator.rest.items ≡ request ∷ rest = c.in-Some.ensures.steps.0 in
+    let halts : is_full (wanted_by request) answer ≡ false = grind (arith, common_steps) in
+    let whole : done ++ request ∷ rest ≡ c.args.requests.items = ap (λ l. done ++ l) (sym stepped) ∙ i.all in
+    are_made state settled caller c.args.requests.items (done ++ request ∷ []) rest c.push_within.new.items.items old next
+        (append_assoc done (request ∷ []) rest ∙ whole)
+        (simp (pushed, length-append) (omega (arith, i.count)))
+        (subst (λ l. Since (state old.since) old.since_level (λ from. AreAnswers state settled old.limit from old.journal old.store (calls_as caller (done ++ request ∷ [])) l next.store)) (sym pushed)
+            (one_more state settled caller old before next done answers request answer i.each i.entered i.since i.since_level i.limit
+            (λ from here. call_made state settled from before next caller request answer made.full made.at_limit (made.shown from here) (λ room. made.outcome room from here) (made.entries from here) made.unserved made.synced made.follows)))
+        (subst (λ l. next.journal ≡ old.journal ++ kept (calls_as caller (done ++ request ∷ [])) l) (sym pushed)
+            (entered_more caller old.journal before.journal next.journal done answers request answer i.count i.entered made.entered))
+        (subst (λ l. GoUpTo l c.push_within.new.items.items) whole
+            (subst (λ l. GoUpTo (done ++ request ∷ rest) l) (sym pushed) (up_to_one done rest answers request answer i.full halts)))
+        (made.since ∙ i.since)
+        (made.since_level ∙ i.since_level)
+        (made.limit ∙ i.limit)
+
+pub returns-clause-made : goal.returns-clause-made
+returns-clause-made g c =
+    let i = c.loop-request.invariant in
+    let done = c.loop-request.yielded in
+    let ended : c.loop-request.request-iterator.rest.items ≡ [] = grind (arith, common_steps) in
+    let all : done ++ [] ≡ c.args.requests.items = ap (λ l. done ++ l) (sym ended) ∙ i.all in
+    are_made g.F.FileStore.state g.F.FileStore.is_settled c.args.cred.now c.args.requests.items done [] c.loop-request.answers.items c.args.volume.now c.loop-request.volume
+        all i.count i.each i.entered
+        (subst (λ l. GoUpTo l c.loop-request.answers.items) (sym (append-nil done) ∙ all) (up_to_all done c.loop-request.answers.items i.full))
+        i.since i.since_level i.limit

@@ -1,0 +1,111 @@
+//! Messages whose calls are known when they come: they are made in order, and what they show is told.
+
+ghost use Rattle.std.specs.Prelude.{◌≡◌, IfOk, IfErr};
+ghost use Rattle.lfs_fuse_wire.specs.Views.{view};
+ghost use Rattle.lfs_fuse_calls.specs.Telling.{SaysServed};
+ghost use Rattle.lfs_mount.specs.Handled.{AreAskedAndMade, IsHandled, hangs_in};
+
+use crate::making::make;
+use crate::mount::Mount;
+use crate::naming::OPENED_FILE;
+use lfs_fuse_calls::asked::asked;
+use lfs_fuse_calls::paths::{name_of, path_of};
+use lfs_fuse_calls::telling::{
+    access_told, attr_told, bytes_told, named_in, refusal_told, seen_in, written_by,
+};
+use lfs_fuse_calls::told::Told;
+use lfs_fuse_reply::errno::Errno;
+use lfs_fuse_wire::message::Message;
+use lfs_types::answer::Answer;
+use lfs_types::cred::Cred;
+use lfs_types::name::Name;
+use lfs_types::store::FileStore;
+use std::alloc::Global;
+
+impl<F: FileStore + Drop> Mount<F> {
+    /// Makes the calls that a message asks for, of the path of a node or of the name that it tells in it.
+    pub(crate) fn calls(
+        &mut self,
+        alloc: Global,
+        node: u64,
+        message: &Message<'_>,
+        cred: &Cred,
+    ) -> Result<Vec<Answer>, Errno>
+        ensures made { IfOk result (λ answers. AreAskedAndMade F.state F.is_settled cred.now (hangs_in self.old.nodes)
+            node (view message.now) answers.items self.old.volume self.new.volume) }
+        ensures none { IfErr result (λ _. self.new.volume ≡ self.old.volume) }
+        ensures nodes { self.new.nodes ≡ self.old.nodes }
+    {
+        let path = path_of(alloc, &self.nodes, node, named_in(message))?;
+        let Ok(requests) = asked(alloc, message, &path) else {
+            return Err(Errno::ENOMEM);
+        };
+        match make(alloc, &mut self.volume, cred, requests) {
+            Some(answers) => Ok(answers),
+            None => Err(Errno::ENOMEM),
+        }
+    }
+
+    /// What is told of answers that are served.
+    fn served_told(
+        &mut self,
+        alloc: Global,
+        node: u64,
+        name: Option<Name>,
+        message: &Message<'_>,
+        cred: &Cred,
+        answers: Vec<Answer>,
+    ) -> Told
+        ensures says { SaysServed cred.now (view message.now) answers.items result }
+        ensures volume { self.new.volume ≡ self.old.volume }
+    {
+        match message {
+            Message::Lookup(_) | Message::Mknod(_, _) | Message::Mkdir(_, _) => {
+                let seen = seen_in(answers.as_slice());
+                self.entry_told(alloc, node, name, seen)
+            }
+            Message::Create(_, _) => {
+                let seen = seen_in(answers.as_slice());
+                self.created_told(alloc, node, name, seen)
+            }
+            Message::Unlink(_) | Message::Rmdir(_) => self.removed_told(node, name),
+            Message::GetAttr(_) => attr_told(answers.as_slice()),
+            Message::Access(wanted) => access_told(cred, wanted, answers.as_slice()),
+            Message::Open(_) => Told::Open(OPENED_FILE),
+            Message::Read(_) => bytes_told(alloc, answers.as_slice()),
+            Message::Write(_, bytes) => {
+                Told::Written(written_by(bytes.len(), answers.as_slice()))
+            }
+            Message::Opendir(_) => self.listings.open(answers),
+            _ => Told::Error(Errno::EINVAL),
+        }
+    }
+
+    /// Makes the calls that a message asks for, and tells what they show, or the first refusal.
+    pub(crate) fn once(
+        &mut self,
+        alloc: Global,
+        node: u64,
+        message: &Message<'_>,
+        cred: &Cred,
+    ) -> Told
+        ensures { IsHandled F.state F.is_settled cred.now (hangs_in self.old.nodes) node (view message.now)
+            result self.old.volume self.new.volume }
+    {
+        let name = match named_in(message) {
+            Some(bytes) => match name_of(alloc, bytes) {
+                Ok(name) => Some(name),
+                Err(errno) => return Told::Error(errno),
+            },
+            None => None,
+        };
+        let answers = match self.calls(alloc, node, message, cred) {
+            Ok(answers) => answers,
+            Err(errno) => return Told::Error(errno),
+        };
+        match refusal_told(message, answers.as_slice()) {
+            Some(errno) => Told::Error(errno),
+            None => self.served_told(alloc, node, name, message, cred, answers),
+        }
+    }
+}

@@ -1,0 +1,1 @@
+//! Messages whose calls depend on what a first call shows.
