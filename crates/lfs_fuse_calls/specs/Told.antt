@@ -1,5 +1,5 @@
 -- The bytes of what a kernel is told.
-use Rattle.std.specs.Prelude.{ℕ, ◌+◌, List, [], ◌++◌, length, nat_lt, if◌then◌else◌}
+use Rattle.std.specs.Prelude.{ℕ, ◌+◌, List, ◌++◌, length, nat_lt, if◌then◌else◌}
 use Rattle.lfs_fuse_reply.specs.Replies.{head_bytes, reply_bytes}
 use Rattle.lfs_fuse_reply.specs.declared.errno.Errno.TheVariants.{EIO}
 use Rattle.lfs_fuse_reply.specs.declared.reply.Reply.TheVariants as reply
@@ -11,9 +11,8 @@ abbrev pub bytes_told : ℕ → List ℕ → List ℕ
 bytes_told unique bytes =
     if nat_lt (length bytes) 0x8000_0000 then head_bytes (16 + length bytes) 0 unique ++ bytes else reply_bytes unique (reply.Error EIO)
 
--- the reply to the message of this number; none where nothing is told
+-- the reply to the message of this number
 abbrev pub told_bytes : ℕ → Told → List ℕ
-told_bytes unique told.Nothing = []
 told_bytes unique (told.Error errno) = reply_bytes unique (reply.Error errno)
 told_bytes unique told.Done = reply_bytes unique reply.Done
 told_bytes unique (told.Entry entry) = reply_bytes unique (reply.Entry entry)

@@ -11,8 +11,6 @@ use std::alloc::AllocError;
 /// What a kernel is told of a message. None of it may be kept.
 #[derive(Drop)]
 pub enum Told {
-    /// Nothing: no reply is wanted.
-    Nothing,
     /// An error.
     Error(Errno),
     /// It is done.
@@ -45,12 +43,11 @@ pub enum Told {
 const TOO_LONG: usize = 0x8000_0000;
 
 impl Told {
-    /// Adds the reply to the message of this number, if one is wanted. Bytes whose length can't be told are EIO.
+    /// Adds the reply to the message of this number. Bytes whose length can't be told are EIO.
     pub fn append(&self, out: &mut Vec<u8>, unique: u64) -> Result<(), AllocError>
         ensures { OnOk result (out.new.items ≡ out.old.items ++ told_bytes unique self.now) }
     {
         match self {
-            Told::Nothing => Ok(()),
             Told::Bytes(bytes) => append_bytes(bytes.as_slice(), out, unique),
             Told::Error(errno) => Reply::Error(*errno).append(out, unique),
             Told::Done => Reply::Done.append(out, unique),

@@ -1,1 +1,2 @@
+pub mod HandledLemmas
 pub mod MakingLemmas

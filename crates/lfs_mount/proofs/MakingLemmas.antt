@@ -55,7 +55,7 @@ up_to_one [] rest (a ∷ answers) request answer all not_full = absurd all
 up_to_one (r ∷ requests) rest [] request answer all not_full = absurd all
 up_to_one (r ∷ requests) rest (a ∷ answers) request answer all not_full =
     subst (λ b. EndsOr b (GoUpTo (requests ++ request ∷ rest) (answers ++ answer ∷ [])) (answers ++ answer ∷ [])) (sym all.0)
-        (up_to_one requests rest answers request answer all.1 not_full)
+    (up_to_one requests rest answers request answer all.1 not_full)
 
 -- one more call was answered
 pub one_more : {F : Type 0} (state : F → StoreState) (is_settled : F → Type 0) (caller : Caller) (old before next : Seen F) (done : List Request) (answers : List Answer) (request : Request) (answer : Answer)
@@ -67,11 +67,11 @@ pub one_more : {F : Type 0} (state : F → StoreState) (is_settled : F → Type 
 one_more {F} state is_settled caller old before next done answers request answer each entered since since_level limit made =
     λ from begins.
     let here : Begins (state before.since) before.since_level from =
-        subst (λ l. Begins (state before.since) l from) (sym since_level) (subst (λ (s : F). Begins (state s) old.since_level from) (sym since) begins) in
+    subst (λ l. Begins (state before.since) l from) (sym since_level) (subst (λ (s : F). Begins (state s) old.since_level from) (sym since) begins) in
     subst (λ calls. AreAnswers state is_settled old.limit from old.journal old.store calls (answers ++ answer ∷ []) next.store) (sym (calls_as-append caller done request))
-        (AreAnswers-append state is_settled old.limit from old.journal old.store before.store next.store (calls_as caller done) answers (call_as caller request) answer (each from begins)
-        (subst (λ n. IsCallMade state is_settled n from (old.journal ++ kept (calls_as caller done) answers) before.store caller request answer next.store) limit
-        (subst (λ j. IsCallMade state is_settled before.limit from j before.store caller request answer next.store) entered (made from here))))
+    (AreAnswers-append state is_settled old.limit from old.journal old.store before.store next.store (calls_as caller done) answers (call_as caller request) answer (each from begins)
+    (subst (λ n. IsCallMade state is_settled n from (old.journal ++ kept (calls_as caller done) answers) before.store caller request answer next.store) limit
+    (subst (λ j. IsCallMade state is_settled before.limit from j before.store caller request answer next.store) entered (made from here))))
 
 -- what was entered, with one more
 pub entered_more : (caller : Caller) (old before next : List Entry) (done : List Request) (answers : List Answer) (request : Request) (answer : Answer)
@@ -82,8 +82,8 @@ entered_more caller old before next done answers request answer count entered mo
     ∙ ap (λ j. j ++ kept_entry 0 caller request answer) entered
     ∙ append_assoc old (kept (calls_as caller done) answers) (kept_entry 0 caller request answer)
     ∙ ap (λ l. old ++ l)
-        (sym (kept-append (calls_as caller done) answers (call_as caller request) answer (count ∙ sym (length-calls_as caller done)))
-        ∙ ap (λ calls. kept calls (answers ++ answer ∷ [])) (sym (calls_as-append caller done request)))
+    (sym (kept-append (calls_as caller done) answers (call_as caller request) answer (count ∙ sym (length-calls_as caller done)))
+    ∙ ap (λ calls. kept calls (answers ++ answer ∷ [])) (sym (calls_as-append caller done request)))
 
 -- calls that have answers, of those that were asked for
 pub are_made : {F : Type 0} (state : F → StoreState) (is_settled : F → Type 0) (caller : Caller) (requests done rest : List Request) (answers : List Answer) (old new : Seen F)
@@ -94,7 +94,7 @@ pub are_made : {F : Type 0} (state : F → StoreState) (is_settled : F → Type 
     → AreMade state is_settled caller requests answers old new
 are_made state is_settled caller requests done rest answers old new all count each entered up_to since since_level limit =
     let made : take (length answers) requests ≡ done =
-        ap (λ n. take n requests) count ∙ ap (take (length done)) (sym all) ∙ take-append_seam done rest in
+    ap (λ n. take n requests) count ∙ ap (take (length done)) (sym all) ∙ take-append_seam done rest in
     record {
       each = subst (λ l. Since (state old.since) old.since_level (λ from. AreAnswers state is_settled old.limit from old.journal old.store (calls_as caller l) answers new.store)) (sym made) each;
       entered = entered ∙ ap (λ l. old.journal ++ kept (calls_as caller l) answers) (sym made);

@@ -1,18 +1,27 @@
 -- What comes of a message.
-use Rattle.std.specs.Prelude.{◌≡◌, ⊤, ℕ, ◌⊎◌, List, [], ◌∷◌, Option, None, Some}
+use Rattle.std.specs.Prelude.{◌≡◌, ⊤, ℕ, ◌⊎◌, Bool, true, false, List, [], ◌∷◌, Option, None, Some}
 use Rattle.lfs_types.specs.Caller.{Caller}
 use Rattle.lfs_types.specs.StoreStates.{StoreState}
 use Rattle.lfs_types.specs.declared.answer.Answer.{Answer}
 use Rattle.lfs_types.specs.declared.attrs.Attrs.{Attrs}
 use Rattle.lfs_types.specs.declared.request.Request.{Request}
-use Rattle.lfs_types.specs.declared.request.Request.TheVariants.{Rename, Sync}
+use Rattle.lfs_types.specs.declared.request.Request.TheVariants.{Chflags, Rename, Stat as Stats, Sync}
 use Rattle.lfs_volume.specs.Seen.{Seen}
 use Rattle.lfs_nodes.specs.declared.node.Hang.{Hang}
 use Rattle.lfs_nodes.specs.declared.parts.Parts.{Parts}
 use Rattle.lfs_nodes.specs.Maps.{node_at}
 use Rattle.lfs_nodes.specs.Reads.{hang_in}
-use Rattle.lfs_fuse_wire.specs.Said.{Said, setattr}
+use Rattle.lfs_fuse_wire.specs.Said.{Said, init, lookup, getattr, setattr, access, mknod, mkdir, create, unlink, rmdir, rename, opening, read, write, fsync, opendir, readdir, readdirplus, fsyncdir, statfs, ioctl, unserved, unknown}
 use Rattle.lfs_fuse_wire.specs.declared.attributes.SetAttr.{SetAttr}
+use Rattle.lfs_fuse_wire.specs.declared.ioctl.Command.{Command}
+use Rattle.lfs_fuse_wire.specs.declared.ioctl.Command.TheVariants as command
+use Rattle.lfs_fuse_wire.specs.declared.ioctl.Ioctl.{Ioctl}
+use Rattle.lfs_fuse_wire.specs.declared.kind.FileKind.{FileKind}
+use Rattle.lfs_fuse_wire.specs.declared.kind.FileKind.TheVariants.{Regular}
+use Rattle.lfs_fuse_wire.specs.declared.naming.RenameMode.{RenameMode}
+use Rattle.lfs_fuse_wire.specs.declared.naming.RenameMode.TheVariants as mode
+use Rattle.lfs_fuse_wire.specs.declared.opcode.Unserved.{Unserved}
+use Rattle.lfs_fuse_wire.specs.declared.opcode.Unserved.TheVariants as kinds
 use Rattle.lfs_fuse_reply.specs.declared.errno.Errno.{Errno}
 use Rattle.lfs_fuse_reply.specs.declared.errno.Errno.TheVariants as errno
 use Rattle.lfs_fuse_calls.specs.Asked.{asked, asked_to_set}
@@ -21,6 +30,7 @@ use Rattle.lfs_fuse_calls.specs.Telling.{Says, SaysOr, attr_told, named_in, refu
 use Rattle.lfs_fuse_calls.specs.declared.telling.Seen.{Seen as Stat}
 use Rattle.lfs_fuse_calls.specs.declared.told.Told.{Told}
 use Rattle.lfs_fuse_calls.specs.declared.told.Told.TheVariants as told
+use Rattle.lfs_mount.specs.Flags.{flags_shown, flags_wanted}
 use Rattle.lfs_mount.specs.Making.{AreMade}
 
 -- where each node of a mount hangs
@@ -122,5 +132,133 @@ pub record IsLookedAt {F : Type 0} (state : F → StoreState) (is_settled : F �
 abbrev pub IsSetAttr : {F : Type 0} → (F → StoreState) → (F → Type 0) → Caller → (ℕ → Option Hang) → ℕ → SetAttr → Told → Seen F → Seen F → Type 0
 IsSetAttr state is_settled caller hangs node fields reply old new =
     IsLookedAt state is_settled caller hangs node (setattr fields) reply old new
-        (λ between present. IsSet state is_settled caller hangs node fields reply between new present)
+    (λ between present. IsSet state is_settled caller hangs node fields reply between new present)
     ⊎ IsRefused reply old new
+
+-- ---- a Rename to a name that must be free
+
+abbrev pub is_missing : Errno → Bool
+is_missing errno.ENOENT = true
+is_missing error = false
+
+-- behind a Stat of the new name: where that is missing it is gone on with, else it is there or the Stat's refusal is told
+abbrev pub BehindMissing : Bool → Errno → Told → Type 0 → Type 0 → Type 0
+BehindMissing true error reply Stays Goes = Goes
+BehindMissing false error reply Stays Goes = (reply ≡ told.Error error) × Stays
+
+abbrev pub BehindFree : Option Errno → Told → Type 0 → Type 0 → Type 0
+BehindFree None reply Stays Goes = (reply ≡ told.Error errno.EEXIST) × Stays
+BehindFree (Some error) reply Stays Goes = BehindMissing (is_missing error) error reply Stays Goes
+
+-- The new name was looked for, as this caller, and the Rename made where it is missing.
+pub record IsSought {F : Type 0} (state : F → StoreState) (is_settled : F → Type 0) (caller : Caller) (hangs : ℕ → Option Hang) (node : ℕ) (name : List ℕ) (directory : ℕ) (new_name : List ℕ) (reply : Told) (old new : Seen F) : Type 0 where
+  pub to : List (List ℕ)
+  pub leads_to : IsPathOf hangs directory (Some new_name) to
+  pub answers : List Answer
+  pub between : Seen F
+  pub made : AreMade state is_settled caller (Stats to ∷ []) answers old between
+  pub behind : BehindFree (refusal_in answers) reply (new ≡ between) (IsRenamed state is_settled caller hangs node name directory new_name reply between new)
+
+abbrev pub IsRenamedToFree : {F : Type 0} → (F → StoreState) → (F → Type 0) → Caller → (ℕ → Option Hang) → ℕ → List ℕ → ℕ → List ℕ → Told → Seen F → Seen F → Type 0
+IsRenamedToFree state is_settled caller hangs node name directory new_name reply old new =
+    IsSought state is_settled caller hangs node name directory new_name reply old new ⊎ IsRefused reply old new
+
+-- ---- control calls
+
+abbrev pub SaysFlagged : Told → List Answer → Type 0
+SaysFlagged reply given = SaysOr (refusal_in given) (reply ≡ told.Ioctl) reply
+
+-- the flags of a node were set, of which it had these at present
+pub record AreFlagsSet {F : Type 0} (state : F → StoreState) (is_settled : F → Type 0) (caller : Caller) (hangs : ℕ → Option Hang) (node bits : ℕ) (present : ℕ) (reply : Told) (old new : Seen F) : Type 0 where
+  pub path : List (List ℕ)
+  pub leads : IsPathOf hangs node None path
+  pub made : IsCalledOnce state is_settled caller (Chflags path (flags_wanted present bits)) (SaysFlagged reply) old new
+
+abbrev pub IsFlagsSet : {F : Type 0} → (F → StoreState) → (F → Type 0) → Caller → (ℕ → Option Hang) → ℕ → ℕ → Told → Seen F → Seen F → ℕ → Type 0
+IsFlagsSet state is_settled caller hangs node bits reply old new present =
+    AreFlagsSet state is_settled caller hangs node bits present reply old new ⊎ IsRefused reply old new
+
+-- what a control call does, of a node that has these flags
+abbrev pub GoesOnFlags : {F : Type 0} → (F → StoreState) → (F → Type 0) → Caller → (ℕ → Option Hang) → ℕ → Command → Told → Seen F → Seen F → ℕ → Type 0
+GoesOnFlags state is_settled caller hangs node command.GetFlags reply old new present =
+    (reply ≡ told.Flags (flags_shown present 0x10 0x20 0x40)) × (new ≡ old)
+GoesOnFlags state is_settled caller hangs node command.GetExtended reply old new present =
+    (reply ≡ told.Extended (flags_shown present 0x8 0x10 0x80)) × (new ≡ old)
+GoesOnFlags state is_settled caller hangs node (command.SetFlags bits) reply old new present =
+    IsFlagsSet state is_settled caller hangs node bits reply old new present
+GoesOnFlags state is_settled caller hangs node (command.Other number) reply old new present =
+    (reply ≡ told.Error errno.ENOTTY) × (new ≡ old)
+
+abbrev pub IsFlagged : {F : Type 0} → (F → StoreState) → (F → Type 0) → Caller → (ℕ → Option Hang) → ℕ → Ioctl → Told → Seen F → Seen F → Type 0
+IsFlagged state is_settled caller hangs node fields reply old new =
+    IsLookedAt state is_settled caller hangs node (ioctl fields) reply old new
+    (λ between present. GoesOnFlags state is_settled caller hangs node fields.command reply between new present.flags)
+    ⊎ IsRefused reply old new
+
+-- ---- any message
+
+-- no call is made
+pub record IsIdle {F : Type 0} (Tells : Told → Type 0) (reply : Told) (old new : Seen F) : Type 0 where
+  pub tells : Tells reply
+  pub none : new ≡ old
+
+abbrev pub IsFault : Errno → Told → Type 0
+IsFault error reply = reply ≡ told.Error error
+
+-- what is told of a message of which nothing but the kind is read
+abbrev pub error_of_unserved : Unserved → Errno
+error_of_unserved kinds.Link = errno.EPERM
+error_of_unserved kinds.Symlink = errno.EPERM
+error_of_unserved kinds.Readlink = errno.EINVAL
+error_of_unserved kinds.Fallocate = errno.EOPNOTSUPP
+error_of_unserved kinds.Tmpfile = errno.EOPNOTSUPP
+error_of_unserved kind = errno.ENOSYS
+
+abbrev pub IsOpening : Told → Type 0
+IsOpening (told.Init given) = ⊤
+IsOpening reply = ⊥
+
+abbrev pub IsRoom : Told → Type 0
+IsRoom (told.Statfs room) = room.max_name ≡ 255
+IsRoom reply = ⊥
+
+-- a device, a pipe or a link isn't made
+abbrev pub IsMade : {F : Type 0} → Option FileKind → Type 0 → Told → Seen F → Seen F → Type 0
+IsMade (Some Regular) Goes reply old new = Goes
+IsMade kind Goes reply old new = IsIdle (IsFault errno.EPERM) reply old new
+
+-- by what becomes of an entry that has the new name
+abbrev pub IsRename : {F : Type 0} → RenameMode → Type 0 → Type 0 → Told → Seen F → Seen F → Type 0
+IsRename mode.Replace Replaces Seeks reply old new = Replaces
+IsRename mode.NoReplace Replaces Seeks reply old new = Seeks
+IsRename mode.Exchange Replaces Seeks reply old new = IsIdle (IsFault errno.EINVAL) reply old new
+IsRename mode.Other Replaces Seeks reply old new = IsIdle (IsFault errno.EINVAL) reply old new
+
+-- What comes of a message to a node: which calls it makes, as this caller and no other, and what their answers have it told.
+abbrev pub IsTold : {F : Type 0} → (F → StoreState) → (F → Type 0) → Caller → (ℕ → Option Hang) → ℕ → Said → Told → Seen F → Seen F → Type 0
+IsTold state is_settled caller hangs node (lookup name) reply old new = IsHandled state is_settled caller hangs node (lookup name) reply old new
+IsTold state is_settled caller hangs node (getattr fields) reply old new = IsHandled state is_settled caller hangs node (getattr fields) reply old new
+IsTold state is_settled caller hangs node (access wanted) reply old new = IsHandled state is_settled caller hangs node (access wanted) reply old new
+IsTold state is_settled caller hangs node (mknod fields name) reply old new = IsMade fields.kind (IsHandled state is_settled caller hangs node (mknod fields name) reply old new) reply old new
+IsTold state is_settled caller hangs node (mkdir fields name) reply old new = IsHandled state is_settled caller hangs node (mkdir fields name) reply old new
+IsTold state is_settled caller hangs node (create fields name) reply old new = IsHandled state is_settled caller hangs node (create fields name) reply old new
+IsTold state is_settled caller hangs node (unlink name) reply old new = IsHandled state is_settled caller hangs node (unlink name) reply old new
+IsTold state is_settled caller hangs node (rmdir name) reply old new = IsHandled state is_settled caller hangs node (rmdir name) reply old new
+IsTold state is_settled caller hangs node (opening fields) reply old new = IsHandled state is_settled caller hangs node (opening fields) reply old new
+IsTold state is_settled caller hangs node (read fields) reply old new = IsHandled state is_settled caller hangs node (read fields) reply old new
+IsTold state is_settled caller hangs node (write fields bytes) reply old new = IsHandled state is_settled caller hangs node (write fields bytes) reply old new
+IsTold state is_settled caller hangs node (opendir fields) reply old new = IsHandled state is_settled caller hangs node (opendir fields) reply old new
+IsTold state is_settled caller hangs node (setattr fields) reply old new = IsSetAttr state is_settled caller hangs node fields reply old new
+IsTold state is_settled caller hangs node (ioctl fields) reply old new = IsFlagged state is_settled caller hangs node fields reply old new
+IsTold state is_settled caller hangs node (rename fields name new_name) reply old new =
+    IsRename fields.mode (IsRenamed state is_settled caller hangs node name fields.directory new_name reply old new)
+    (IsRenamedToFree state is_settled caller hangs node name fields.directory new_name reply old new) reply old new
+IsTold state is_settled caller hangs node (fsync fields) reply old new = IsSynced state is_settled caller reply old new
+IsTold state is_settled caller hangs node (fsyncdir fields) reply old new = IsSynced state is_settled caller reply old new
+IsTold state is_settled caller hangs node (init fields) reply old new = IsIdle IsOpening reply old new
+IsTold state is_settled caller hangs node statfs reply old new = IsIdle IsRoom reply old new
+IsTold state is_settled caller hangs node (readdir fields) reply old new = IsIdle (λ _. ⊤) reply old new
+IsTold state is_settled caller hangs node (readdirplus fields) reply old new = IsIdle (IsFault errno.ENOSYS) reply old new
+IsTold state is_settled caller hangs node (unserved kind) reply old new = IsIdle (IsFault (error_of_unserved kind)) reply old new
+IsTold state is_settled caller hangs node (unknown number) reply old new = IsIdle (IsFault errno.ENOSYS) reply old new
+IsTold state is_settled caller hangs node message reply old new = IsIdle (λ it. it ≡ told.Done) reply old new

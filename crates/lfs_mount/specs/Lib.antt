@@ -1,2 +1,4 @@
+pub mod Answered
+pub mod Flags
 pub mod Handled
 pub mod Making

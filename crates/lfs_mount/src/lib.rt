@@ -5,6 +5,7 @@
 mod answering;
 mod calling;
 mod changing;
+mod flagging;
 mod listing;
 mod making;
 pub mod mount;

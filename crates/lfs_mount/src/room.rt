@@ -31,11 +31,13 @@ pub(crate) fn init_reply(init: &Init) -> InitReply {
 
 impl<F: FileStore + Drop> Mount<F> {
     /// The room of the volume. Those of its segments are free that are clean; how many inode numbers are used isn't known.
-    pub(crate) fn room(&self) -> Statfs {
+    pub(crate) fn room(&self) -> Statfs
+        ensures { result.max_name ≡ 255 }
+    {
         // A segment has 64 blocks of 512 bytes.
-        let free = u64::from(self.volume.clean_segments()) * 64;
+        let free = u64::from(self.volume.clean_segments()).saturating_mul(64);
         Statfs {
-            blocks: u64::from(self.sizes.segments) * 64,
+            blocks: u64::from(self.sizes.segments).saturating_mul(64),
             free_blocks: free,
             available_blocks: free,
             files: u64::from(self.sizes.inodes),

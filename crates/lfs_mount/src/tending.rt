@@ -1,1 +1,66 @@
-//! What is done between messages.
+//! What is done between messages: room for entries is made, and the cleaner passes.
+
+ghost use Rattle.std.specs.Prelude.{◌≡◌};
+
+use crate::mount::Mount;
+use lfs_cleaner::pass::Pass;
+use lfs_cleaner::wanting::superuser;
+use lfs_types::cleaned::CleanedStore;
+use lfs_types::store::FileStore;
+use std::alloc::{AllocError, Global};
+
+/// A message and a pass of the cleaner make fewer calls than this.
+const ROOM: usize = 256;
+
+/// So few clean segments call for the cleaner.
+const FEW_CLEAN: u32 = 3;
+
+impl<F: FileStore + Drop> Mount<F> {
+    /// How many segments of the store are clean.
+    pub fn clean_segments(&self) -> u32
+        ensures { result ≡ (F.state self.now.volume.store).clean }
+    {
+        self.volume.clean_segments()
+    }
+
+    /// Lets the entries of the journal go, where there is room for fewer than 256 more. The volume's store and level stay.
+    pub fn make_room(&mut self, alloc: Global) -> Result<(), AllocError>
+        ensures store { self.new.volume.store ≡ self.old.volume.store }
+        ensures level { self.new.volume.level ≡ self.old.volume.level }
+    {
+        let limit = self.volume.journal_limit() as usize;
+        let used = self.volume.journal().len();
+        if limit.saturating_sub(used) >= ROOM {
+            return Ok(());
+        }
+        let room = Vec::with_capacity(alloc, limit)?;
+        let _ = self.volume.drain(room);
+        Ok(())
+    }
+}
+
+impl<F: CleanedStore + Drop> Mount<F> {
+    /// Makes a pass of the cleaner. No file changes.
+    fn pass(&mut self)
+        ensures content { (F.state self.new.volume.store).content ≡ (F.state self.old.volume.store).content }
+        ensures level { self.new.volume.level ≡ self.old.volume.level }
+    {
+        let cleaner = superuser();
+        let mut pass = Pass::new();
+        let mut last = None;
+        while let Some(call) = pass.next(last.as_ref()) {
+            last = Some(self.volume.clean(0, &cleaner, call));
+        }
+    }
+
+    /// Makes a pass of the cleaner where there are at most three clean segments, and fewer than there were. No file changes.
+    pub fn tend(&mut self, before: u32)
+        ensures content { (F.state self.new.volume.store).content ≡ (F.state self.old.volume.store).content }
+        ensures level { self.new.volume.level ≡ self.old.volume.level }
+    {
+        let after = self.volume.clean_segments();
+        if after < before && after <= FEW_CLEAN {
+            self.pass();
+        }
+    }
+}

@@ -69,18 +69,18 @@ returns-then-not-goes_on-clause-made g c =
     let halts : is_full (wanted_by request) answer ≡ false = grind (arith, common_steps) in
     let whole : done ++ request ∷ rest ≡ c.args.requests.items = ap (λ l. done ++ l) (sym stepped) ∙ i.all in
     are_made state settled caller c.args.requests.items (done ++ request ∷ []) rest c.push_within.new.items.items old next
-        (append_assoc done (request ∷ []) rest ∙ whole)
-        (simp (pushed, length-append) (omega (arith, i.count)))
-        (subst (λ l. Since (state old.since) old.since_level (λ from. AreAnswers state settled old.limit from old.journal old.store (calls_as caller (done ++ request ∷ [])) l next.store)) (sym pushed)
-            (one_more state settled caller old before next done answers request answer i.each i.entered i.since i.since_level i.limit
-            (λ from here. call_made state settled from before next caller request answer made.full made.at_limit (made.shown from here) (λ room. made.outcome room from here) (made.entries from here) made.unserved made.synced made.follows)))
-        (subst (λ l. next.journal ≡ old.journal ++ kept (calls_as caller (done ++ request ∷ [])) l) (sym pushed)
-            (entered_more caller old.journal before.journal next.journal done answers request answer i.count i.entered made.entered))
-        (subst (λ l. GoUpTo l c.push_within.new.items.items) whole
-            (subst (λ l. GoUpTo (done ++ request ∷ rest) l) (sym pushed) (up_to_one done rest answers request answer i.full halts)))
-        (made.since ∙ i.since)
-        (made.since_level ∙ i.since_level)
-        (made.limit ∙ i.limit)
+    (append_assoc done (request ∷ []) rest ∙ whole)
+    (simp (pushed, length-append) (omega (arith, i.count)))
+    (subst (λ l. Since (state old.since) old.since_level (λ from. AreAnswers state settled old.limit from old.journal old.store (calls_as caller (done ++ request ∷ [])) l next.store)) (sym pushed)
+    (one_more state settled caller old before next done answers request answer i.each i.entered i.since i.since_level i.limit
+    (λ from here. call_made state settled from before next caller request answer made.full made.at_limit (made.shown from here) (λ room. made.outcome room from here) (made.entries from here) made.unserved made.synced made.follows)))
+    (subst (λ l. next.journal ≡ old.journal ++ kept (calls_as caller (done ++ request ∷ [])) l) (sym pushed)
+    (entered_more caller old.journal before.journal next.journal done answers request answer i.count i.entered made.entered))
+    (subst (λ l. GoUpTo l c.push_within.new.items.items) whole
+    (subst (λ l. GoUpTo (done ++ request ∷ rest) l) (sym pushed) (up_to_one done rest answers request answer i.full halts)))
+    (made.since ∙ i.since)
+    (made.since_level ∙ i.since_level)
+    (made.limit ∙ i.limit)
 
 pub returns-clause-made : goal.returns-clause-made
 returns-clause-made g c =
@@ -89,6 +89,6 @@ returns-clause-made g c =
     let ended : c.loop-request.request-iterator.rest.items ≡ [] = grind (arith, common_steps) in
     let all : done ++ [] ≡ c.args.requests.items = ap (λ l. done ++ l) (sym ended) ∙ i.all in
     are_made g.F.FileStore.state g.F.FileStore.is_settled c.args.cred.now c.args.requests.items done [] c.loop-request.answers.items c.args.volume.now c.loop-request.volume
-        all i.count i.each i.entered
-        (subst (λ l. GoUpTo l c.loop-request.answers.items) (sym (append-nil done) ∙ all) (up_to_all done c.loop-request.answers.items i.full))
-        i.since i.since_level i.limit
+    all i.count i.each i.entered
+    (subst (λ l. GoUpTo l c.loop-request.answers.items) (sym (append-nil done) ∙ all) (up_to_all done c.loop-request.answers.items i.full))
+    i.since i.since_level i.limit

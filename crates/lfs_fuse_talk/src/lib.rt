@@ -1,0 +1,10 @@
+//! What `lfs_fuse` does, over the arguments of an environment, any reader and writers: messages in, replies out.
+#![tactic(auto)]
+
+pub mod fault;
+pub mod groups;
+mod inbox;
+pub mod options;
+pub mod program;
+pub mod talk;
+mod words;

@@ -1,0 +1,12 @@
+use Rattle.std.proofs.Common.{◌≡◌}
+use Rattle.lfs_cleaner.specs.Passing.{calls_left}
+use Rattle.lfs_mount.proofs.mount.Mount.pass.Given as goal
+
+abbrev pub invariant-loop-call : goal.invariant-loop-call
+invariant-loop-call g l = record {
+  content : (g.F.FileStore.state l.self.volume.store).content ≡ (g.F.FileStore.state l.fn.self.volume.store).content;
+  level : l.self.volume.level ≡ l.fn.self.volume.level;
+}
+
+abbrev pub decreases-loop-call : goal.decreases-loop-call
+decreases-loop-call g l = calls_left l.pass

@@ -1,0 +1,55 @@
+use Rattle.std.proofs.Common.{◌≡◌, inl, IfOk, List, ℕ, true, false, None, Some, refl, sym, ap, subst, ◌∙◌}
+use Rattle.lfs_fuse_reply.specs.declared.errno.Errno.TheVariants.{EEXIST}
+use Rattle.lfs_fuse_calls.specs.Paths.{IsPathOf}
+use Rattle.lfs_fuse_calls.specs.Telling.{refusal_in}
+use Rattle.lfs_fuse_calls.specs.declared.told.Told.TheVariants.{Error}
+use Rattle.lfs_mount.specs.Handled.{IsRenamed, hangs_in, is_missing}
+use Rattle.lfs_mount.proofs.HandledLemmas.{sought_free, sought_refused, sought_there}
+use Rattle.lfs_mount.proofs.mount.Mount.renamed_to_free.Goals as goal
+
+pub returns-in-None : goal.returns-in-None
+returns-in-None g c =
+    let state = g.F.FileStore.state in
+    let settled = g.F.FileStore.is_settled in
+    let hangs = hangs_in c.args.self.now.nodes in
+    let from = c.args.from.now in
+    let to = c.args.to.now in
+    let leads : IsPathOf hangs to.node (Some to.name.now) c.in-Ok.path =
+    subst (λ r. IfOk r (λ (path : List (List ℕ)). IsPathOf hangs to.node (Some to.name.now) path)) c.in-Ok.is c.path_of.ensures in
+    let served : refusal_in c.in-Ok-one.answers.items ≡ None =
+    sym (ap refusal_in c.as_slice.ensures.value) ∙ sym c.refusal_in.ensures ∙ c.in-None.is in
+    inl (sought_there state settled c.args.cred.now hangs from.node from.name.now to.node to.name.now (Error EEXIST) c.args.self.now.volume c.one.new.self.volume
+    c.in-Ok.path c.in-Ok-one.answers.items leads c.in-Ok-one.ensures.made served refl)
+
+pub returns-then-is_missing : goal.returns-then-is_missing
+returns-then-is_missing g c =
+    let state = g.F.FileStore.state in
+    let settled = g.F.FileStore.is_settled in
+    let hangs = hangs_in c.args.self.now.nodes in
+    let from = c.args.from.now in
+    let to = c.args.to.now in
+    let between = c.one.new.self.volume in
+    let new = c.renamed.new.self.volume in
+    let leads : IsPathOf hangs to.node (Some to.name.now) c.in-Ok.path =
+    subst (λ r. IfOk r (λ (path : List (List ℕ)). IsPathOf hangs to.node (Some to.name.now) path)) c.in-Ok.is c.path_of.ensures in
+    let refused : refusal_in c.in-Ok-one.answers.items ≡ Some c.in-Some.errno =
+    sym (ap refusal_in c.as_slice.ensures.value) ∙ sym c.refusal_in.ensures ∙ c.in-Some.is in
+    let missing : is_missing c.in-Some.errno ≡ true = sym c.is_missing.ensures ∙ c.if-is_missing.true in
+    inl (sought_free state settled c.args.cred.now hangs from.node from.name.now to.node to.name.now c.renamed.result c.args.self.now.volume between new
+    c.in-Ok.path c.in-Ok-one.answers.items c.in-Some.errno leads c.in-Ok-one.ensures.made refused missing
+    (subst (λ n. IsRenamed state settled c.args.cred.now (hangs_in n) from.node from.name.now to.node to.name.now c.renamed.result between new) c.one.ensures.nodes c.renamed.ensures))
+
+pub returns : goal.returns
+returns g c =
+    let state = g.F.FileStore.state in
+    let settled = g.F.FileStore.is_settled in
+    let hangs = hangs_in c.args.self.now.nodes in
+    let from = c.args.from.now in
+    let to = c.args.to.now in
+    let leads : IsPathOf hangs to.node (Some to.name.now) c.in-Ok.path =
+    subst (λ r. IfOk r (λ (path : List (List ℕ)). IsPathOf hangs to.node (Some to.name.now) path)) c.in-Ok.is c.path_of.ensures in
+    let refused : refusal_in c.in-Ok-one.answers.items ≡ Some c.in-Some.errno =
+    sym (ap refusal_in c.as_slice.ensures.value) ∙ sym c.refusal_in.ensures ∙ c.in-Some.is in
+    let other : is_missing c.in-Some.errno ≡ false = sym c.is_missing.ensures ∙ c.if-is_missing.false in
+    inl (sought_refused state settled c.args.cred.now hangs from.node from.name.now to.node to.name.now (Error c.in-Some.errno) c.args.self.now.volume c.one.new.self.volume
+    c.in-Ok.path c.in-Ok-one.answers.items c.in-Some.errno leads c.in-Ok-one.ensures.made refused other refl)

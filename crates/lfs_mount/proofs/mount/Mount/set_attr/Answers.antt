@@ -1,0 +1,54 @@
+use Rattle.std.proofs.Common.{◌≡◌, inl, None, Some, refl, sym, ap, subst, ◌∙◌, arith}
+use Rattle.std.proofs.lemmas.Grind.{common_steps}
+use Rattle.lfs_types.specs.declared.attrs.Attrs.{Attrs}
+use Rattle.lfs_fuse_wire.specs.Said.{setattr}
+use Rattle.lfs_fuse_reply.specs.declared.errno.Errno.TheVariants.{EIO}
+use Rattle.lfs_fuse_calls.specs.Telling.{refusal_in, seen_in}
+use Rattle.lfs_fuse_calls.specs.declared.told.Told.TheVariants.{Error}
+use Rattle.lfs_mount.specs.Handled.{IsSet, hangs_in}
+use Rattle.lfs_mount.proofs.HandledLemmas.{looked_on, looked_refused, looked_unseen}
+use Rattle.lfs_mount.proofs.mount.Mount.set_attr.Goals as goal
+
+pub returns-in-Some : goal.returns-in-Some
+returns-in-Some g c =
+    let state = g.F.FileStore.state in
+    let settled = g.F.FileStore.is_settled in
+    let hangs = hangs_in c.args.self.now.nodes in
+    let reply = Error c.in-Some.errno in
+    let new = c.calls.new.self.volume in
+    let refused : refusal_in c.in-Ok.answers.items ≡ Some c.in-Some.errno =
+    sym (ap refusal_in c.as_slice.ensures.value) ∙ sym c.refusal_in.ensures ∙ c.in-Some.is in
+    inl (looked_refused state settled c.args.cred.now hangs c.args.node (setattr c.args.fields.now) reply c.args.self.now.volume new
+    (λ between (present : Attrs). IsSet state settled c.args.cred.now hangs c.args.node c.args.fields.now reply between new present)
+    c.in-Ok.answers.items c.in-Some.errno c.in-Ok.ensures.made refused refl)
+
+pub returns-in-Some-seen_in : goal.returns-in-Some-seen_in
+returns-in-Some-seen_in g c =
+    let state = g.F.FileStore.state in
+    let settled = g.F.FileStore.is_settled in
+    let hangs = hangs_in c.args.self.now.nodes in
+    let reply = c.set.result in
+    let between = c.calls.new.self.volume in
+    let new = c.set.new.self.volume in
+    let seen = c.in-Some-seen_in.seen in
+    let served : refusal_in c.in-Ok.answers.items ≡ None = grind (arith, common_steps) in
+    let was : seen_in c.in-Ok.answers.items ≡ Some seen =
+    sym (ap seen_in c.as_slice-2.ensures.value) ∙ sym c.seen_in.ensures ∙ c.in-Some-seen_in.is in
+    inl (looked_on state settled c.args.cred.now hangs c.args.node (setattr c.args.fields.now) reply c.args.self.now.volume between new
+    (λ between (present : Attrs). IsSet state settled c.args.cred.now hangs c.args.node c.args.fields.now reply between new present)
+    c.in-Ok.answers.items seen c.in-Ok.ensures.made served was
+    (subst (λ n. IsSet state settled c.args.cred.now (hangs_in n) c.args.node c.args.fields.now reply between new seen.attrs) c.calls.ensures.nodes c.set.ensures))
+
+pub returns : goal.returns
+returns g c =
+    let state = g.F.FileStore.state in
+    let settled = g.F.FileStore.is_settled in
+    let hangs = hangs_in c.args.self.now.nodes in
+    let reply = Error EIO in
+    let new = c.calls.new.self.volume in
+    let served : refusal_in c.in-Ok.answers.items ≡ None = grind (arith, common_steps) in
+    let unseen : seen_in c.in-Ok.answers.items ≡ None =
+    sym (ap seen_in c.as_slice-2.ensures.value) ∙ sym c.seen_in.ensures ∙ c.in-None.is in
+    inl (looked_unseen state settled c.args.cred.now hangs c.args.node (setattr c.args.fields.now) reply c.args.self.now.volume new
+    (λ between (present : Attrs). IsSet state settled c.args.cred.now hangs c.args.node c.args.fields.now reply between new present)
+    c.in-Ok.answers.items c.in-Ok.ensures.made served unseen refl)
