@@ -1,5 +1,5 @@
 -- The memory of a volume as callers see it, and what each call makes of it.
-use Rattle.std.specs.Prelude.{◌≡◌, ℕ, zero, suc, ◌+◌, ◌-◌, ◌*◌, ◌/◌, ◌<◌, ◌≤◌, List, [], ◌∷◌, ◌++◌, All, length, take, drop, replicate, slice_index_or}
+use Rattle.std.specs.Prelude.{◌≡◌, ℕ, zero, suc, ◌+◌, ◌-◌, ◌*◌, ◌/◌, ◌%◌, ◌<◌, ◌≤◌, List, [], ◌∷◌, ◌++◌, All, length, take, drop, replicate, slice_index_or}
 use Rattle.byteorder.specs.Endian.{big_bytes}
 use Rattle.lfs_types.specs.declared.block.TheConstants.{BLOCK_SIZE}
 use Rattle.lfs_types.specs.declared.limits.TheConstants.{SEGMENT_BLOCKS}
@@ -73,3 +73,12 @@ opened m segment = record m {
   fill = log_start segment;
   blocks = written m.blocks (segment * SEGMENT_BLOCKS + log_start segment) (replicate (SEGMENT_BLOCKS - log_start segment) zero_block);
 }
+
+-- so many blocks are whole segments, as many as a volume may have; one of them is active, with so many of its blocks used
+pub record IsVolume (count active fill : ℕ) : Type 0 where
+  pub whole : count % SEGMENT_BLOCKS ≡ 0
+  pub at_least : least_segments ≤ count / SEGMENT_BLOCKS
+  pub at_most : count / SEGMENT_BLOCKS ≤ most_segments
+  pub active_inside : active < count / SEGMENT_BLOCKS
+  pub begun : log_start active ≤ fill
+  pub within : fill ≤ SEGMENT_BLOCKS

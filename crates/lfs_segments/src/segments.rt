@@ -1,11 +1,12 @@
 //! The memory of the volume: segments of blocks, one of them active.
 
-ghost use Rattle.std.specs.Prelude.{◌≡◌, ◌+◌, ◌-◌, ◌*◌, ◌<◌, ◌≤◌, ◌↔◌, IfOk, IsErrOf, [], length, replicate, vec_len};
+ghost use Rattle.std.specs.Prelude.{◌≡◌, ◌+◌, ◌-◌, ◌*◌, ◌<◌, ◌≤◌, ◌↔◌, IfNone, IfOk, IfSome, IsErrOf, IsTrue, [], All, length, replicate, vec_len};
 ghost use Rattle.lfs_types.specs.Blocks.{zero_block};
+ghost use Rattle.lfs_types.specs.declared.block.TheConstants.{BLOCK_SIZE};
 ghost use Rattle.lfs_types.specs.declared.limits.TheConstants.{SEGMENT_BLOCKS};
 ghost use Rattle.lfs_types.specs.Ranges.{least_segments, most_segments};
 ghost use Rattle.lfs_segments.specs.Log.{Expects};
-ghost use Rattle.lfs_segments.specs.Memory.{IsLaidOut, appended, block_at, fresh, label, log_start, next_address, opened, room_of, written};
+ghost use Rattle.lfs_segments.specs.Memory.{IsLaidOut, IsVolume, appended, block_at, fresh, label, log_start, next_address, opened, room_of, seen, written};
 
 use byteorder::{BigEndian, ByteOrder};
 use lfs_types::block::{Block, ZERO_BLOCK};
@@ -60,6 +61,25 @@ impl Segments {
             active: 0,
             fill: 1,
         })
+    }
+
+    /// The memory that these blocks are, where a segment is active and so many of its blocks are used, whoever made them;
+    /// `None` where they are no volume's: where they aren't 6 to 1,024 whole segments, or have no such segment, or where
+    /// its log can't end behind so many blocks.
+    pub fn over(blocks: Vec<Block>, active: u32, fill: u32) -> Option<Segments>
+        requires { All (λ block. length block ≡ BLOCK_SIZE) blocks.items }
+        ensures over { IfSome result (λ memory. memory ≡ seen blocks.items active fill) }
+        ensures none { IfNone result (IsLaidOut (seen blocks.items active fill) → ⊥) }
+    {
+        if is_volume(blocks.len(), active, fill) {
+            Some(Segments {
+                blocks,
+                active,
+                fill,
+            })
+        } else {
+            None
+        }
     }
 
     /// The number of segments, 6 to 1,024.
@@ -137,6 +157,19 @@ impl Segments {
             (first + SEGMENT_BLOCKS) as usize,
         );
     }
+}
+
+/// Whether so many blocks can be a volume's, where a segment is active and so many of its blocks are used.
+fn is_volume(count: usize, active: u32, fill: u32) -> bool
+    ensures { IsTrue result ↔ IsVolume count active fill }
+{
+    let segments = count / SEGMENT_BLOCKS as usize;
+    count % SEGMENT_BLOCKS as usize == 0
+        && LEAST_SEGMENTS as usize <= segments
+        && segments <= MOST_SEGMENTS as usize
+        && (active as usize) < segments
+        && log_start(active) <= fill
+        && fill <= SEGMENT_BLOCKS
 }
 
 /// The block of a segment at which its log begins: behind the label in segment 0.

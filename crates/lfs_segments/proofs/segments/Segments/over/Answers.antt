@@ -1,0 +1,31 @@
+use Rattle.std.proofs.Common.{◌≡◌, length, sym, subst, ◌∙◌, arith}
+use Rattle.std.proofs.lemmas.Bool.{false≢true}
+use Rattle.lfs_segments.specs.Memory.{IsVolume}
+use Rattle.lfs_segments.proofs.segments.Segments.over.Goals as goal
+
+pub invariant_of-result : goal.invariant_of-result
+invariant_of-result c =
+    let count : c.len.result ≡ length c.args.blocks.items = c.len.ensures ∙ c.args.blocks.ok.0 in
+    let volume = subst (λ n. IsVolume n c.args.active c.args.fill) count (c.is_volume.ensures.0 c.if-is_volume.true) in
+    record {
+      at_least = volume.at_least;
+      at_most = volume.at_most;
+      whole = omega (arith, volume.whole);
+      each = c.requires;
+      active = volume.active_inside;
+      begun = volume.begun;
+      within = volume.within;
+    }
+
+pub returns-else-is_volume-clause-none : goal.returns-else-is_volume-clause-none
+returns-else-is_volume-clause-none c = λ laid.
+    let count : c.len.result ≡ length c.args.blocks.items = c.len.ensures ∙ c.args.blocks.ok.0 in
+    let volume : IsVolume (length c.args.blocks.items) c.args.active c.args.fill = record {
+      whole = omega (arith, laid.whole);
+      at_least = laid.at_least;
+      at_most = laid.at_most;
+      active_inside = laid.active;
+      begun = laid.begun;
+      within = laid.within;
+    } in
+    false≢true (sym c.if-is_volume.false ∙ c.is_volume.ensures.1 (subst (λ n. IsVolume n c.args.active c.args.fill) (sym count) volume))
