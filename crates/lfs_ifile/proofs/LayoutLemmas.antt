@@ -15,7 +15,7 @@ use Rattle.lfs_ifile.specs.Tables.{Tables, IsIfile, usage_of}
 use Rattle.lfs_ifile.specs.Layout.{u32_bytes, u16_bytes, header_bytes, segment_bytes, row_bytes, ifile_bytes, number_at, IsLaidOut, ReadsUse}
 
 -- the pairs are as many as the segments
-length-zip_same : (live : List ℕ) (states : List SegState) → length states ≡ length live → length (zip live states) ≡ length live
+pub length-zip_same : (live : List ℕ) (states : List SegState) → length states ≡ length live → length (zip live states) ≡ length live
 length-zip_same live states same = omega (arith, length-zip live states)
 
 -- one more segment is written
@@ -48,17 +48,17 @@ pub length-u32_bytes : (number : ℕ) → length (u32_bytes number) ≡ 4
 unfolding u32_bytes
 length-u32_bytes number = refl
 
-length-u16_bytes : (number : ℕ) → length (u16_bytes number) ≡ 2
+pub length-u16_bytes : (number : ℕ) → length (u16_bytes number) ≡ 2
 unfolding u16_bytes
 length-u16_bytes number = refl
 
 -- each segment takes eight bytes
-length-segments : (pairs : List (ℕ × SegState)) → length (flat_map segment_bytes pairs) ≡ 8 * length pairs
+pub length-segments : (pairs : List (ℕ × SegState)) → length (flat_map segment_bytes pairs) ≡ 8 * length pairs
 length-segments [] = refl
 length-segments (p ∷ pairs) = grind (arith, length-append, length-u32_bytes, length-segments pairs)
 
 -- each row takes twelve bytes
-length-rows : (rows : List InodeRow) → length (flat_map row_bytes rows) ≡ 12 * length rows
+pub length-rows : (rows : List InodeRow) → length (flat_map row_bytes rows) ≡ 12 * length rows
 length-rows [] = refl
 length-rows (row ∷ rows) = grind (arith, length-append, length-u32_bytes, length-u16_bytes, length-rows rows)
 
@@ -71,12 +71,12 @@ length-ifile_bytes tables same =
     simp (length-append, length-u32_bytes) (omega arith)
 
 -- a place after `before` is a place in what follows it
-get_or-after : (before rest : List ℕ) (i place : ℕ) → place ≡ length before + i → get_or (before ++ rest) place 0 ≡ get_or rest i 0
+pub get_or-after : (before rest : List ℕ) (i place : ℕ) → place ≡ length before + i → get_or (before ++ rest) place 0 ≡ get_or rest i 0
 get_or-after before rest i place at =
     ap (λ (k : ℕ). get_or (before ++ rest) k 0) at ∙ get_or-append-add before rest i 0
 
 -- a number that was written after `before` is read there
-number_at-written : (before after : List ℕ) (number place : ℕ) → number < 2 ^ 32 → length before ≡ place → number_at (before ++ (u32_bytes number ++ after)) place ≡ number
+pub number_at-written : (before after : List ℕ) (number place : ℕ) → number < 2 ^ 32 → length before ≡ place → number_at (before ++ (u32_bytes number ++ after)) place ≡ number
 unfolding u32_bytes number_at
 number_at-written before after number place fits here =
     let rest : List ℕ = u32_bytes number ++ after in
@@ -108,7 +108,7 @@ state_number-fits Dirty = omega arith
 state_number-fits Active = omega arith
 
 -- the header reads back
-laid_out-ifile_bytes : (tables : Tables) → IsIfile tables → IsLaidOut (ifile_bytes tables) × (number_at (ifile_bytes tables) 4 ≡ length tables.live)
+pub laid_out-ifile_bytes : (tables : Tables) → IsIfile tables → IsLaidOut (ifile_bytes tables) × (number_at (ifile_bytes tables) 4 ≡ length tables.live)
 laid_out-ifile_bytes tables is =
     let segments = length tables.live in
     let inodes = length tables.rows in
@@ -156,7 +156,7 @@ use-ifile_bytes tables seg is within =
     }
 
 -- two states with one number are the same
-same_state : (s t : SegState) → state_number s ≡ state_number t → s ≡ t
+pub same_state : (s t : SegState) → state_number s ≡ state_number t → s ≡ t
 same_state Clean Clean e = refl
 same_state Clean Dirty e = absurd (omega arith)
 same_state Clean Active e = absurd (omega arith)

@@ -1,1 +1,2 @@
 pub mod LayoutLemmas
+pub mod LoadingLemmas

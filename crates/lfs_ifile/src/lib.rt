@@ -3,13 +3,18 @@
 //! project's profile.
 #![tactic(auto)]
 
+mod fault;
 mod inode;
+mod loading;
 mod reading;
 mod segment;
 pub mod sizes;
 mod tables;
+#[cfg(test)]
+mod tests;
 mod writing;
 
+pub use fault::IfileFault;
 pub use inode::{InodePlace, InodeRow, raised_version};
 pub use reading::usage_in;
 pub use segment::{SEGMENT_BYTES, SegState, SegUse};

@@ -11,7 +11,7 @@ pub(crate) const MAGIC: u32 = 0x4c46_4946;
 
 /// The number in the four bytes from a place on, the highest first.
 #[tactic(auto, unfolding(crate::specs::Layout::number_at))]
-fn number_at(bytes: &[u8], place: usize) -> u32
+pub(crate) fn number_at(bytes: &[u8], place: usize) -> u32
     requires { place + 4 ≤ length bytes.now }
     ensures { result ≡ number_at bytes.now place }
 {
@@ -24,7 +24,7 @@ fn number_at(bytes: &[u8], place: usize) -> u32
 }
 
 /// Whether the first four bytes and the length are those of an ifile.
-fn is_laid_out(bytes: &[u8]) -> bool
+pub(crate) fn is_laid_out(bytes: &[u8]) -> bool
     ensures { IsTrue result ↔ IsLaidOut bytes.now }
 {
     if bytes.len() < 12 || number_at(bytes, 0) != MAGIC {

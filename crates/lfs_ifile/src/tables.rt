@@ -1,13 +1,16 @@
 //! The ifile of a volume.
 
-ghost use Rattle.std.specs.Prelude.{◌≡◌, ◌+◌, ◌-◌, ◌*◌, ◌<◌, ◌≤◌, ◌↔◌, ℕ, length, slice_index, slice_index_or, true, false, IfOk, IfNone, IfSome, IsErrOf, vec_len};
+ghost use Rattle.std.specs.Prelude.{◌≡◌, ◌+◌, ◌-◌, ◌*◌, ◌<◌, ◌≤◌, ◌↔◌, ℕ, length, slice_index, slice_index_or, true, false, IfErr, IfOk, IfNone, IfSome, IsErrOf, vec_len};
 ghost use Rattle.lfs_ifile.specs.declared.segment.SegState.TheVariants.{Clean};
+ghost use Rattle.lfs_ifile.specs.declared.fault.IfileFault.TheVariants.{Memory};
 ghost use Rattle.lfs_ifile.specs.Inode.{raised_version, given_row, placed_row, released_row, IsPlace};
-ghost use Rattle.lfs_ifile.specs.Tables.{blocks_of, usage_of, place_of, row_at, row_of, with_live, with_state, with_row, KeepsButLive, KeepsButState, KeepsButRow, AreUnclean, AreUsed, IsFirstClean, IsLeastFree, IsIfile, IsTooFew, IsTooMany, fresh_tables};
-ghost use Rattle.lfs_ifile.specs.Layout.{ifile_bytes, ReadsUse};
+ghost use Rattle.lfs_ifile.specs.Tables.{Tables, blocks_of, usage_of, place_of, row_at, row_of, with_live, with_state, with_row, KeepsButLive, KeepsButState, KeepsButRow, AreUnclean, AreUsed, IsFirstClean, IsLeastFree, IsIfile, IsTooFew, IsTooMany, fresh_tables};
+ghost use Rattle.lfs_ifile.specs.Layout.{ifile_bytes, IsIfileFaultOf, ReadsUse};
 
+use crate::fault::IfileFault;
 use crate::inode::{InodePlace, InodeRow, raised_version};
-use crate::reading::MAGIC;
+use crate::loading::{is_head, read_live, read_rows, read_states};
+use crate::reading::{MAGIC, number_at};
 use crate::segment::{SEGMENT_BYTES, SegState, SegUse};
 use crate::writing::{push_rows, push_segments, push_u32};
 use lfs_types::fault::FormatFault;
@@ -115,6 +118,47 @@ impl Ifile {
             live: vec![in alloc; 0; segments as usize]?,
             states: vec![in alloc; SegState::Clean; segments as usize]?,
             rows: vec![in alloc; row; inodes as usize]?,
+            used_below: FIRST_FREE,
+            unclean_below: 0,
+        })
+    }
+
+    /// The ifile whose bytes these are, whoever made them: else what is wrong with them, or `Memory`.
+    pub fn read(alloc: Global, bytes: &[u8]) -> Result<Ifile, IfileFault>
+        ensures spelled { IfOk result (λ file. ifile_bytes file ≡ bytes.now) }
+        // No other ifile has these bytes.
+        ensures only { IfOk result (λ file. (other : Tables)
+            → IsIfile other → ifile_bytes other ≡ bytes.now → other ≡ file) }
+        ensures formed { IfOk result IsIfile }
+        ensures fault { IfErr result (IsIfileFaultOf bytes.now) }
+        // Where there is a fault, but for want of memory, no ifile has these bytes.
+        ensures none { IfErr result (λ fault. (fault ≡ Memory → ⊥) → (file : Tables)
+            → IsIfile file → ifile_bytes file ≡ bytes.now → ⊥) }
+    {
+        Ifile::parse(alloc, bytes)
+    }
+
+    /// What `read` gives.
+    fn parse(alloc: Global, bytes: &[u8]) -> Result<Ifile, IfileFault>
+        ensures spelled { IfOk result (λ file. ifile_bytes file ≡ bytes.now) }
+        // No other ifile has these bytes.
+        ensures only { IfOk result (λ file. (other : Tables)
+            → IsIfile other → ifile_bytes other ≡ bytes.now → other ≡ file) }
+        ensures formed { IfOk result IsIfile }
+        ensures fault { IfErr result (IsIfileFaultOf bytes.now) }
+    {
+        if !is_head(bytes) {
+            return Err(IfileFault::Head);
+        }
+        let segments = number_at(bytes, 4);
+        let inodes = number_at(bytes, 8);
+        let live = read_live(alloc, bytes, segments)?;
+        let states = read_states(alloc, bytes, segments)?;
+        let rows = read_rows(alloc, bytes, segments, inodes)?;
+        Ok(Ifile {
+            live,
+            states,
+            rows,
             used_below: FIRST_FREE,
             unclean_below: 0,
         })
