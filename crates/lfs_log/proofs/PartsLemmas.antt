@@ -167,3 +167,12 @@ module _ (p : LogParts) (segment : ℕ) (h : IsParts p) (inside : segment < p.me
     ];
     counted = opened_count;
   }
+
+-- one more segment is counted
+pub clean_count-first : (tables : Tables) → clean_count tables 0 ≡ 0
+unfolding clean_count total
+clean_count-first tables = refl
+
+pub clean_count-more : (tables : Tables) (n : ℕ) → clean_count tables (n + 1) ≡ clean_unit (state_of tables n) + clean_count tables n
+unfolding clean_count total
+clean_count-more tables n = let one : n + 1 ≡ suc n = omega arith in rw one refl

@@ -88,3 +88,8 @@ log_state p at = record {
   next = next_address p.memory;
   clean = p.clean;
 }
+
+-- a segment is the active one, and no other is
+pub record IsActiveAlone (tables : Tables) (active : ℕ) : Type 0 where
+  pub is_active : state_of tables active ≡ Active
+  pub no_other : (s : ℕ) → s < length tables.live → state_of tables s ≡ Active → s ≡ active

@@ -1,14 +1,15 @@
 //! The parts of the log, and what they show.
 
-ghost use Rattle.std.specs.Prelude.{◌≡◌, ◌*◌, ◌<◌, ◌↔◌, [], length, IfNone, IfOk, IfSome, IsErrOf};
+ghost use Rattle.std.specs.Prelude.{◌≡◌, ◌*◌, ◌<◌, ◌↔◌, ℕ, [], length, IfNone, IfOk, IfSome, IsErrOf, IsTrue};
 ghost use Rattle.lfs_types.specs.declared.limits.TheConstants.{FIRST_INODE, SEGMENT_BLOCKS};
+ghost use Rattle.lfs_ifile.specs.declared.segment.SegState.TheVariants.{Active};
 ghost use Rattle.lfs_ifile.specs.Inode.{IsPlace};
 ghost use Rattle.lfs_ifile.specs.Layout.{ifile_bytes};
 ghost use Rattle.lfs_ifile.specs.Tables.{AreUsed, IsLeastFree, IsTooFew, IsTooMany, blocks_of, place_of, usage_of};
 ghost use Rattle.lfs_segments.specs.Log.{Expects};
 ghost use Rattle.lfs_segments.specs.Memory.{block_at, next_address, room_of};
-ghost use Rattle.lfs_bmap.specs.Log.{IsEmptyLog};
-ghost use Rattle.lfs_log.specs.Parts.{IsParts, fresh_parts, log_state};
+ghost use Rattle.lfs_bmap.specs.Log.{IsEmptyLog, clean_unit};
+ghost use Rattle.lfs_log.specs.Parts.{IsActiveAlone, IsParts, clean_count, fresh_parts, log_state};
 
 use lfs_ifile::{Ifile, InodePlace, SegState, SegUse};
 use lfs_segments::segments::Segments;
@@ -36,6 +37,48 @@ impl Model for Log {
     ghost invariant = { λ l. IsParts (record { memory = l.segments; tables = l.ifile; clean = l.clean }) };
 }
 
+/// Whether a segment is active, and no other one is.
+fn is_active_alone(ifile: &Ifile, active: u32) -> bool
+    requires { active < length ifile.now.live }
+    ensures { IsTrue result ↔ IsActiveAlone ifile.now active }
+{
+    for segment in 0..ifile.segments() {
+        if is_active(ifile.usage(segment).state) && segment != active {
+            return false;
+        }
+    }
+    is_active(ifile.usage(active).state)
+}
+
+/// Whether a segment in a state is the active one.
+fn is_active(state: SegState) -> bool
+    ensures { IsTrue result ↔ state ≡ Active }
+{
+    matches!(state, SegState::Active)
+}
+
+/// How many segments are clean.
+fn count_clean(ifile: &Ifile) -> u32
+    ensures { result ≡ clean_count ifile.now (length ifile.now.live) }
+{
+    let mut clean = 0;
+    for segment in 0..ifile.segments() {
+        clean += clean_unit(ifile.usage(segment).state);
+    }
+    clean
+}
+
+/// 1 for a clean segment, else 0.
+fn clean_unit(state: SegState) -> u32
+    ensures { result ≡ clean_unit state }
+{
+    match state {
+        SegState::Clean => 1,
+        SegState::Dirty => 0,
+        SegState::Active => 0,
+    }
+}
+
 impl Log {
     /// Lays out a volume of 6 to 1,024 segments and 16 to 4,096 inode numbers. Segment 0 is active,
     /// the others are clean, and no number is used. `TooFew` and `TooMany` are answered outside
@@ -56,6 +99,29 @@ impl Log {
             segments: memory,
             ifile,
             clean: segments - 1,
+        })
+    }
+
+    /// The log of these segments and this ifile, whoever made them; `None` where they don't agree: on the number of
+    /// segments, and on which one is active, which must be the only one.
+    pub fn over(segments: Segments, ifile: Ifile) -> Option<Log>
+        ensures memory { IfSome result (λ log. log.memory ≡ segments) }
+        ensures tables { IfSome result (λ log. log.tables ≡ ifile) }
+        ensures kept { IfSome result IsParts }
+        ensures none { IfNone result ((clean : ℕ)
+            → IsParts (record { memory = segments; tables = ifile; clean = clean }) → ⊥) }
+    {
+        if ifile.segments() != segments.segments() {
+            return None;
+        }
+        if !is_active_alone(&ifile, segments.active()) {
+            return None;
+        }
+        let clean = count_clean(&ifile);
+        Some(Log {
+            segments,
+            ifile,
+            clean,
         })
     }
 
