@@ -1,0 +1,9 @@
+//! A volume as bytes: its blocks, its ifile and its securelevel, behind a block that tells how many there are (this
+//! project's profile).
+#![tactic(auto)]
+
+mod saving;
+#[cfg(test)]
+mod tests;
+
+pub use saving::save;
