@@ -2,6 +2,7 @@
 
 ghost use Rattle.std.specs.Prelude.{◌≡◌, ◌↔◌, IfOk, IsErrOf};
 ghost use Rattle.lfs_staging.specs.Opening.{IsOpening, IsTooFew, IsTooMany};
+ghost use Rattle.lfs_staging.specs.Store.{IsSettled, IsStore};
 ghost use Rattle.lfs_logstore.specs.States.{opening_state};
 
 use lfs_staging::parts::Parts;
@@ -44,5 +45,14 @@ impl LogStore {
     {
         let parts = Parts::format(alloc, params.segments, params.inodes, params.frames)?;
         Ok(LogStore { parts })
+    }
+
+    /// The store over these parts, of which nothing waits, whoever made them.
+    pub fn over(parts: Parts) -> LogStore
+        requires store { IsStore parts }
+        requires settled { IsSettled parts }
+        ensures { result ≡ parts }
+    {
+        LogStore { parts }
     }
 }
