@@ -9,7 +9,7 @@ use Rattle.std.proofs.lemmas.Bool.{cases_Bool, cases_eq, cond-true, cond-false, 
 use Rattle.std.proofs.lemmas.Bool.Decides.{Decides-eqb}
 use Rattle.std.proofs.lemmas.Cmp.{nat_eq_equiv}
 use Rattle.std.proofs.lemmas.List.{drop-take, get_or-drop, get_or-take, length-drop, length-take, take-append-drop, take-take, take_all}
-use Rattle.std.proofs.lemmas.List.Elements.{All-append, All-contains, Contains-append_left, Contains-append_right, Contains-append_cases, Contains-get_or}
+use Rattle.std.proofs.lemmas.List.Elements.{All-append, All-contains, All-contains_itself, Contains-append_left, Contains-append_right, Contains-append_cases, Contains-get_or}
 use Rattle.std.proofs.lemmas.Map.Made.{is_member-Decides}
 use Rattle.lfs_types.specs.declared.cleaner.BlockInfo.{BlockInfo}
 use Rattle.lfs_segments.specs.Memory.{room_of}
@@ -27,7 +27,8 @@ use Rattle.lfs_staging.specs.Files.{content_of}
 use Rattle.lfs_staging.specs.Keys.{log_state}
 use Rattle.lfs_staging.specs.Store.{IsSettled, IsStore}
 use Rattle.lfs_segwrite.specs.Gaining.{Empties, IsGainful, IsWorth, MovesBlocks, MovesEights, Spends, blocks_by_eights, eight, eight_blocks, eights, greatest, live_infos, pass_blocks, space, widest, widest_eight}
-use Rattle.lfs_segwrite.specs.Marking.{IsNamed, IsRewritten, MarksSettled, blocks_to_mark, code_named, keys_to_mark, number_named}
+use Rattle.lfs_segwrite.specs.Marking.{IsNamed, IsOnWay, IsRewritten, MarksSettled, blocks_to_mark, code_named, keys_to_mark, number_named}
+use Rattle.lfs_staging.specs.View.{key_of, version_of}
 use Rattle.lfs_segwrite.proofs.CountingLemmas.{mapped, part_count, same_decides, same_laws}
 use Rattle.lfs_segwrite.proofs.InfoLemmas.{live_kept, placed_listed}
 use Rattle.lfs_segwrite.proofs.NamedLemmas.{named_place, named_there}
@@ -291,6 +292,18 @@ moves_more old mid new marks count h store settled content m =
 abbrev pub LiesDirty : Parts → BlockInfo → Type 0
 LiesDirty p info = DirtyIn (log_state p) (info.addr / 64) × (info.addr / 64 < p.log.memory.segments)
 
+-- what is on a way to one of some infos is on one to one of a list that has them
+way_part : (named infos : List BlockInfo) (old mid : Parts) → All (λ (info : BlockInfo). Contains infos info) named → ((n : ℕ) → version_of mid n ≡ version_of old n)
+    → (n c : ℕ) → IsOnWay named mid n c → IsOnWay infos old n c
+way_part named infos old mid part version n zero way = mapped_part number_named named infos n part way
+way_part named infos old mid part version n (suc code) way =
+    subst (λ v. Contains (flat_map keys_to_mark infos) (key_of n v (suc code))) (version n)
+    (joined_part keys_to_mark named infos (key_of n (version_of mid n) (suc code)) part way)
+
+eight_part : (infos : List BlockInfo) (k : ℕ) (info : BlockInfo) → Contains (eight infos k) info → Contains infos info
+eight_part infos k info has =
+    All-contains (λ (i : BlockInfo). Contains infos i) (eight infos k) info (part_of_eight (λ (i : BlockInfo). Contains infos i) infos k (All-contains_itself infos)) has
+
 -- one eight more
 pub eights_more : (infos : List BlockInfo) (k count : ℕ) (old mid new : Parts) → IsWorth (blocks_by_eights infos) (widest_eight infos) old → All (LiesDirty old) infos
     → k < eights infos → MovesEights infos k old mid → IsStore new → IsSettled new → content_of new ≡ content_of mid → MarksSettled (eight infos k) count mid new
@@ -310,6 +323,10 @@ eights_more infos k count old mid new worth lie low h store settled content m =
       gone =
           subst (All (λ (info : BlockInfo). IsNamed (log_state new) info → ⊥)) (sym (take_eights infos k))
           (All-append (λ (info : BlockInfo). IsNamed (log_state new) info → ⊥) (take (8 * k) infos) (eight infos k) first next);
+      still = λ n c below known other.
+          m.still n c (subst (λ r. n < r) (sym h.moved.numbers) below) known (λ way.
+          other (way_part m.named infos old mid (λ j d less. eight_part infos k (get_or m.named j d) (m.are_named.marked j d less)) h.moved.versions n c way))
+          ∙ h.still n c below known other;
       spent =
           subst (λ n. Spends n (widest_eight infos) old new) (sym (total_more (eight_blocks infos) k))
           (spent_next (blocks_by_eights infos) (widest_eight infos) (total (eight_blocks infos) k) (eight_blocks infos k) (eight infos k) count old mid new worth h.spent m refl
@@ -362,6 +379,7 @@ emptied segment old new store gain h =
       moved = h.moved;
       dirty = h.moved.dirty.dirty segment gain.inside gain.dirty;
       empty = h.moved.store.log.counted segment inside ∙ live-none (length new.log.tables.rows) BLOCK_CODES (log_state new).at segment none;
+      still = h.still;
       spent = h.spent;
       gains = spent_gains (pass_blocks old segment) (widest old segment) old new gain.worth h.spent;
     }

@@ -9,6 +9,7 @@ use Rattle.lfs_ifile.specs.declared.segment.SegState.TheVariants.{Dirty}
 use Rattle.lfs_segments.specs.Memory.{block_at, room_of}
 use Rattle.lfs_log.specs.Infos.{infos_of}
 use Rattle.lfs_log.specs.Parts.{live_of, state_of}
+use Rattle.lfs_bmap.specs.declared.blocks.TheConstants.{BLOCK_CODES}
 use Rattle.lfs_bmap.specs.Counting.{total}
 use Rattle.lfs_bmap.specs.Log.{LogState}
 use Rattle.lfs_bmap.specs.Moves.{DirtyIn, Moves, StaysDirty, present_address}
@@ -17,7 +18,7 @@ use Rattle.lfs_staging.specs.Files.{content_of}
 use Rattle.lfs_staging.specs.Keys.{log_state}
 use Rattle.lfs_staging.specs.Store.{IsSettled, IsStore}
 use Rattle.lfs_staging.specs.View.{version_of}
-use Rattle.lfs_segwrite.specs.Marking.{AreNamed, IsNamed, blocks_to_mark, code_named}
+use Rattle.lfs_segwrite.specs.Marking.{AreNamed, IsNamed, IsOnWay, blocks_to_mark, code_named}
 use Rattle.lfs_segwrite.specs.declared.room.TheConstants.{WHOLE}
 
 -- an info names a block with its present address, which isn't 0
@@ -112,16 +113,22 @@ pub record MovesBlocks (old new : Parts) : Type 0 where
   pub blocks : (a : ℕ) → a / SEGMENT_BLOCKS < old.log.memory.segments → DirtyIn (log_state old) (a / SEGMENT_BLOCKS)
       → block_at new.log.memory a ≡ block_at old.log.memory a
 
--- The blocks of the first so many eights of some infos were written again, so that none of these infos names a block now.
+-- The blocks of the first so many eights of some infos were written again, so that none of these infos names a block now. Each
+-- key that is on no way to one of them has the place that it had.
 pub record MovesEights (infos : List BlockInfo) (count : ℕ) (old new : Parts) : Type 0 where
   pub moved : MovesBlocks old new
   pub gone : All (λ (info : BlockInfo). IsNamed (log_state new) info → ⊥) (take (MARK_LIMIT * count) infos)
+  pub still : (number code : ℕ) → number < length old.log.tables.rows → code < BLOCK_CODES → (IsOnWay infos old number code → ⊥)
+      → (log_state new).at number code ≡ (log_state old).at number code
   pub spent : Spends (total (eight_blocks infos) count) (widest_eight infos) old new
 
--- A dirty segment was emptied: no block is left in it, and what it took was counted before.
+-- A dirty segment was emptied: no block is left in it, and what it took was counted before. Each key that was on no way to one
+-- of its blocks has the place that it had.
 pub record Empties (segment : ℕ) (old new : Parts) : Type 0 where
   pub moved : MovesBlocks old new
   pub dirty : state_of new.log.tables segment ≡ Dirty
   pub empty : live_of new.log.tables segment ≡ 0
+  pub still : (number code : ℕ) → number < length old.log.tables.rows → code < BLOCK_CODES → (IsOnWay (live_infos old segment) old number code → ⊥)
+      → (log_state new).at number code ≡ (log_state old).at number code
   pub spent : Spends (pass_blocks old segment) (widest old segment) old new
   pub gains : space old < space new + WHOLE

@@ -1,4 +1,4 @@
-use Rattle.std.proofs.Common.{◌⊎◌, ◌<◌, ◌≤◌, sym, subst, arith}
+use Rattle.std.proofs.Common.{refl, ◌⊎◌, ◌<◌, ◌≤◌, sym, subst, arith}
 use Rattle.lfs_bmap.specs.Counting.{total}
 use Rattle.lfs_segments.specs.Memory.{room_of}
 use Rattle.lfs_segwrite.specs.Gaining.{blocks_by_eights, eight_blocks, widest_eight}
@@ -11,6 +11,7 @@ unfolding total
 loop-k-init c = record {
   moved = moves_none c.args.parts.now c.requires.store c.requires.settled;
   gone = λ j d low. absurd (omega arith);
+  still = λ n code low below other. refl;
   spent = spent_none (widest_eight c.args.infos.now) c.args.parts.now;
 }
 
