@@ -1,5 +1,5 @@
 -- The head of an image, word by word.
-use Rattle.std.proofs.Common.{◌≡◌, ℕ, List, ◌++◌, length, refl, append_assoc}
+use Rattle.std.proofs.Common.{◌≡◌, ℕ, List, ◌++◌, length, append_assoc}
 use Rattle.std.specs.Prelude.{replicate}
 use Rattle.lfs_types.specs.declared.level.Level.{Level}
 use Rattle.lfs_ifile.specs.Layout.{u32_bytes}
