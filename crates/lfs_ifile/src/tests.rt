@@ -4,18 +4,29 @@ use crate::{Ifile, IfileFault, SegState};
 use std::alloc::Global;
 use std::process::Abort;
 
+/// Gives out a number that is not used, and places its record.
+fn place(rt: &impl Abort, file: &mut Ifile, number: u32, addr: u32, slot: u16) {
+    assert!(rt; number < file.inodes());
+    assert!(rt; file.place(number).is_none());
+    assert!(rt; addr < 64 * file.segments() && slot < 4);
+    file.give_out(number);
+    file.set_place(number, addr, slot);
+}
+
+/// Gives a segment live bytes, where it has none, and makes it dirty.
+fn fill(rt: &impl Abort, file: &mut Ifile, segment: u32, live: u32) {
+    assert!(rt; segment < file.segments());
+    assert!(rt; file.usage(segment).live == 0 && live <= 32_768);
+    file.add_live(segment, live);
+    file.set_state(segment, SegState::Dirty);
+}
+
 /// The bytes of an ifile of 6 segments and 16 inode numbers: segment 2 is dirty with 128 live bytes, and the record of
 /// number 4 stands in slot 3 of block 130.
 fn some_bytes(rt: &impl Abort, alloc: Global) -> Vec<u8> {
     let mut file = Ifile::format(alloc, 6, 16).expect(rt, "an ifile");
-    assert!(rt; 4 < file.inodes() && 2 < file.segments());
-    assert!(rt; file.place(4).is_none() && file.usage(2).live == 0);
-    file.give_out(4);
-    assert!(rt; 4 < file.inodes() && file.place(4).is_some() && 130 < 64 * file.segments());
-    file.set_place(4, 130, 3);
-    assert!(rt; 2 < file.segments() && file.usage(2).live == 0);
-    file.add_live(2, 128);
-    file.set_state(2, SegState::Dirty);
+    place(rt, &mut file, 4, 130, 3);
+    fill(rt, &mut file, 2, 128);
     file.bytes().expect(rt, "bytes")
 }
 
@@ -40,9 +51,9 @@ fn expect_fault(rt: &impl Abort, bytes: &mut Vec<u8>, place: usize, byte: u8, fa
     assert!(rt; place < bytes.len());
     let was = bytes[place];
     bytes[place] = byte;
-    assert_eq!(rt; Ifile::read(*bytes.allocator(), bytes).err(), Some(fault));
-    assert!(rt; place < bytes.len());
+    let found = Ifile::read(*bytes.allocator(), bytes).err();
     bytes[place] = was;
+    assert_eq!(rt; found, Some(fault));
 }
 
 #[test]
