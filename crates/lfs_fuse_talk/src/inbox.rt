@@ -1,5 +1,7 @@
 //! What was read and isn't answered yet.
 
+ghost use Rattle.lfs_fuse_talk.specs.Fronts.{IsFront};
+
 use lfs_fuse_wire::framing::Frame;
 use std::alloc::{AllocError, Global};
 use std::io::Read;
@@ -26,7 +28,9 @@ pub(crate) enum First<'a> {
 }
 
 /// What stands at the front of bytes.
-pub(crate) fn front<'a>(bytes: &'a [u8]) -> First<'a> {
+pub(crate) fn front<'a>(bytes: &'a [u8]) -> First<'a>
+    ensures { IsFront bytes.now result }
+{
     match Frame::first(bytes, READ_BYTES) {
         Frame::Whole(size) if 0 < size && size <= bytes.len() => {
             First::Message(&bytes[..size], &bytes[size..])
