@@ -51,9 +51,9 @@ impl Parts {
         Ok(Parts::over(alloc, log, frames)?)
     }
 
-    /// The parts over a log, with a cache of so many frames and room for what is to wait. Nothing waits
-    /// yet.
-    fn over(alloc: Global, log: Log, frames: u32) -> Result<Parts, AllocError>
+    /// The parts over a log, with a cache of so many frames, 32 to 1,024, and room for what is to wait.
+    /// Nothing waits yet.
+    pub fn over(alloc: Global, log: Log, frames: u32) -> Result<Parts, AllocError>
         requires at_least { least_frames ≤ frames }
         requires at_most { frames ≤ most_frames }
         ensures log { IfOk result (λ parts. parts.log ≡ log) }
