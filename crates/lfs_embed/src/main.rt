@@ -1,4 +1,4 @@
-//! A file server inside a program: a volume, two threads with a session each, calls that are denied, and the journal.
+//! A file server inside a program: a volume, a session of each of two users, calls that are denied, and the journal.
 #![tactic(auto)]
 
 use lfs_journal_lines::telling::push_entry;
@@ -13,8 +13,6 @@ use lfs_types::request::{Place, Request};
 use lfs_types::store::Params;
 use std::alloc::Global;
 use std::io::Write;
-use std::sync::Wait;
-use std::thread::{Threads, join};
 
 /// The numbers of the volume.
 const PARAMS: Params = Params {
@@ -26,20 +24,20 @@ const PARAMS: Params = Params {
 
 /// Those who use the server: the superuser and user 8.
 #[derive(Drop)]
-struct Users<'a, R>(&'a R, Global);
+struct Users(Global);
 
-impl<R: Threads + Wait + Sync> Clients for Users<'_, R> {
+impl Clients for Users {
     fn run<L: Live + Sync>(self, server: &L) {
-        let Users(rt, alloc) = self;
-        let begin = |uid| Session::begin(server, Cred::new(uid, &[uid], false).unwrap());
-        if let (Ok(one), Ok(two)) = (begin(0), begin(8)) {
-            let (first, second) = (
-                move || make(alloc, one, "/a"),
-                move || make(alloc, two, "/b"),
-            );
-            let _ = join(rt, first, second);
+        if let (Some(one), Some(two)) = (begin(server, 0), begin(server, 8)) {
+            let _ = make(self.0, one, "/a");
+            let _ = make(self.0, two, "/b");
         }
     }
+}
+
+/// A session of this user.
+fn begin<L: Live>(server: &L, uid: u32) -> Option<Session<'_, L>> {
+    Session::begin(server, Cred::new(uid, &[uid], false).ok()?).ok()
 }
 
 /// Makes a file of two bytes. User 8 may not, as the root is the superuser's.
@@ -56,7 +54,7 @@ fn make<L: Live>(alloc: Global, mut session: Session<'_, L>, name: &str) -> anyh
 fn main(rt: HostRuntime) -> anyhow::Result<()> {
     let alloc = rt.alloc();
     let volume = fresh_volume(alloc, PARAMS)?;
-    let stopped = serve_clients(&rt, alloc, volume, Users(&rt, alloc), &())?;
+    let stopped = serve_clients(&rt, alloc, volume, Users(alloc), &())?;
     let mut lines = Vec::new(alloc);
     for transcript in &stopped.transcripts {
         for entry in stopped.volume.journal() {

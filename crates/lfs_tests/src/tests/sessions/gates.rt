@@ -15,11 +15,11 @@ use std::thread::Threads;
 /// Holds the first call of each of two sessions until the other's is begun, and the second until the other's first is
 /// made.
 #[derive(Drop)]
-pub struct Meeting<'a, R: Wait> {
+struct Meeting<'a, R: Wait> {
     /// The calls that are begun.
-    pub begun: Watch<'a, R>,
+    begun: Watch<'a, R>,
     /// The first calls that are made.
-    pub made: Watch<'a, R>,
+    made: Watch<'a, R>,
 }
 
 impl<'a, R: Wait + Sync> Gate for Meeting<'a, R> {
