@@ -1,9 +1,16 @@
 //! An audit: a journal's lines, each checked behind those before it.
 
-use crate::denials::Denials;
+ghost use Rattle.std.specs.Prelude.{◌≡◌, ◌≢◌, ◌+◌, Ok, Some, length, List, [], ◌∷◌, ◌++◌, IfOk, MatchOption, OnOk};
+ghost use Rattle.lfs_journal_lines.specs.Reading.{entry_told};
+ghost use Rattle.lfs_trace.specs.Checking.{IsSameStanding, numbers_of};
+ghost use Rattle.lfs_auditing.specs.Audits.{HasRead, HasReadOn, IsIllegalBehind, IsOfSame, NotesOnly, StopsAtLine};
+ghost use Rattle.lfs_auditing.specs.Users.{AreCounted};
+
 use crate::fault::{AuditFault, Unread};
 use crate::last::LastOnes;
 use crate::lines::{Piece, read_line};
+use crate::users::Users;
+use lfs_journal_lines::fault::LineFault;
 use lfs_journal_lines::reading::read_entry;
 use lfs_model::journal::{Entry, Event};
 use lfs_trace::checker::Checker;
@@ -28,22 +35,26 @@ pub enum Stop {
     Unread(Unread),
 }
 
-/// An audit of a journal: a checker of its entries, how many were legal so far, who was denied what, who changed which file
-/// last, and which other than its owner read it last.
+/// An audit of a journal: a checker of its entries, how many were legal so far, how each user's calls were answered, who
+/// changed which file last, and which other than its owner read it last.
 #[derive(Drop)]
 pub struct Audit {
     pub(crate) alloc: Global,
     pub(crate) checker: Checker,
     pub(crate) numbers: u32,
-    pub(crate) entries: u64,
-    pub(crate) denials: Denials,
+    pub(crate) entries: u32,
+    pub(crate) users: Users,
     pub(crate) changed: LastOnes,
     pub(crate) read: LastOnes,
 }
 
 impl Audit {
     /// An audit of the journal of a volume with so many inode numbers and segments.
-    pub fn new(alloc: Global, numbers: u32, segments: u32) -> Result<Audit, FormatFault> {
+    pub fn new(alloc: Global, numbers: u32, segments: u32) -> Result<Audit, FormatFault>
+        ensures fresh { IfOk result (λ audit. HasRead audit []) }
+        ensures numbers { IfOk result (λ audit. numbers_of audit.checker ≡ numbers) }
+        ensures segments { IfOk result (λ audit. audit.checker.segments ≡ segments) }
+    {
         let checker = Checker::new(alloc, numbers, segments)?;
         let changed = LastOnes::none(alloc, numbers)?;
         let read = LastOnes::none(alloc, numbers)?;
@@ -52,7 +63,7 @@ impl Audit {
             checker,
             numbers,
             entries: 0,
-            denials: Denials::none(alloc),
+            users: Users::none(alloc),
             changed,
             read,
         })
@@ -63,7 +74,12 @@ impl Audit {
     /// # Errors
     ///
     /// `Read` where the reader fails; `Memory`.
-    pub fn read_journal<R: Read>(&mut self, reader: &mut R) -> Result<Stop, AuditFault> {
+    pub fn read_journal<R: Read>(&mut self, reader: &mut R) -> Result<Stop, AuditFault>
+        requires { (entries : List Entry) × HasRead self.old entries }
+        ensures read { IfOk result (λ stop. (entries : List Entry) → HasRead self.old entries
+            → HasReadOn (R.remaining reader.old) (R.remaining reader.new) entries self.new stop) }
+        ensures same { IsOfSame self.old self.new }
+    {
         let mut line = Vec::new(self.alloc);
         for _ in 0..u64::MAX {
             match read_line(reader, &mut line)? {
@@ -80,21 +96,33 @@ impl Audit {
     }
 
     /// Checks the entry that a line tells; where there is something against it, the audit stops there.
-    fn line(&mut self, line: &[u8]) -> Result<Option<Stop>, AuditFault> {
+    fn line(&mut self, line: &[u8]) -> Result<Option<Stop>, AuditFault>
+        requires { (entries : List Entry) × HasRead self.old entries }
+        ensures read { IfOk result (λ stop. (entries : List Entry) → HasRead self.old entries
+            → MatchOption stop
+            ((entry : Entry) × (entry_told line.now ≡ Ok entry)
+            × HasRead self.new (entries ++ entry ∷ []))
+            (λ stop. StopsAtLine self.new entries line.now stop × HasRead self.new entries)) }
+        ensures same { IsOfSame self.old self.new }
+    {
         match read_entry(self.alloc, line) {
             Ok(entry) => self.entry(entry),
-            Err(fault) => match fault.kind {
-                FaultKind::Memory => Err(AuditFault::Memory),
-                _ => Ok(Some(Stop::Unread(Unread::Line(fault)))),
-            },
+            Err(fault) => unread(fault),
         }
     }
 
     /// Checks an entry; where it is illegal, the audit stops there.
-    fn entry(&mut self, entry: Entry) -> Result<Option<Stop>, AuditFault> {
+    fn entry(&mut self, entry: Entry) -> Result<Option<Stop>, AuditFault>
+        requires { (entries : List Entry) × HasRead self.old entries }
+        ensures read { IfOk result (λ stop. (entries : List Entry) → HasRead self.old entries
+            → MatchOption stop
+            (HasRead self.new (entries ++ entry ∷ []))
+            (λ stop. (stop ≡ Stop.Illegal entry) × IsIllegalBehind self.new entries entry
+            × HasRead self.new entries)) }
+        ensures same { IsOfSame self.old self.new }
+    {
         match self.checker.entry(&entry) {
             Ok(()) => {
-                self.entries = self.entries.saturating_add(1);
                 self.note(&entry)?;
                 Ok(None)
             }
@@ -103,9 +131,28 @@ impl Audit {
         }
     }
 
+    /// Counts a legal entry, which the checker stands behind, and puts down what it tells.
+    fn note(&mut self, entry: &Entry) -> Result<(), AuditFault>
+        requires { (entries : List Entry) × AreCounted self.old.users.counts entries
+            × (self.old.entries ≡ length entries) }
+        ensures users { OnOk result ((entries : List Entry) → AreCounted self.old.users.counts entries
+            → AreCounted self.new.users.counts (entries ++ entry.now ∷ [])) }
+        ensures counted { OnOk result (self.new.entries ≡ self.old.entries + 1) }
+        ensures checker { IsSameStanding self.old.checker self.new.checker }
+    {
+        let Some(count) = self.entries.checked_add(1) else {
+            return Err(AuditFault::TooMany);
+        };
+        self.users.add(entry)?;
+        self.entries = count;
+        self.note_event(entry)?;
+        Ok(())
+    }
+
     /// Puts down what a legal entry tells.
-    fn note(&mut self, entry: &Entry) -> Result<(), AllocError> {
-        self.denials.add(entry)?;
+    fn note_event(&mut self, entry: &Entry) -> Result<(), AllocError>
+        ensures { NotesOnly self.old self.new }
+    {
         match &entry.event {
             Event::User(request, Answer::Served(shown)) => self.note_served(entry, request, shown),
             Event::User(..) | Event::Cleaner(..) => Ok(()),
@@ -118,7 +165,9 @@ impl Audit {
         entry: &Entry,
         request: &Request,
         shown: &Served,
-    ) -> Result<(), AllocError> {
+    ) -> Result<(), AllocError>
+        ensures { NotesOnly self.old self.new }
+    {
         match shown {
             Served::Bytes(_) => match read_of(request) {
                 Some(path) => self.note_read(entry, path),
@@ -132,7 +181,9 @@ impl Audit {
     }
 
     /// Puts down who changed last what a path leads to now.
-    fn note_changed(&mut self, entry: &Entry, path: &Path, is_new: bool) -> Result<(), AllocError> {
+    fn note_changed(&mut self, entry: &Entry, path: &Path, is_new: bool) -> Result<(), AllocError>
+        ensures { NotesOnly self.old self.new }
+    {
         let Some(row) = self.checker.row(path) else {
             return Ok(());
         };
@@ -144,7 +195,9 @@ impl Audit {
     }
 
     /// Puts down who read last what a path leads to, if it isn't his.
-    fn note_read(&mut self, entry: &Entry, path: &Path) -> Result<(), AllocError> {
+    fn note_read(&mut self, entry: &Entry, path: &Path) -> Result<(), AllocError>
+        ensures { NotesOnly self.old self.new }
+    {
         match self.checker.row(path) {
             Some(row) if is_other(&entry.cred, row.attrs.uid) => {
                 self.read
@@ -152,6 +205,16 @@ impl Audit {
             }
             _ => Ok(()),
         }
+    }
+}
+
+/// Why a line with a fault stops an audit, but for want of memory.
+fn unread(fault: LineFault) -> Result<Option<Stop>, AuditFault>
+    ensures { IfOk result (λ stop. (stop ≡ Some (Stop.Unread (Unread.Line fault))) × (fault.kind ≢ FaultKind.Memory)) }
+{
+    match fault.kind {
+        FaultKind::Memory => Err(AuditFault::Memory),
+        _ => Ok(Some(Stop::Unread(Unread::Line(fault)))),
     }
 }
 

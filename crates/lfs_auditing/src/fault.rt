@@ -17,6 +17,9 @@ pub enum AuditFault {
     /// The reader failed.
     #[error("read failed")]
     Read,
+    /// The journal has more than 4,294,967,294 entries.
+    #[error("too many entries")]
+    TooMany,
     /// A growth was refused.
     #[error("no memory")]
     Memory,

@@ -12,7 +12,7 @@ pub struct Last {
     path: Path,
     uid: u32,
     session: u8,
-    entry: u64,
+    entry: u32,
 }
 
 /// For each inode number, who did something last to its file.
@@ -38,7 +38,7 @@ impl LastOnes {
         number: u32,
         path: &Path,
         entry: &Entry,
-        count: u64,
+        count: u32,
     ) -> Result<(), AllocError> {
         let path = path.try_clone(alloc)?;
         self.set(
@@ -82,7 +82,7 @@ impl Last {
         push_word(out, "session")?;
         push_number(out, u64::from(self.session))?;
         push_word(out, "entry")?;
-        push_number(out, self.entry)?;
+        push_number(out, u64::from(self.entry))?;
         Ok(out.push(b'\n')?)
     }
 }

@@ -2,10 +2,10 @@
 #![tactic(auto)]
 
 pub mod audit;
-pub mod denials;
 pub mod fault;
 pub mod last;
 pub mod lines;
 pub mod options;
 pub mod program;
 mod telling;
+pub mod users;

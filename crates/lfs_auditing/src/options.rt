@@ -48,7 +48,8 @@ const INODES: NumberOption = NumberOption {
 const JOURNAL: &str = "journal";
 
 /// What `--help` tells behind the options.
-const MORE: &str = "Status 0: each entry is legal behind those before it; 1: one isn't, or a line tells none, or a fault;
+const MORE: &str =
+    "Status 0: each entry is legal behind those before it; 1: one isn't, or a line tells none, or a fault;
 2: wrong arguments. The numbers are those that the volume was made with.
 
 Example: printf '0 as 0 0 | create /a 0644 | ok\\n' | lfs_audit_trail";

@@ -1,5 +1,9 @@
 //! `lfs_audit_trail`: a journal is read, from standard input or from a file, and what is found is told.
 
+ghost use Rattle.std.specs.Prelude.{◌≡◌, [], IfOk};
+ghost use Rattle.lfs_trace.specs.Checking.{numbers_of};
+ghost use Rattle.lfs_auditing.specs.Audits.{HasRead, IsAudited, status_of};
+
 use crate::audit::{Audit, Stop};
 use crate::fault::AuditFault;
 use crate::options::{Options, not_utf8, options_of};
@@ -76,10 +80,7 @@ fn words<E: Env + AllocGlobal>(env: &E) -> Result<Vec<String>, NoWords> {
 }
 
 /// What the words of a command line ask for.
-fn asked<'a>(
-    alloc: Global,
-    words: &'a Result<Vec<String>, NoWords>,
-) -> Result<Options<'a>, Error> {
+fn asked<'a>(alloc: Global, words: &'a Result<Vec<String>, NoWords>) -> Result<Options<'a>, Error> {
     match words {
         Ok(words) => options_of(alloc, words.as_slice()),
         Err(NoWords::Memory) => Err(AllocError.into()),
@@ -126,20 +127,43 @@ pub fn audit<R: Read, W: Write>(
     options: &Options<'_>,
     reader: &mut R,
     writer: &mut W,
-) -> Result<u8, AuditFault> {
+) -> Result<u8, AuditFault>
+    ensures { IfOk result (IsAudited (R.remaining reader.old)
+        options.now.inodes options.now.segments) }
+{
+    match BufReader::new(alloc, reader) {
+        Ok(mut reader) => audit_lines(alloc, options, &mut reader, writer),
+        Err(_) => Err(AuditFault::Memory),
+    }
+}
+
+/// Audits the lines of a reader, and writes what is found.
+fn audit_lines<R: Read, W: Write>(
+    alloc: Global,
+    options: &Options<'_>,
+    reader: &mut R,
+    writer: &mut W,
+) -> Result<u8, AuditFault>
+    ensures { IfOk result (IsAudited (R.remaining reader.old)
+        options.now.inodes options.now.segments) }
+{
     let mut audit = fresh_audit(alloc, options)?;
-    let Ok(mut reader) = BufReader::new(alloc, reader) else {
-        return Err(AuditFault::Memory);
-    };
-    let stop = audit.read_journal(&mut reader)?;
-    let text = audit.tell(&stop)?;
-    write_text(writer, text.as_slice())?;
+    let stop = audit.read_journal(reader)?;
+    let status = status_of(&stop);
+    let text = audit.tell(&stop);
+    // Left to the return, it would be dropped variant by variant, which takes the prover long.
+    drop(stop);
+    write_text(writer, text?.as_slice())?;
     flush(writer)?;
-    Ok(status_of(&stop))
+    Ok(status)
 }
 
 /// An audit of the journal of a volume of these numbers.
-fn fresh_audit(alloc: Global, options: &Options<'_>) -> Result<Audit, AuditFault> {
+fn fresh_audit(alloc: Global, options: &Options<'_>) -> Result<Audit, AuditFault>
+    ensures fresh { IfOk result (λ audit. HasRead audit []) }
+    ensures numbers { IfOk result (λ audit. numbers_of audit.checker ≡ options.now.inodes) }
+    ensures segments { IfOk result (λ audit. audit.checker.segments ≡ options.now.segments) }
+{
     match Audit::new(alloc, options.inodes, options.segments) {
         Ok(audit) => Ok(audit),
         Err(FormatFault::TooFew | FormatFault::TooMany | FormatFault::Memory) => {
@@ -149,7 +173,9 @@ fn fresh_audit(alloc: Global, options: &Options<'_>) -> Result<Audit, AuditFault
 }
 
 /// The status behind an audit that stopped there.
-fn status_of(stop: &Stop) -> u8 {
+fn status_of(stop: &Stop) -> u8
+    ensures { result ≡ status_of stop.now }
+{
     match stop {
         Stop::End => 0,
         Stop::Illegal(_) | Stop::Unread(_) => 1,

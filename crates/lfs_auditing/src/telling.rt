@@ -1,5 +1,7 @@
 //! What an audit tells, as text.
 
+ghost use Rattle.std.specs.Prelude.{◌≡◌, ◌+◌};
+
 use crate::audit::{Audit, Stop};
 use crate::last::LastOnes;
 use lfs_journal_lines::telling::push_entry;
@@ -24,14 +26,14 @@ impl Audit {
     /// Appends what an audit found.
     fn push_finding(&mut self, out: &mut Vec<u8>, stop: &Stop) -> Result<(), AllocError> {
         match stop {
-            Stop::End => push_legal(out, self.entries),
+            Stop::End => push_legal(out, u64::from(self.entries)),
             Stop::Illegal(entry) => {
-                push_place(out, "illegal", self.entries.saturating_add(1))?;
+                push_place(out, "illegal", next_of(self.entries))?;
                 push_entry(out, entry)?;
                 self.push_rules(out, entry)
             }
             Stop::Unread(unread) => {
-                push_place(out, "unreadable", self.entries.saturating_add(1))?;
+                push_place(out, "unreadable", next_of(self.entries))?;
                 let fault = format!(in self.alloc; "{unread}\n")?;
                 out.extend_from_slice(fault.as_bytes())
             }
@@ -41,20 +43,32 @@ impl Audit {
     /// Appends what the rules say of an entry of a user's call: their answer, and the checks that come to it.
     fn push_rules(&mut self, out: &mut Vec<u8>, entry: &Entry) -> Result<(), AllocError> {
         match &entry.event {
-            Event::User(request, _) => push_ruled(self.alloc, out, &mut self.checker, &entry.cred, request),
+            Event::User(request, _) => push_ruled(
+                self.alloc,
+                out,
+                &mut self.checker,
+                &entry.cred,
+                request,
+            ),
             Event::Cleaner(..) => Ok(()),
         }
     }
 
     /// Appends the report.
     fn push_report(&mut self, out: &mut Vec<u8>) -> Result<(), AllocError> {
-        out.extend_from_slice(b"denied:\n")?;
-        self.denials.push(out)?;
+        self.users.push(out)?;
         out.extend_from_slice(b"changed last:\n")?;
         push_last(out, &self.checker, self.numbers, &self.changed)?;
         out.extend_from_slice(b"read last by others:\n")?;
         push_last(out, &self.checker, self.numbers, &self.read)
     }
+}
+
+/// The number of the entry behind so many.
+fn next_of(entries: u32) -> u64
+    ensures { result ≡ entries + 1 }
+{
+    u64::from(entries) + 1
 }
 
 /// Appends that so many entries are legal.

@@ -1,0 +1,13 @@
+use Rattle.std.proofs.Common.{[], ◌∙◌}
+use Rattle.lfs_auditing.proofs.program.audit_lines.Goals as goal
+
+pub returns : goal.returns
+returns g c = record {
+  audit = c.read_journal.new.self;
+  stop = c.in_ok-stop.stop;
+  left = g.R.Read.remaining c.read_journal.new.reader;
+  read = c.in_ok-stop.ensures.read [] c.in_ok-audit.ensures.fresh;
+  numbers_are = c.in_ok-stop.ensures.same.numbers ∙ c.in_ok-audit.ensures.numbers;
+  segments_are = c.in_ok-stop.ensures.same.segments ∙ c.in_ok-audit.ensures.segments;
+  status_is = c.status_of-status.ensures;
+}
