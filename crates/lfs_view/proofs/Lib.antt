@@ -1,2 +1,3 @@
 pub mod TextLemmas
 pub mod WalkLemmas
+pub mod SpaceLemmas

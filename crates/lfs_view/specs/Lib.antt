@@ -1,4 +1,5 @@
 pub mod Cells
 pub mod MapText
 pub mod SegmentText
+pub mod SpaceText
 pub mod Rows

@@ -9,4 +9,5 @@ pub mod records;
 pub mod rows;
 mod segment;
 pub mod shows;
+mod space;
 pub mod walk;
