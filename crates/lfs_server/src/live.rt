@@ -45,7 +45,7 @@ impl<T: Drop> From<AllocFailed<T>> for BeginFault {
     }
 }
 
-/// A server that runs, as its clients find it: threads may share it. `Session` calls these, and clients call `Session`. No
+/// A server that runs, as its clients find it. `Session` calls these, and clients call `Session`. No
 /// clause says what another thread's call did before or behind: that the journal stays legal is kept by the type behind
 /// the lock, and that it has what the sessions were answered is settled when the server stops.
 pub trait Live {
@@ -73,7 +73,7 @@ pub trait Live {
 
 /// Those who use a server while it runs.
 pub trait Clients {
-    /// Begins sessions, makes calls and ends them, on as many threads as it likes. A session that has made a call and isn't
+    /// Begins sessions, makes calls and ends them. A session that has made a call and isn't
     /// ended is not settled.
     fn run<L: Live + Sync>(self, server: &L);
 }
