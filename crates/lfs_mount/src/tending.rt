@@ -53,13 +53,14 @@ impl<F: CleanedStore + Drop> Mount<F> {
         }
     }
 
-    /// Makes a pass of the cleaner where there are at most three clean segments, and fewer than there were. No file changes.
+    /// Makes a pass of the cleaner where there are fewer than three clean segments, so that room that was given back is found, or
+    /// three and more than that before. No file changes.
     pub fn tend(&mut self, before: u32)
         ensures content { (F.state self.new.volume.store).content ≡ (F.state self.old.volume.store).content }
         ensures level { self.new.volume.level ≡ self.old.volume.level }
     {
         let after = self.volume.clean_segments();
-        if after < before && after <= FEW_CLEAN {
+        if after < FEW_CLEAN || (after == FEW_CLEAN && after < before) {
             self.pass();
         }
     }
