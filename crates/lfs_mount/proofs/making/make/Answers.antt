@@ -34,7 +34,7 @@ loop-request-preserved g c =
     record {
       each = subst (λ l. Since (state old.since) old.since_level (λ from. AreAnswers state settled old.limit from old.journal old.store (calls_as caller (done ++ request ∷ [])) l next.store)) (sym pushed)
           (one_more state settled caller old before next done answers request answer i.each i.entered i.since i.since_level i.limit
-          (λ from here. call_made state settled from before next caller request answer made.full made.at_limit (made.shown from here) (λ room. made.outcome room from here) (made.entries from here) made.unserved made.synced made.follows));
+          (λ from here. call_made state settled from before next caller request answer made.full made.at_limit (made.shown from here) (λ room. made.outcome room from here) (made.entries from here) made.unserved made.looks made.unasked made.synced made.follows));
       entered = subst (λ l. next.journal ≡ old.journal ++ kept (calls_as caller (done ++ request ∷ [])) l) (sym pushed)
           (entered_more caller old.journal before.journal next.journal done answers request answer i.count i.entered made.entered);
       full = subst (λ l. AllFull (done ++ request ∷ []) l) (sym pushed) (AllFull-append done answers request answer i.full full);
@@ -73,7 +73,7 @@ returns-then-not-goes_on-clause-made g c =
     (simp (pushed, length-append) (omega (arith, i.count)))
     (subst (λ l. Since (state old.since) old.since_level (λ from. AreAnswers state settled old.limit from old.journal old.store (calls_as caller (done ++ request ∷ [])) l next.store)) (sym pushed)
     (one_more state settled caller old before next done answers request answer i.each i.entered i.since i.since_level i.limit
-    (λ from here. call_made state settled from before next caller request answer made.full made.at_limit (made.shown from here) (λ room. made.outcome room from here) (made.entries from here) made.unserved made.synced made.follows)))
+    (λ from here. call_made state settled from before next caller request answer made.full made.at_limit (made.shown from here) (λ room. made.outcome room from here) (made.entries from here) made.unserved made.looks made.unasked made.synced made.follows)))
     (subst (λ l. next.journal ≡ old.journal ++ kept (calls_as caller (done ++ request ∷ [])) l) (sym pushed)
     (entered_more caller old.journal before.journal next.journal done answers request answer i.count i.entered made.entered))
     (subst (λ l. GoUpTo l c.push_within.new.items.items) whole
