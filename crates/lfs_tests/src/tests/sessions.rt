@@ -1,9 +1,7 @@
 //! Sessions: runs of them on threads, and settling.
 
-mod bell;
 mod full;
 mod gates;
-mod live;
 mod log;
 mod plain;
 mod settling;
