@@ -6,8 +6,8 @@ in the repository; where the text says of which crate it is, in that crate. The 
 the map of docs/ARCHITECTURE.md must be the same, and a crate must lead to what it uses. Each wrong body must be named
 and replace a text that stands once, and each one that is named be there. Links must lead somewhere, no line may name a place of one machine, the tables of
 docs/TRUST.md must be those that scripts/reading-list.py makes, docs/SPEC.md is what scripts/spec-page.py makes, the
-tutorial shows its scripts as the gate runs them, and README.md with the pages of docs/ that are written by hand stays under
-160 KiB.
+manual pages have the options that the programs take, the tutorial shows its scripts as the gate runs them, and README.md
+with the pages of docs/ that are written by hand stays under 160 KiB.
 
 Prints FILE:LINE: WHAT for each problem and ends with status 1, else one line.
 """
@@ -335,6 +335,9 @@ def main():
     ran = subprocess.run([sys.executable, TOP / "scripts/spec-page.py"], capture_output=True, text=True)
     if ran.returncode:
         told(TOP / "docs/SPEC.md", 1, ran.stdout.strip())
+    ran = subprocess.run([sys.executable, TOP / "scripts/man-pages.py"], capture_output=True, text=True)
+    if ran.returncode:
+        told(TOP / "docs/man/lfsd.1", 1, (ran.stdout + ran.stderr).strip())
     if problems:
         print("\n".join(problems))
         return 1

@@ -1,0 +1,103 @@
+#!/usr/bin/env python3
+"""Keeps the manual pages of docs/man/ true of what the programs take.
+
+Each page NAME.1 is written by hand, but for the lines between `.\\" options` and `.\\" end of options`: these are made of
+the program's own options, as its source gives them to the argument parser, so that a page says what `--help` says.
+
+  man-pages.py            says which page differs, or which program has none, and ends with status 1
+  man-pages.py --write    makes these lines anew
+"""
+import re
+import sys
+from pathlib import Path
+
+TOP = Path(__file__).resolve().parent.parent
+PAGES = TOP / "docs" / "man"
+BEGIN, END = '.\\" options', '.\\" end of options'
+TEXT = r'"((?:[^"\\]|\\.)*)"'
+# programs for those who work on the repository
+WITHOUT = {"lfs_bench"}
+
+
+def text_of(crate):
+    """The source of a crate."""
+    return "\n".join(path.read_text() for path in sorted((TOP / "crates" / crate / "src").rglob("*.rt")))
+
+
+def commands():
+    """The programs that have options: name, the source of their crate and the chain of calls that makes the command."""
+    for folder in sorted((TOP / "crates").iterdir()):
+        source = text_of(folder.name) if (folder / "src").is_dir() else ""
+        for made in re.finditer(r'Command::new\(alloc, "(\w+)"\)(.*?)\n}', source, re.S):
+            yield made[1], source, made[2]
+
+
+def constant(source, word):
+    """The text that a word stands for: a literal, or a constant of the crate."""
+    if word.startswith('"'):
+        return word[1:-1]
+    found = re.search(rf"const {word}: &str\s*=\s*{TEXT}", source)
+    return found[1] if found else sys.exit(f"man-pages: no constant {word}")
+
+
+def numbered(source, name):
+    """The name and the help of an option that takes a number."""
+    body = re.search(rf"const {name}: NumberOption = NumberOption {{(.*?)\n}};", source, re.S)[1]
+    return re.search(rf"name: {TEXT}", body)[1], re.search(rf"help:\s*{TEXT}", body)[1]
+
+
+def option(source, argument):
+    """What a page shows of an argument of the command: how it is written, and what it does."""
+    constant_name = re.fullmatch(r"([A-Z_]+)\.arg\(alloc\)", argument)
+    if constant_name:
+        name, told = numbered(source, constant_name[1])
+        return f"--{name} N", told
+    function = re.fullmatch(r"(\w+)\(alloc\)", argument)[1]
+    body = re.search(rf"fn {function}<'a>\(alloc: Global\)[^{{]*{{(.*?)\n}}", source, re.S)[1]
+    told = re.search(rf"\.help\(\s*{TEXT}", body)[1]
+    value = re.search(rf"\.value_name\({TEXT}\)", body)
+    long = re.search(r'\.long\(("?\w+"?)\)', body)
+    shown = f"--{constant(source, long[1])}" if long else ""
+    return " ".join(it for it in (shown, value and value[1]) if it), told
+
+
+def escaped(text):
+    """A text as troff takes it."""
+    return text.replace("\\n", " ").replace('\\"', '"').replace("\\", "\\e").replace("-", "\\-")
+
+
+def lines_of(source, chain):
+    """The lines of a page for a program's options, with help, which each has."""
+    found = [option(source, it) for it in re.findall(r"\.arg\((\w+(?:\.arg)?\(alloc\))\)", chain)]
+    found.append(("-h, --help", "Prints help"))
+    return [line for shown, told in found for line in (".TP", f".B {escaped(shown)}", f"{escaped(told)}.")]
+
+
+def with_options(page, lines):
+    """The text of a page with these lines for its options."""
+    before, behind = page.split(BEGIN + "\n", 1)
+    return f"{before}{BEGIN}\n" + "\n".join(lines) + f"\n{END}\n" + behind.split(END + "\n", 1)[1]
+
+
+def main(words):
+    status = 0
+    for name, source, chain in commands():
+        path = PAGES / f"{name}.1"
+        if name in WITHOUT:
+            continue
+        if not path.is_file():
+            print(f"docs/man/{name}.1: there is none, and {name} takes options")
+            status = 1
+            continue
+        page = path.read_text()
+        made = with_options(page, lines_of(source, chain))
+        if made != page and "--write" in words:
+            path.write_text(made)
+        elif made != page:
+            print(f"docs/man/{name}.1: its options are not those of the program: scripts/man-pages.py --write")
+            status = 1
+    return status
+
+
+if __name__ == "__main__":
+    sys.exit(main(sys.argv[1:]))
