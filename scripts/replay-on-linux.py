@@ -3,6 +3,7 @@
 
   replay-on-linux.py [SCRIPT.lfs ..]          compares with the answers beside each script; without words all stored scripts
   replay-on-linux.py --lines SCRIPT.lfs       prints a journal of what Linux answers, as `lfs_audit_trail` reads one
+  replay-on-linux.py --random N SEED LFSD     makes N scripts of random calls by four users, asks a built `lfsd` and compares
 
 As root: a tmpfs is mounted in a folder of its own, and each call is made by a process with the caller's user and groups.
 What is compared is what both have: whether a call is served, the error's name, bytes, names, and of a Stat the kind, owner,
@@ -10,12 +11,14 @@ group and mode. What docs/RULES.md says is no matter of Linux's is put right by 
 set-id bits after a change) or left out (file flags are set as the answer says; levels, numbers, flags, sizes, refusals and
 the cleaner). A call that one serves and the other doesn't ends its script, as the two trees differ from there on.
 
-Prints each difference, `SCRIPT:LINE: CALL: here X, Linux Y`, and the counts.
+Prints each difference, `SCRIPT:LINE: CALL: here X, Linux Y`, and the counts; of random scripts those alone that
+docs/RULES.md doesn't tell of, with status 1.
 """
 import errno
 import fcntl
 import os
 import pickle
+import random
 import resource
 import signal
 import struct
@@ -135,7 +138,7 @@ class Linux:
             told = answered(caller, lambda: os.lstat(path))
             if told[0] and here == "ok":
                 self.set_flags(path, int(words[2], 16))
-            return (told[0] or here == "ok", None) if not told[0] else None
+            return None if told[0] else told
         if verb == "rename":
             return answered(caller, lambda: os.rename(path, self.at(words[2])))
         return answered(caller, lambda: {"unlink": os.unlink, "rmdir": os.rmdir}[verb](path))
@@ -179,6 +182,61 @@ def comparable(verb, words):
     return True, None
 
 
+def is_told(words, here, linux):
+    """Whether docs/RULES.md tells of this difference."""
+    verb, paths = words[0], words[1:3] if words[0] == "rename" else words[1:2]
+    if "/" in paths or verb == "rename" and (paths[0] == paths[1] or not (here[0] or linux[0])):
+        return True
+    if verb == "stat" and here[0] and linux[0]:
+        # set-id bits alone, behind a write of no bytes
+        (*one, mode), (*other, other_mode) = here[1].split(" "), linux[1].split(" ")
+        return one == other and (int(mode, 8) ^ int(other_mode, 8)) & 0o1777 == 0
+    return verb == "read" and here[1] == "EISDIR" and linux[1] == "EACCES"
+
+
+MODES = ["0777", "0755", "0700", "0644", "0640", "0604", "1777", "0070", "0077", "0500", "6755", "0000", "0110"]
+FLAGS = ["0", "0", "0", "1", "2", "4", "20000", "40000", "6"]
+CALLERS = ["0 0", "7 7", "8 8,20", "9 20,7", "7 20"]
+NAMES = ["a", "b", "c", "d"]
+
+
+def random_script(chance, lines):
+    """The lines of a script of random calls by four users, over few names."""
+    path = lambda: "/" + "/".join(chance.choice(NAMES) for _ in range(chance.choice([1, 1, 2, 2, 2, 3])))
+    hexes = lambda: "".join(chance.choice(["61", "62", "00", "ff"]) for _ in range(chance.randint(0, 9))) or "-"
+    calls = {
+        "stat": lambda: path(), "list": lambda: path(), "unlink": lambda: path(), "rmdir": lambda: path(),
+        "read": lambda: f"{path()} {chance.randint(0, 9)} {chance.randint(0, 20)}",
+        "create": lambda: f"{path()} {chance.choice(MODES)}", "mkdir": lambda: f"{path()} {chance.choice(MODES)}",
+        "chmod": lambda: f"{path()} {chance.choice(MODES)}", "chflags": lambda: f"{path()} {chance.choice(FLAGS)}",
+        "chown": lambda: f"{path()} {chance.choice([0, 7, 8, 9])} {chance.choice([0, 7, 8, 20])}",
+        "length": lambda: f"{path()} {chance.choice([0, 3, 700, 9000])}",
+        "write": lambda: f"{path()} " + chance.choice([f"at {chance.randint(0, 600)}", "end"]) + f" {hexes()}",
+        "rename": lambda: f"{path()} {path()}",
+    }
+    weights = dict.fromkeys(calls, 2) | {"mkdir": 5, "create": 4, "rename": 5, "write": 4, "chflags": 1}
+    yield "chmod / 0777"
+    for _ in range(lines):
+        if not chance.randrange(4):
+            yield f"as {chance.choice(CALLERS)}"
+        verb = chance.choices(list(calls), weights.values())[0]
+        yield f"{verb} {calls[verb]()}"
+
+
+def try_random(count, seed, program):
+    """Compares `count` random scripts with what a built program answers. Gives how many differences no page tells of."""
+    counts = dict.fromkeys(("agree", "differ", "told", "left out"), 0)
+    with tempfile.TemporaryDirectory() as folder:
+        for number in range(seed, seed + count):
+            script = Path(folder) / f"random-{number}.lfs"
+            script.write_text("".join(f"{line}\n" for line in random_script(random.Random(number), 150)))
+            with script.open() as lines, script.with_suffix(".out").open("w") as out:
+                subprocess.run([program], stdin=lines, stdout=out, check=True)
+            replay(script, counts, False, is_told)
+    print(f"{count} scripts: {counts['agree']} answers agree, {counts['told']} differ as told, {counts['differ']} otherwise, {counts['left out']} calls left out")
+    return counts["differ"]
+
+
 def said(told):
     """A comparable answer as text."""
     return "ok" if told[0] and told[1] is None else str(told[1])[:60]
@@ -211,8 +269,8 @@ def users_lines(script):
             yield number, line, words, caller
 
 
-def replay(script, counts, prints):
-    """Replays one script."""
+def replay(script, counts, prints, is_told=lambda *_: False):
+    """Replays one script; `is_told` says which differences aren't printed."""
     found = script.with_suffix(".out").read_text().splitlines()
     answers = [line.split(" ")[1:] for line in found if line[:1].isdigit() and line.split(" ")[1] != "cleaner"]
     with tempfile.TemporaryDirectory() as folder:
@@ -232,8 +290,9 @@ def replay(script, counts, prints):
                     told = told[0], None if told[0] else told[1]
                 if prints and verb != "stat":
                     print(line_of(caller, line, verb, told))
-                counts["agree" if told == here else "differ"] += 1
-                if told != here and not prints:
+                kind = "agree" if told == here else "told" if is_told(words, here, told) else "differ"
+                counts[kind] += 1
+                if kind == "differ" and not prints:
                     print(f"{script.name}:{number}: {line[:60]}: here {said(here)}, Linux {said(told)}")
                 if told[0] != here[0]:
                     return
@@ -242,6 +301,8 @@ def replay(script, counts, prints):
 
 
 def main(words):
+    if words[:1] == ["--random"]:
+        return 1 if try_random(int(words[1]), int(words[2]), words[3]) else 0
     prints = "--lines" in words
     scripts = [Path(it) for it in words if it != "--lines"] or sorted(STORED.glob("*.lfs"))
     counts = {"agree": 0, "differ": 0, "left out": 0}
@@ -251,4 +312,4 @@ def main(words):
         print(f"{len(scripts)} scripts: {counts['agree']} answers agree, {counts['differ']} differ, {counts['left out']} calls left out")
 
 
-main(sys.argv[1:])
+sys.exit(main(sys.argv[1:]))
