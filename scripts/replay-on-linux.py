@@ -104,6 +104,10 @@ class Linux:
         os.chown(path, user, os.stat(os.path.dirname(path)).st_gid)
         os.chmod(path, mode)
 
+    def keep_mode(self, path, mode):
+        """Gives a changed row its mode whole."""
+        os.chmod(path, mode)
+
     def set_flags(self, path, flags):
         """Sets what Linux has of file flags."""
         wanted = (IMMUTABLE if flags & 0x20002 else 0) | (APPEND if flags & 0x40004 else 0)
@@ -132,7 +136,7 @@ class Linux:
         if verb == "chmod":
             told = answered(caller, lambda: os.chmod(path, int(words[2], 8)))
             if told[0]:
-                os.chmod(path, int(words[2], 8))
+                self.keep_mode(path, int(words[2], 8))
             return told
         if verb == "chflags":
             told = answered(caller, lambda: os.lstat(path))
@@ -312,4 +316,5 @@ def main(words):
         print(f"{len(scripts)} scripts: {counts['agree']} answers agree, {counts['differ']} differ, {counts['left out']} calls left out")
 
 
-sys.exit(main(sys.argv[1:]))
+if __name__ == "__main__":
+    sys.exit(main(sys.argv[1:]))
