@@ -7,6 +7,7 @@ use Rattle.lfs_film.specs.declared.page.TheConstants.{BODY, CODE, FRAMES, FULL, 
 use Rattle.lfs_film.specs.declared.script.TheConstants.{SCRIPT}
 use Rattle.lfs_film.specs.declared.states.TheConstants.{STATES}
 use Rattle.lfs_film.specs.declared.style.TheConstants.{STYLE}
+use Rattle.lfs_film.specs.declared.tree.TheConstants.{TREE}
 use Rattle.lfs_film.specs.declared.words.TheConstants.{WORDS}
 
 -- What a film keeps: the rows and what waits as the last line left them, how many lines it was shown, the text of its frames,
@@ -52,9 +53,13 @@ seen_text = HEAD.now ++ STYLE.now ++ BODY.now
 abbrev pub head_text : Bool → List ℕ
 head_text is_full = seen_text ++ told_of is_full ++ FRAMES.now
 
--- the script: its words, its states and what it shows
+-- what the script knows: words, states and the tree
+abbrev pub story_text : List ℕ
+story_text = WORDS.now ++ STATES.now ++ TREE.now
+
+-- the script: what it knows, and what it shows
 abbrev pub code_text : List ℕ
-code_text = WORDS.now ++ STATES.now ++ SCRIPT.now
+code_text = story_text ++ SCRIPT.now
 
 -- what stands behind the frames
 abbrev pub tail_text : List ℕ

@@ -9,4 +9,5 @@ pub mod quoting;
 pub mod script;
 pub mod states;
 pub mod style;
+pub mod tree;
 pub mod words;

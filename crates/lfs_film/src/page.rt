@@ -2,11 +2,12 @@
 
 ghost use Rattle.std.specs.Prelude.{◌≡◌, OnOk};
 ghost use Rattle.std.specs.Io.KnownBytes.{Appends};
-ghost use Rattle.lfs_film.specs.Films.{code_text, head_text, page_of, seen_text, tail_text, told_of};
+ghost use Rattle.lfs_film.specs.Films.{code_text, head_text, page_of, seen_text, story_text, tail_text, told_of};
 
 use crate::script::SCRIPT;
 use crate::states::STATES;
 use crate::style::STYLE;
+use crate::tree::TREE;
 use crate::words::WORDS;
 use lfs_io::output::{WriteFault, flush, write_text};
 use std::io::Write;
@@ -34,12 +35,18 @@ pub const BODY: &[u8] = br#"</style></head><body>
 <small>keys: space, arrows, page up and down (10 frames), Home, End</small>
 </header>
 <div id="scale"><input id="at" type="range" min="0" value="0" aria-label="frame"><div id="marks"></div></div>
+<div id="top">
 <section id="talk">
 <p id="caption"></p>
 <pre id="line"></pre>
 <pre id="answer"></pre>
 <p id="verdict"></p>
 </section>
+<section id="files" aria-label="the tree: mode, owner, group, flags, name">
+<p id="caller"></p>
+<div id="tree"></div>
+</section>
+</div>
 <main>
 <section id="volume">
 <p id="waits"></p>
@@ -140,7 +147,15 @@ fn write_tail<W: Write>(writer: &mut W) -> Result<(), WriteFault>
 fn write_code<W: Write>(writer: &mut W) -> Result<(), WriteFault>
     ensures { OnOk result (Appends (W.contents writer.old) (W.contents writer.new) code_text) }
 {
+    write_story(writer)?;
+    write_text(writer, SCRIPT)
+}
+
+/// Writes what the script knows: words, states and the tree.
+fn write_story<W: Write>(writer: &mut W) -> Result<(), WriteFault>
+    ensures { OnOk result (Appends (W.contents writer.old) (W.contents writer.new) story_text) }
+{
     write_text(writer, WORDS)?;
     write_text(writer, STATES)?;
-    write_text(writer, SCRIPT)
+    write_text(writer, TREE)
 }

@@ -124,9 +124,47 @@ function paintTalk() {
   byId("caption").textContent = captionAt(at);
   byId("answer").textContent = told;
   byId("answer").scrollTop = line.startsWith(".why") ? byId("answer").scrollHeight : 0;
-  byId("verdict").replaceChildren(bold, says + (at > 0 && !comment && line ? " Caller: " + callerAt(at) + "." : ""));
+  byId("verdict").replaceChildren(bold, says);
   byId("waits").textContent = waitingWords(waitsAt(at));
   byId("waits").className = at > 0 && waitsAt(at) !== waitsAt(at - 1) ? "other" : "";
+}
+
+// Shows a row of the tree: the bits that judge the caller are marked, and so are what the line changed and what was judged.
+function addRow({ from, path, depth, more }, caller, { before, judged }) {
+  const line = element("div", "row", byId("tree"));
+  if (more) return line.textContent = more + " more names";
+  const judge = classOf(caller, from), now = JSON.stringify({ ...from, names: 0 });
+  element("span", "mode", line).append(from.kind === "dir" ? "d" : "-", ...classesOf(from).map(([name, letters]) => {
+    const part = document.createElement(name === judge ? "b" : "span");
+    part.textContent = letters;
+    return part;
+  }));
+  element("span", "who", line).textContent = from.owner + ":" + from.group;
+  const name = element("span", "name", line);
+  name.textContent = path === "" ? "/" : path.slice(path.lastIndexOf("/") + 1);
+  name.style.paddingLeft = 2 * depth + "ch";
+  element("span", "flags", line).textContent = flagsOf(from);
+  if (before && before.get(path) !== now) line.classList.add("other");
+  if (path === judged) line.classList.add("judged");
+}
+
+function paintTree() {
+  const line = lineAt(at), { path, component } = deniedOf(toldAt(at)), paths = pathsOf(line), caller = callerOf(at);
+  const judged = path === undefined || !paths[path] ? null : pathTo(paths[path], component);
+  const { root, known } = treeAt(at), before = at > 0 && isChange(line) ? shownBefore(paths) : null;
+  byId("caller").textContent = "Caller: " + callerAt(at) + (caller.user ? ". Bold: the bits that judge this caller." : ", whom every mode lets through.");
+  byId("tree").replaceChildren();
+  if (!known) return byId("tree").textContent = "A line was cut, so what it did is not known.";
+  for (const seen of rowsOf(root, paths)) addRow(seen, caller, { before, judged });
+  byId("tree").querySelector(".judged, .other")?.scrollIntoView({ block: "nearest" });
+}
+
+const isChange = line => Object.hasOwn(EFFECTS, line.split(" ", 1)[0]);
+
+// The rows of the frame before, by path.
+function shownBefore(paths) {
+  const rows = rowsOf(treeAt(at - 1).root, paths).filter(({ more }) => !more);
+  return new Map(rows.map(({ from, path }) => [path, JSON.stringify({ ...from, names: 0 })]));
 }
 
 // Tells of the cell under the cursor.
@@ -155,6 +193,7 @@ function show(to) {
   paintLog(to);
   at = to;
   paintTalk();
+  paintTree();
   tellCell();
   slider.value = jump.value = at;
   byId("where").textContent = "of " + last;
@@ -270,6 +309,7 @@ onafterprint = () => setPrinted(false);
 matchMedia("(prefers-color-scheme: dark)").onchange = drawAll;
 
 readFilm();
+readTrees();
 slider.max = jump.max = last;
 rowsAt(0).forEach((_, number) => addSegment(number));
 addMarks();

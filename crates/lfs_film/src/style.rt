@@ -28,7 +28,8 @@ header small { margin-left: auto; opacity: 0.75; }
 #marks .denied { background: var(--denied); height: 70%; }
 #marks .refused { background: var(--refused); height: 70%; }
 #marks .pass { background: var(--data); height: 70%; }
-#talk { flex: none; background: var(--pane); border-left: 0.4rem solid var(--faint); padding: 0.3rem 0.6rem; }
+#top { flex: none; display: flex; gap: 0.8rem; }
+#talk { flex: 3; min-width: 0; background: var(--pane); border-left: 0.4rem solid var(--faint); padding: 0.3rem 0.6rem; }
 #caption { font-size: 1.35rem; line-height: 1.25; height: 2.5em; overflow-y: auto; font-weight: bold; }
 #line { height: 2.7em; font-weight: bold; }
 #answer { height: 2.7em; opacity: 0.9; }
@@ -37,6 +38,15 @@ header small { margin-left: auto; opacity: 0.75; }
 #talk.refused { background: var(--refused-pane); border-color: var(--refused); }
 #talk.denied #verdict b, #talk.denied #answer { color: var(--denied); opacity: 1; }
 #talk.refused #verdict b, #talk.refused #answer { color: var(--refused); opacity: 1; }
+#files { flex: 2; min-width: 0; display: flex; flex-direction: column; background: var(--pane); padding: 0.3rem 0.6rem; }
+#caller { font-size: 0.85rem; }
+#tree { flex: 1 1 0; overflow-y: auto; font: 0.85rem/1.35 monospace; white-space: nowrap; }
+.row { display: flex; gap: 1.5ch; border-left: 3px solid transparent; }
+.row .mode b { background: var(--mark); }
+.row .who { min-width: 7ch; }
+.row .flags { color: var(--refused); }
+.row.other { font-weight: bold; border-color: var(--ink); }
+.row.judged { background: var(--denied-pane); border-color: var(--denied); }
 mark { background: var(--mark); color: var(--ink); outline: 2px solid var(--denied); }
 main { flex: 1; min-height: 0; display: flex; gap: 1rem; }
 #volume { flex: 1; min-width: 0; display: flex; flex-direction: column; gap: 0.3rem; }
@@ -79,8 +89,9 @@ aside h2 { font-size: 1rem; }
 aside p { margin-bottom: 0.28rem; }
 .full { flex: none; }
 @media (max-width: 800px) {
-  body, main { height: auto; display: block; }
+  body, main, #top { height: auto; display: block; }
   header small { display: none; }
+  #tree { flex: none; height: 8em; }
   aside { width: auto; margin-top: 0.6rem; }
   #log { margin: 0.4rem 0; column-gap: 0.3rem; }
   #waits { min-height: 2.7em; }
@@ -88,6 +99,7 @@ aside p { margin-bottom: 0.28rem; }
 @media print {
   header, #scale, #cell { display: none; }
   body, main { display: block; height: auto; }
+  #tree { flex: none; overflow: visible; }
   aside { width: auto; margin-top: 1em; columns: 2; }
   * { print-color-adjust: exact; -webkit-print-color-adjust: exact; }
 }

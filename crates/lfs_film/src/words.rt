@@ -89,6 +89,12 @@ function placeOf(line, path, component) {
   return [from, from + names[component].length];
 }
 
+// The path and the component that an answer denies at, if it denies.
+function deniedOf(told) {
+  const [, , error, path, component] = DENIED.exec(told) ?? [];
+  return error ? { path: +path, component: +component } : {};
+}
+
 // What an answer says: its kind, a heading, a sentence, and the place in the line that it is about.
 function verdictOf(line, told) {
   const denied = DENIED.exec(told), refused = REFUSED.exec(told), fault = FAULT.exec(told);

@@ -1,14 +1,12 @@
-use Rattle.std.proofs.Common.{refl}
+use Rattle.std.proofs.KnownBytes.{Appends-trans}
 use Rattle.std.proofs.lemmas.Result.{on_ok_weaker}
+use Rattle.lfs_film.specs.Films.{story_text}
 use Rattle.lfs_film.specs.declared.script.TheConstants.{SCRIPT}
-use Rattle.lfs_film.specs.declared.states.TheConstants.{STATES}
-use Rattle.lfs_film.specs.declared.words.TheConstants.{WORDS}
-use Rattle.lfs_film.proofs.FilmLemmas.{parts_written}
 use Rattle.lfs_film.proofs.page.write_code.Goals as goal
 
 pub returns : goal.returns
 returns g c =
-    on_ok_weaker c.write_text-3.result
-    (parts_written (g.W.Write.contents c.args.writer.now) (g.W.Write.contents c.write_text.new.writer) (g.W.Write.contents c.write_text-2.new.writer)
-    (g.W.Write.contents c.write_text-3.new.writer) WORDS.now STATES.now STATES.now SCRIPT.now c.in_ok-write_text.ensures refl c.in_ok-write_text-2.ensures)
-    c.write_text-3.ensures
+    on_ok_weaker c.write_text.result
+    (Appends-trans (g.W.Write.contents c.args.writer.now) (g.W.Write.contents c.write_story.new.writer) (g.W.Write.contents c.write_text.new.writer)
+    story_text SCRIPT.now c.in_ok-write_story.ensures)
+    c.write_text.ensures
