@@ -3,8 +3,8 @@
 
 messages.py FOLDER writes FOLDER/stdin, the messages one behind the other, and FOLDER/stdout, the replies. Both are put
 together from the structs of the FUSE protocol's fuse.h, and the replies from what open(2), stat(2), rename(2), chflags(2) and the like
-say of a volume whose root is the superuser's, of mode 0755; new files have the group of their directory. No reply comes from
-a run of a program.
+say of a volume whose root is the superuser's, of mode 0755; new files have the group of their directory. The root is made at
+second 0 of 1970, and each message comes a second behind the one before. No reply comes from a run of a program.
 """
 import errno
 import struct
@@ -15,32 +15,60 @@ ROOT = 1
 REGULAR, DIRECTORY = 0o100000, 0o040000
 O_RDONLY, O_WRONLY, O_RDWR, O_TRUNC, O_APPEND = 0, 1, 2, 0o1000, 0o2000
 LOOKUP, FORGET, GETATTR, SETATTR, READLINK, SYMLINK, MKNOD, MKDIR, UNLINK, RMDIR = 1, 2, 3, 4, 5, 6, 8, 9, 10, 11
-RENAME, LINK, OPEN, READ, WRITE, RELEASE, FSYNC, GETXATTR, FLUSH, INIT = 12, 13, 14, 15, 16, 18, 20, 22, 25, 26
+RENAME, LINK, OPEN, READ, WRITE, STATFS, RELEASE, FSYNC, GETXATTR, FLUSH, INIT = 12, 13, 14, 15, 16, 17, 18, 20, 22, 25, 26
 OPENDIR, READDIR, RELEASEDIR, ACCESS, CREATE, INTERRUPT, DESTROY, IOCTL = 27, 28, 29, 34, 35, 36, 38, 39
 BATCH_FORGET, READDIRPLUS, RENAME2 = 42, 44, 45
 UNKNOWN_INODE = 0xFFFFFFFF
 FILE_BYTES = 8460288  # the greatest number of bytes of a file
+ATTRIBUTES_AT = {LOOKUP: 40, MKDIR: 40, MKNOD: 40, CREATE: 40, GETATTR: 16, SETATTR: 16}  # where replies have a fuse_attr
 
 
 class Talk:
-    """Messages with ascending numbers, and their replies."""
+    """Messages with ascending numbers, a second apart, and their replies."""
 
     def __init__(self):
         self.messages, self.replies, self.unique = b"", b"", 0
+        self.times = {2: [(0, 0)] * 3}  # of each inode: seconds and nanoseconds of the access, the bytes and the change
 
-    def say(self, opcode, node, body=b"", user=0, reply=None, error=0, length=None):
-        """A message of a user and the group of his number; its reply's body, its error, or None and 0 for no reply."""
+    def mark(self, made, written, restated, dated):
+        """What a message changes, at its time: the file that it makes, those whose bytes or names it changes, those whose
+        attributes it does, and the access and the bytes of one that it sets."""
+        now = (self.unique // 2, 0)
+        if made:
+            self.times[made] = [now] * 3
+        for inode in written:
+            self.times[inode] = [self.times[inode][0], now, now]
+        for inode in restated:
+            self.times[inode] = [*self.times[inode][:2], now]
+        if dated:
+            inode, accessed, modified = dated
+            self.times[inode] = [accessed, modified, now]
+
+    def date(self, opcode, reply):
+        """A reply, with the times of the file whose attributes it tells."""
+        at = ATTRIBUTES_AT.get(opcode)
+        if at is None:
+            return reply
+        inode, = struct.unpack_from("<Q", reply, at)
+        times = self.times[inode]
+        dates = struct.pack("<QQQIII", *(it[0] for it in times), *(it[1] for it in times))
+        return reply[:at + 24] + dates + reply[at + 24 + len(dates):]
+
+    def say(self, opcode, node, body=b"", user=0, reply=None, error=0, length=None, made=None, written=(), restated=(), dated=None):
+        """A message of a user and the group of his number; its reply's body, its error, or None and 0 for no reply; and what it
+        changes."""
         self.unique += 2
         size = 40 + len(body) if length is None else length
         self.messages += struct.pack("<IIQQIIIHH", size, opcode, self.unique, node, user, user, 77, 0, 0) + body
+        self.mark(made, written, restated, dated)
         if error:
             self.replies += struct.pack("<IiQ", 16, -error, self.unique)
         elif reply is not None:
-            self.replies += struct.pack("<IiQ", 16 + len(reply), 0, self.unique) + reply
+            self.replies += struct.pack("<IiQ", 16 + len(reply), 0, self.unique) + self.date(opcode, reply)
 
 
 def attr(inode, mode, user=0, group=0, size=0, links=1):
-    """fuse_attr, without times."""
+    """fuse_attr, without times: those of its inode are put in."""
     return struct.pack("<QQQQQQIIIIIIIIII", inode, size, -(-size // 512), 0, 0, 0, 0, 0, 0, mode, links, user, group, 0, 4096, 0)
 
 
@@ -74,8 +102,9 @@ def written(count):
     return struct.pack("<II", count, 0)
 
 
-def setattr_in(valid, size=0, mode=0, user=0, group=0):
-    return struct.pack("<IIQQQQQQIIIIIIII", valid, 0, 0, size, 0, 0, 0, 0, 0, 0, 0, mode, 0, user, group, 0)
+def setattr_in(valid, size=0, mode=0, user=0, group=0, accessed=(0, 0), modified=(0, 0)):
+    return struct.pack("<IIQQQQQQIIIIIIII", valid, 0, 0, size, 0, accessed[0], modified[0], 0, accessed[1], modified[1], 0,
+                       mode, 0, user, group, 0)
 
 
 def create_in(flags, mode, name):
@@ -96,12 +125,12 @@ def files(talk):
     """The superuser makes a directory for all; user 7 a file in it, which user 8 may read and not write."""
     talk.say(LOOKUP, ROOT, b"pub\0", 7, error=errno.ENOENT)
     talk.say(MKDIR, ROOT, struct.pack("<II", 0o777, 0) + b"pub\0",
-             reply=entry(2, attr(4, DIRECTORY | 0o777, links=2)))
+             reply=entry(2, attr(4, DIRECTORY | 0o777, links=2)), made=4, written=[2])
     talk.say(MKDIR, ROOT, struct.pack("<II", 0o777, 0) + b"pub\0", error=errno.EEXIST)
     talk.say(MKDIR, ROOT, struct.pack("<II", 0o777, 0) + b"mine\0", 7, error=errno.EACCES)
     talk.say(CREATE, 2, create_in(O_RDWR, REGULAR | 0o644, b"a"), 7,
-             reply=entry(3, attr(5, REGULAR | 0o644, 7, 0)) + opened())
-    talk.say(WRITE, 3, write_in(0, b"hello"), 7, reply=written(5))
+             reply=entry(3, attr(5, REGULAR | 0o644, 7, 0)) + opened(), made=5, written=[4])
+    talk.say(WRITE, 3, write_in(0, b"hello"), 7, reply=written(5), written=[5])
     talk.say(READ, 3, read_in(0, 4096), 8, reply=b"hello")
     talk.say(READ, 3, read_in(1, 2), 8, reply=b"el")
     talk.say(READ, 3, read_in(5, 4096), 8, reply=b"")
@@ -110,39 +139,48 @@ def files(talk):
     talk.say(OPEN, 3, struct.pack("<II", O_WRONLY, 0), 8, error=errno.EACCES)
     talk.say(OPEN, 3, struct.pack("<II", O_RDWR | O_TRUNC, 0), 8, error=errno.EACCES)
     talk.say(LOOKUP, 2, b"a\0", 8, reply=entry(3, attr(5, REGULAR | 0o644, 7, 0, 5)))
-    talk.say(WRITE, 3, write_in(0, b" all", O_WRONLY | O_APPEND), 7, reply=written(4))
+    talk.say(WRITE, 3, write_in(0, b" all", O_WRONLY | O_APPEND), 7, reply=written(4), written=[5])
     talk.say(READ, 3, read_in(0, 100), 7, reply=b"hello all")
-    talk.say(OPEN, 3, struct.pack("<II", O_WRONLY | O_TRUNC, 0), 7, reply=opened())
+    talk.say(OPEN, 3, struct.pack("<II", O_WRONLY | O_TRUNC, 0), 7, reply=opened(), written=[5])
     talk.say(GETATTR, 3, bytes(16), 8, reply=attr_out(attr(5, REGULAR | 0o644, 7, 0)))
+    # 64 segments of 64 blocks, of which the two directories take two; 61 numbers, of which three are in use
+    talk.say(STATFS, ROOT, reply=struct.pack("<QQQQQ10I", 4096, 4094, 3966, 61, 58, 512, 255, 512, *[0] * 7))
 
 
 def attributes(talk):
     """Modes and owners: only the owner sets the one, only the superuser gives a file away."""
     talk.say(SETATTR, 3, setattr_in(1, mode=0o600), 8, error=errno.EPERM)
     talk.say(SETATTR, 3, setattr_in(1 | 8, size=3, mode=0o600), 7,
-             reply=attr_out(attr(5, REGULAR | 0o600, 7, 0, 3)))
+             reply=attr_out(attr(5, REGULAR | 0o600, 7, 0, 3)), written=[5])
     talk.say(READ, 3, read_in(0, 100), 8, error=errno.EACCES)
     talk.say(READ, 3, read_in(0, 100), 7, reply=bytes(3))
     talk.say(SETATTR, 3, setattr_in(2, user=8), 7, error=errno.EPERM)
-    talk.say(SETATTR, 3, setattr_in(2, user=8), reply=attr_out(attr(5, REGULAR | 0o600, 8, 0, 3)))
+    talk.say(SETATTR, 3, setattr_in(2, user=8), reply=attr_out(attr(5, REGULAR | 0o600, 8, 0, 3)), restated=[5])
     talk.say(READ, 3, read_in(0, 100), 8, reply=bytes(3))
     talk.say(READ, 3, read_in(0, 100), 7, error=errno.EACCES)
     talk.say(ACCESS, 3, struct.pack("<II", 4, 0), 7, error=errno.EACCES)
     talk.say(ACCESS, 3, struct.pack("<II", 6, 0), 8, reply=b"")
     talk.say(ACCESS, ROOT, struct.pack("<II", 2, 0), 8, error=errno.EACCES)
+    # times: the owner sets any, who may write the present one, who may not write none
+    accessed, modified = (1000000000, 5), (1000000001, 6)
+    given = setattr_in(0x10 | 0x20, accessed=accessed, modified=modified)
+    talk.say(SETATTR, 3, given, 7, error=errno.EPERM)
+    talk.say(SETATTR, 3, setattr_in(0x1B0), 7, error=errno.EACCES)
+    talk.say(SETATTR, 3, given, 8, reply=attr_out(attr(5, REGULAR | 0o600, 8, 0, 3)), dated=(5, accessed, modified))
+    talk.say(GETATTR, 3, bytes(16), 8, reply=attr_out(attr(5, REGULAR | 0o600, 8, 0, 3)))
 
 
 def names(talk):
     """A name with a line feed; what hangs at a name is found again by its node; lists; removals."""
     talk.say(RENAME, 2, struct.pack("<Q", ROOT) + b"a\0b\0", 8, error=errno.EACCES)
-    talk.say(RENAME2, 2, struct.pack("<QII", 2, 0, 0) + b"a\0line\nfeed\0", 8, reply=b"")
+    talk.say(RENAME2, 2, struct.pack("<QII", 2, 0, 0) + b"a\0line\nfeed\0", 8, reply=b"", written=[4])
     talk.say(LOOKUP, 2, b"a\0", 8, error=errno.ENOENT)
     talk.say(LOOKUP, 2, b"line\nfeed\0", 8, reply=entry(3, attr(5, REGULAR | 0o600, 8, 0, 3)))
     talk.say(MKNOD, 2, struct.pack("<IIII", REGULAR | 0o640, 0, 0, 0) + b"other\0", 7,
-             reply=entry(4, attr(6, REGULAR | 0o640, 7, 0)))
+             reply=entry(4, attr(6, REGULAR | 0o640, 7, 0)), made=6, written=[4])
     talk.say(RENAME2, 2, struct.pack("<QII", 2, 1, 0) + b"other\0line\nfeed\0", 7, error=errno.EEXIST)
     talk.say(RENAME2, 2, struct.pack("<QII", 2, 2, 0) + b"other\0line\nfeed\0", 7, error=errno.EINVAL)
-    talk.say(RENAME2, 2, struct.pack("<QII", 2, 1, 0) + b"other\0free\0", 7, reply=b"")
+    talk.say(RENAME2, 2, struct.pack("<QII", 2, 1, 0) + b"other\0free\0", 7, reply=b"", written=[4])
     talk.say(OPENDIR, 2, bytes(8), 8, reply=opened(1, 0))
     listed = dirent(1, b".", 4) + dirent(2, b"..", 4) + dirent(3, b"free") + dirent(4, b"line\nfeed")
     talk.say(READDIR, 2, read_in(0, 4096, 1), 8, reply=listed)
@@ -150,10 +188,11 @@ def names(talk):
     talk.say(READDIR, 2, read_in(4, 4096, 1), 8, reply=b"")
     talk.say(RELEASEDIR, 2, bytes(24), 8, reply=b"")
     talk.say(RMDIR, ROOT, b"pub\0", error=errno.ENOTEMPTY)
-    talk.say(RENAME, 2, struct.pack("<Q", 2) + b"free\0line\nfeed\0", 7, reply=b"")
+    talk.say(RENAME, 2, struct.pack("<Q", 2) + b"free\0line\nfeed\0", 7, reply=b"", written=[4])
     talk.say(GETATTR, 3, bytes(16), 8, error=errno.ESTALE)
     talk.say(GETATTR, 4, bytes(16), 8, reply=attr_out(attr(6, REGULAR | 0o640, 7, 0)))
-    talk.say(UNLINK, 2, b"line\nfeed\0", 8, reply=b"")
+    talk.say(UNLINK, 2, b"line\nfeed\0", 8, reply=b"", written=[4])
+    talk.say(GETATTR, 2, bytes(16), 8, reply=attr_out(attr(4, DIRECTORY | 0o777, 0, 0, 512, links=2)))
     talk.say(READ, 4, read_in(0, 1), 7, error=errno.ESTALE)
     talk.say(FORGET, 4, struct.pack("<Q", 1))
     talk.say(BATCH_FORGET, 0, struct.pack("<IIQQ", 1, 0, 3, 3))
@@ -164,11 +203,11 @@ def pieces(talk):
     """More bytes than a call carries: three calls, and the part before a refusal."""
     data = bytes(it * it % 251 for it in range(10000))
     talk.say(CREATE, 2, create_in(O_RDWR, REGULAR | 0o600, b"big"), 7,
-             reply=entry(5, attr(5, REGULAR | 0o600, 7, 0)) + opened())
-    talk.say(WRITE, 5, write_in(0, data), 7, reply=written(10000))
+             reply=entry(5, attr(5, REGULAR | 0o600, 7, 0)) + opened(), made=5, written=[4])
+    talk.say(WRITE, 5, write_in(0, data), 7, reply=written(10000), written=[5])
     talk.say(READ, 5, read_in(0, 16384), 7, reply=data)
     talk.say(READ, 5, read_in(4095, 4098), 7, reply=data[4095:8193])
-    talk.say(WRITE, 5, write_in(FILE_BYTES - 4096, bytes(8192)), 7, reply=written(4096))
+    talk.say(WRITE, 5, write_in(FILE_BYTES - 4096, bytes(8192)), 7, reply=written(4096), written=[5])
     talk.say(WRITE, 5, write_in(FILE_BYTES, bytes(8192)), 7, error=errno.EFBIG)
     talk.say(GETATTR, 5, bytes(16), 7, reply=attr_out(attr(5, REGULAR | 0o600, 7, 0, FILE_BYTES)))
 
@@ -177,7 +216,7 @@ def flags(talk):
     """chattr: immutable and no dump; a system's flag isn't shown apart."""
     get = struct.pack("<QIIQII", 0, 0, 0x80086601, 0, 0, 4)
     talk.say(IOCTL, 5, struct.pack("<QIIQII", 0, 0, 0x40086602, 0, 4, 0) + struct.pack("<I", 0x50), 8, error=errno.EPERM)
-    talk.say(IOCTL, 5, struct.pack("<QIIQII", 0, 0, 0x40086602, 0, 4, 0) + struct.pack("<I", 0x50), 7, reply=bytes(16))
+    talk.say(IOCTL, 5, struct.pack("<QIIQII", 0, 0, 0x40086602, 0, 4, 0) + struct.pack("<I", 0x50), 7, reply=bytes(16), restated=[5])
     talk.say(IOCTL, 5, get, 7, reply=bytes(16) + struct.pack("<I", 0x50))
     talk.say(WRITE, 5, write_in(0, b"x"), 7, error=errno.EPERM)
     talk.say(IOCTL, 5, struct.pack("<QIIQII", 0, 0, 0x5401, 0, 0, 0), 7, error=errno.ENOTTY)

@@ -74,42 +74,23 @@ fn others_in(alloc: Global, text: &str, header: &Header) -> Result<Option<Vec<u3
     Ok(Some(groups))
 }
 
-/// Where the groups of a process are found.
-pub trait Groups {
-    /// The groups of the process of a message but that of its header, at most 15; `None` where they can't be known.
-    fn others(&mut self, alloc: Global, header: &Header) -> Result<Option<Vec<u32>>, AllocError>;
-}
-
-/// The groups of processes, in their files beneath `/proc`.
-#[derive(Drop)]
-pub struct OfProcesses<'a, S: Files> {
-    /// The files of the system.
-    pub files: &'a S,
-}
-
-impl<S: Files> Groups for OfProcesses<'_, S> {
-    fn others(&mut self, alloc: Global, header: &Header) -> Result<Option<Vec<u32>>, AllocError> {
-        let pid = header.pid;
-        let path = format!(in alloc; "/proc/{pid}/status")?;
-        let Ok(mut file) = File::open(self.files, path.as_str()) else {
-            return Ok(None);
-        };
-        let Ok(bytes) = read_script(alloc, &mut file) else {
-            return Ok(None);
-        };
-        match str::from_utf8(bytes.as_slice()) {
-            Ok(text) => others_in(alloc, text, header),
-            Err(_) => Ok(None),
-        }
-    }
-}
-
-/// No other group: the processes of a recorded talk are gone.
-#[derive(Drop)]
-pub struct OfHeaders;
-
-impl Groups for OfHeaders {
-    fn others(&mut self, alloc: Global, _header: &Header) -> Result<Option<Vec<u32>>, AllocError> {
-        Ok(Some(Vec::new(alloc)))
+/// The groups of the process of a message but that of its header, at most 15, in its file beneath `/proc`; `None` where they
+/// can't be known.
+pub(crate) fn others<S: Files>(
+    alloc: Global,
+    files: &S,
+    header: &Header,
+) -> Result<Option<Vec<u32>>, AllocError> {
+    let pid = header.pid;
+    let path = format!(in alloc; "/proc/{pid}/status")?;
+    let Ok(mut file) = File::open(files, path.as_str()) else {
+        return Ok(None);
+    };
+    let Ok(bytes) = read_script(alloc, &mut file) else {
+        return Ok(None);
+    };
+    match str::from_utf8(bytes.as_slice()) {
+        Ok(text) => others_in(alloc, text, header),
+        Err(_) => Ok(None),
     }
 }

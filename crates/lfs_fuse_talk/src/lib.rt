@@ -2,9 +2,10 @@
 #![tactic(auto)]
 
 pub mod fault;
-pub mod groups;
+mod groups;
 mod inbox;
 pub mod options;
+pub mod outside;
 pub mod program;
 pub mod talk;
 mod words;

@@ -124,7 +124,9 @@ fn recorded<'a>(alloc: Global) -> Arg<'a> {
     Arg::new(alloc, RECORDED)
         .long(RECORDED)
         .action(ArgAction::SetTrue)
-        .help("The messages are a recording: a caller has the group of his message alone")
+        .help(
+            "The messages are a recording: a caller has the group of his message alone, each message a second",
+        )
 }
 
 impl NumberOption {

@@ -1,12 +1,13 @@
 //! `lfs_fuse`: messages of a kernel are read from standard input, and answered on standard output.
 
 use crate::fault::TalkFault;
-use crate::groups::{OfHeaders, OfProcesses};
 use crate::options::{Options, not_utf8, options_of};
+use crate::outside::{Outside, Recording, System};
 use crate::talk::talk;
 use crate::words::{NoWords, words};
 use clap::Error;
 use clap::error::ErrorKind;
+use lfs_fuse_wire::attributes::Time;
 use lfs_io::tell::end;
 use lfs_logstore::LogStore;
 use lfs_mount::mount::{Mount, Sizes};
@@ -16,6 +17,7 @@ use std::alloc::{AllocError, Global};
 use std::env::Env;
 use std::io::{Read, Write};
 use std::rt::Files;
+use std::time::Clock;
 
 /// The program's name.
 const NAME: &str = "lfs_fuse";
@@ -44,30 +46,48 @@ fn refuse<W: Write, D: Write>(stdout: &mut W, stderr: &mut D, error: &Error) -> 
     }
 }
 
-/// A mount of a fresh volume.
-fn fresh(alloc: Global, params: Params) -> Result<Mount<LogStore>, TalkFault> {
+/// A mount of a fresh volume, whose root is made now.
+fn fresh(alloc: Global, params: Params, now: Time) -> Result<Mount<LogStore>, TalkFault> {
     let store = LogStore::format(alloc, params)?;
     let volume = Volume::new(alloc, store, params.journal)?;
     let sizes = Sizes {
         segments: params.segments,
         inodes: params.inodes,
     };
-    Ok(Mount::new(alloc, volume, sizes)?)
+    Ok(Mount::new(alloc, volume, sizes, now)?)
 }
 
 /// Answers messages on a fresh volume.
-fn run<S: Files, R: Read, W: Write>(
-    files: &S,
+fn serve<P: Outside, R: Read, W: Write>(
+    outside: &mut P,
+    alloc: Global,
+    params: Params,
+    stdin: &mut R,
+    stdout: &mut W,
+) -> Result<(), TalkFault> {
+    let now = outside.now();
+    let mut mount = fresh(alloc, params, now)?;
+    talk(outside, alloc, &mut mount, stdin, stdout)
+}
+
+/// Answers messages of a kernel, or of a recording.
+fn run<S: Files + Clock, R: Read, W: Write>(
+    system: &S,
     alloc: Global,
     options: Options,
     stdin: &mut R,
     stdout: &mut W,
 ) -> Result<(), TalkFault> {
-    let mut mount = fresh(alloc, options.params)?;
     if options.recorded {
-        talk(&mut OfHeaders, alloc, &mut mount, stdin, stdout)
+        serve(&mut Recording::new(), alloc, options.params, stdin, stdout)
     } else {
-        talk(&mut OfProcesses { files }, alloc, &mut mount, stdin, stdout)
+        serve(
+            &mut System::of(system),
+            alloc,
+            options.params,
+            stdin,
+            stdout,
+        )
     }
 }
 
@@ -75,21 +95,21 @@ fn run<S: Files, R: Read, W: Write>(
 /// has its end, and for help; 1 for a fault, told in a line on standard error; 2 for words that are refused.
 pub fn lfs_fuse<E, S, R, W, D>(
     env: &E,
-    files: &S,
+    system: &S,
     stdin: &mut R,
     stdout: &mut W,
     stderr: &mut D,
 ) -> u8
 where
     E: Env + AllocGlobal,
-    S: Files,
+    S: Files + Clock,
     R: Read,
     W: Write,
     D: Write,
 {
     match asked(env) {
         Ok(options) => {
-            let outcome = run(files, env.alloc(), options, stdin, stdout);
+            let outcome = run(system, env.alloc(), options, stdin, stdout);
             end(stderr, NAME, outcome)
         }
         Err(error) => refuse(stdout, stderr, &error),

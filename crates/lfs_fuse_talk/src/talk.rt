@@ -1,8 +1,9 @@
 //! Messages in, replies out: each is answered before the next is read.
 
 use crate::fault::TalkFault;
-use crate::groups::{Groups, are_wanted};
+use crate::groups::are_wanted;
 use crate::inbox::{First, Inbox, front};
+use crate::outside::Outside;
 use lfs_fuse_calls::told::Told;
 use lfs_fuse_reply::errno::Errno;
 use lfs_fuse_wire::header::Header;
@@ -12,8 +13,8 @@ use std::alloc::{AllocError, Global};
 use std::io::{Read, Write};
 
 /// Adds the reply to a message, with the other groups of its process. Where these can't be known, and count, it is denied.
-fn reply<P: Groups, F: CleanedStore + Drop>(
-    groups: &mut P,
+fn reply<P: Outside, F: CleanedStore + Drop>(
+    outside: &mut P,
     alloc: Global,
     mount: &mut Mount<F>,
     message: &[u8],
@@ -22,18 +23,19 @@ fn reply<P: Groups, F: CleanedStore + Drop>(
     let Some(header) = Header::decode(message) else {
         return Ok(());
     };
+    let now = outside.now();
     if !are_wanted(&header) {
-        return mount.answer(alloc, message, &[], out);
+        return mount.answer(alloc, now, message, &[], out);
     }
-    match groups.others(alloc, &header)? {
-        Some(others) => mount.answer(alloc, message, others.as_slice(), out),
+    match outside.others(alloc, &header)? {
+        Some(others) => mount.answer(alloc, now, message, others.as_slice(), out),
         None => Told::Error(Errno::EACCES).append(out, header.unique),
     }
 }
 
 /// Answers one message. A reply that can't be written is lost: its caller was interrupted, or nobody is there.
-fn answer<P: Groups, F: CleanedStore + Drop, W: Write>(
-    groups: &mut P,
+fn answer<P: Outside, F: CleanedStore + Drop, W: Write>(
+    outside: &mut P,
     alloc: Global,
     mount: &mut Mount<F>,
     message: &[u8],
@@ -42,7 +44,7 @@ fn answer<P: Groups, F: CleanedStore + Drop, W: Write>(
     let mut out = Vec::new(alloc);
     mount.make_room(alloc)?;
     let clean = mount.clean_segments();
-    reply(groups, alloc, mount, message, &mut out)?;
+    reply(outside, alloc, mount, message, &mut out)?;
     if !out.is_empty() {
         let _ = writer.write_all(out.as_slice());
         let _ = writer.flush();
@@ -52,8 +54,8 @@ fn answer<P: Groups, F: CleanedStore + Drop, W: Write>(
 }
 
 /// Answers each whole message, and gives what is left behind them.
-fn answer_all<P: Groups, F: CleanedStore + Drop, W: Write>(
-    groups: &mut P,
+fn answer_all<P: Outside, F: CleanedStore + Drop, W: Write>(
+    outside: &mut P,
     alloc: Global,
     mount: &mut Mount<F>,
     pending: &[u8],
@@ -63,7 +65,7 @@ fn answer_all<P: Groups, F: CleanedStore + Drop, W: Write>(
     loop {
         match front(rest) {
             First::Message(message, behind) => {
-                answer(groups, alloc, mount, message, writer)?;
+                answer(outside, alloc, mount, message, writer)?;
                 rest = behind;
             }
             First::Part => return Ok(Vec::from_slice(alloc, rest)?),
@@ -77,8 +79,8 @@ fn answer_all<P: Groups, F: CleanedStore + Drop, W: Write>(
 /// # Errors
 ///
 /// `Message` where what is read is no message; `Memory` where a growth is refused.
-pub fn talk<P: Groups, F: CleanedStore + Drop, R: Read, W: Write>(
-    groups: &mut P,
+pub fn talk<P: Outside, F: CleanedStore + Drop, R: Read, W: Write>(
+    outside: &mut P,
     alloc: Global,
     mount: &mut Mount<F>,
     reader: &mut R,
@@ -89,7 +91,7 @@ pub fn talk<P: Groups, F: CleanedStore + Drop, R: Read, W: Write>(
         if inbox.read(reader)?.is_none() {
             return Ok(());
         }
-        inbox.pending = answer_all(groups, alloc, mount, inbox.pending.as_slice(), writer)?;
+        inbox.pending = answer_all(outside, alloc, mount, inbox.pending.as_slice(), writer)?;
     }
     Ok(())
 }

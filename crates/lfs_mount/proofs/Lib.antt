@@ -1,2 +1,3 @@
 pub mod HandledLemmas
 pub mod MakingLemmas
+pub mod RoomLemmas

@@ -1,12 +1,10 @@
 -- Calls that were made, with one more.
-use Rattle.std.proofs.Common.{◌≡◌, ℕ, Bool, true, false, List, [], ◌∷◌, ◌++◌, length, take, refl, sym, ap, subst, ◌∙◌}
+use Rattle.std.proofs.Common.{◌≡◌, true, false, List, [], ◌∷◌, ◌++◌, length, take, refl, sym, ap, subst, ◌∙◌}
 use Rattle.std.proofs.Math.Seq.{take-append_seam}
 use Rattle.lfs_types.specs.Caller.{Caller}
 use Rattle.lfs_types.specs.StoreStates.{StoreState}
-use Rattle.lfs_types.specs.Tree.{World}
 use Rattle.lfs_types.specs.declared.answer.Answer.{Answer}
 use Rattle.lfs_types.specs.declared.request.Request.{Request}
-use Rattle.lfs_model.specs.declared.journal.Call.{Call}
 use Rattle.lfs_model.specs.declared.journal.Entry.{Entry}
 use Rattle.lfs_model.specs.Runs.{kept, kept_entry}
 use Rattle.lfs_model.proofs.RunLemmas.{kept-append}

@@ -30,8 +30,11 @@ use Rattle.lfs_fuse_calls.specs.Telling.{Says, SaysOr, attr_told, named_in, refu
 use Rattle.lfs_fuse_calls.specs.declared.telling.Seen.{Seen as Stat}
 use Rattle.lfs_fuse_calls.specs.declared.told.Told.{Told}
 use Rattle.lfs_fuse_calls.specs.declared.told.Told.TheVariants as told
+use Rattle.lfs_stamps.specs.Leave.{dating_refusal}
 use Rattle.lfs_mount.specs.Flags.{flags_shown, flags_wanted}
 use Rattle.lfs_mount.specs.Making.{AreMade}
+use Rattle.lfs_mount.specs.Room.{IsRoom}
+use Rattle.lfs_mount.specs.declared.mount.Sizes.{Sizes}
 
 -- where each node of a mount hangs
 abbrev pub hangs_in : Parts → ℕ → Option Hang
@@ -115,6 +118,16 @@ abbrev pub IsSet : {F : Type 0} → (F → StoreState) → (F → Type 0) → Ca
 IsSet state is_settled caller hangs node fields reply old new present =
     AreSet state is_settled caller hangs node fields present reply old new ⊎ IsRefused reply old new
 
+-- the error that is told, and no further call, or what is gone on with
+abbrev pub Unless : Option Errno → Told → Type 0 → Type 0 → Type 0
+Unless (Some error) reply Stays Goes = (reply ≡ told.Error error) × Stays
+Unless None reply Stays Goes = Goes
+
+-- attributes that were these before were set where the caller may set the times that are set with them, and else none
+abbrev pub IsSetJudged : {F : Type 0} → (F → StoreState) → (F → Type 0) → Caller → (ℕ → Option Hang) → ℕ → SetAttr → Told → Seen F → Seen F → Attrs → Type 0
+IsSetJudged state is_settled caller hangs node fields reply old new present =
+    Unless (dating_refusal caller fields present) reply (new ≡ old) (IsSet state is_settled caller hangs node fields reply old new present)
+
 -- behind a Stat: its refusal is told, or what it shows is gone on with
 abbrev pub Behind : Option Errno → Option Stat → Told → Type 0 → (Attrs → Type 0) → Type 0
 Behind (Some error) seen reply Stays Goes = (reply ≡ told.Error error) × Stays
@@ -132,7 +145,7 @@ pub record IsLookedAt {F : Type 0} (state : F → StoreState) (is_settled : F �
 abbrev pub IsSetAttr : {F : Type 0} → (F → StoreState) → (F → Type 0) → Caller → (ℕ → Option Hang) → ℕ → SetAttr → Told → Seen F → Seen F → Type 0
 IsSetAttr state is_settled caller hangs node fields reply old new =
     IsLookedAt state is_settled caller hangs node (setattr fields) reply old new
-    (λ between present. IsSet state is_settled caller hangs node fields reply between new present)
+    (λ between present. IsSetJudged state is_settled caller hangs node fields reply between new present)
     ⊎ IsRefused reply old new
 
 -- ---- a Rename to a name that must be free
@@ -218,10 +231,6 @@ abbrev pub IsOpening : Told → Type 0
 IsOpening (told.Init given) = ⊤
 IsOpening reply = ⊥
 
-abbrev pub IsRoom : Told → Type 0
-IsRoom (told.Statfs room) = room.max_name ≡ 255
-IsRoom reply = ⊥
-
 -- a device, a pipe or a link isn't made
 abbrev pub IsMade : {F : Type 0} → Option FileKind → Type 0 → Told → Seen F → Seen F → Type 0
 IsMade (Some Regular) Goes reply old new = Goes
@@ -235,30 +244,30 @@ IsRename mode.Exchange Replaces Seeks reply old new = IsIdle (IsFault errno.EINV
 IsRename mode.Other Replaces Seeks reply old new = IsIdle (IsFault errno.EINVAL) reply old new
 
 -- What comes of a message to a node: which calls it makes, as this caller and no other, and what their answers have it told.
-abbrev pub IsTold : {F : Type 0} → (F → StoreState) → (F → Type 0) → Caller → (ℕ → Option Hang) → ℕ → Said → Told → Seen F → Seen F → Type 0
-IsTold state is_settled caller hangs node (lookup name) reply old new = IsHandled state is_settled caller hangs node (lookup name) reply old new
-IsTold state is_settled caller hangs node (getattr fields) reply old new = IsHandled state is_settled caller hangs node (getattr fields) reply old new
-IsTold state is_settled caller hangs node (access wanted) reply old new = IsHandled state is_settled caller hangs node (access wanted) reply old new
-IsTold state is_settled caller hangs node (mknod fields name) reply old new = IsMade fields.kind (IsHandled state is_settled caller hangs node (mknod fields name) reply old new) reply old new
-IsTold state is_settled caller hangs node (mkdir fields name) reply old new = IsHandled state is_settled caller hangs node (mkdir fields name) reply old new
-IsTold state is_settled caller hangs node (create fields name) reply old new = IsHandled state is_settled caller hangs node (create fields name) reply old new
-IsTold state is_settled caller hangs node (unlink name) reply old new = IsHandled state is_settled caller hangs node (unlink name) reply old new
-IsTold state is_settled caller hangs node (rmdir name) reply old new = IsHandled state is_settled caller hangs node (rmdir name) reply old new
-IsTold state is_settled caller hangs node (opening fields) reply old new = IsHandled state is_settled caller hangs node (opening fields) reply old new
-IsTold state is_settled caller hangs node (read fields) reply old new = IsHandled state is_settled caller hangs node (read fields) reply old new
-IsTold state is_settled caller hangs node (write fields bytes) reply old new = IsHandled state is_settled caller hangs node (write fields bytes) reply old new
-IsTold state is_settled caller hangs node (opendir fields) reply old new = IsHandled state is_settled caller hangs node (opendir fields) reply old new
-IsTold state is_settled caller hangs node (setattr fields) reply old new = IsSetAttr state is_settled caller hangs node fields reply old new
-IsTold state is_settled caller hangs node (ioctl fields) reply old new = IsFlagged state is_settled caller hangs node fields reply old new
-IsTold state is_settled caller hangs node (rename fields name new_name) reply old new =
+abbrev pub IsTold : {F : Type 0} → (F → StoreState) → (F → Type 0) → Sizes → Caller → (ℕ → Option Hang) → ℕ → Said → Told → Seen F → Seen F → Type 0
+IsTold state is_settled sizes caller hangs node (lookup name) reply old new = IsHandled state is_settled caller hangs node (lookup name) reply old new
+IsTold state is_settled sizes caller hangs node (getattr fields) reply old new = IsHandled state is_settled caller hangs node (getattr fields) reply old new
+IsTold state is_settled sizes caller hangs node (access wanted) reply old new = IsHandled state is_settled caller hangs node (access wanted) reply old new
+IsTold state is_settled sizes caller hangs node (mknod fields name) reply old new = IsMade fields.kind (IsHandled state is_settled caller hangs node (mknod fields name) reply old new) reply old new
+IsTold state is_settled sizes caller hangs node (mkdir fields name) reply old new = IsHandled state is_settled caller hangs node (mkdir fields name) reply old new
+IsTold state is_settled sizes caller hangs node (create fields name) reply old new = IsHandled state is_settled caller hangs node (create fields name) reply old new
+IsTold state is_settled sizes caller hangs node (unlink name) reply old new = IsHandled state is_settled caller hangs node (unlink name) reply old new
+IsTold state is_settled sizes caller hangs node (rmdir name) reply old new = IsHandled state is_settled caller hangs node (rmdir name) reply old new
+IsTold state is_settled sizes caller hangs node (opening fields) reply old new = IsHandled state is_settled caller hangs node (opening fields) reply old new
+IsTold state is_settled sizes caller hangs node (read fields) reply old new = IsHandled state is_settled caller hangs node (read fields) reply old new
+IsTold state is_settled sizes caller hangs node (write fields bytes) reply old new = IsHandled state is_settled caller hangs node (write fields bytes) reply old new
+IsTold state is_settled sizes caller hangs node (opendir fields) reply old new = IsHandled state is_settled caller hangs node (opendir fields) reply old new
+IsTold state is_settled sizes caller hangs node (setattr fields) reply old new = IsSetAttr state is_settled caller hangs node fields reply old new
+IsTold state is_settled sizes caller hangs node (ioctl fields) reply old new = IsFlagged state is_settled caller hangs node fields reply old new
+IsTold state is_settled sizes caller hangs node (rename fields name new_name) reply old new =
     IsRename fields.mode (IsRenamed state is_settled caller hangs node name fields.directory new_name reply old new)
     (IsRenamedToFree state is_settled caller hangs node name fields.directory new_name reply old new) reply old new
-IsTold state is_settled caller hangs node (fsync fields) reply old new = IsSynced state is_settled caller reply old new
-IsTold state is_settled caller hangs node (fsyncdir fields) reply old new = IsSynced state is_settled caller reply old new
-IsTold state is_settled caller hangs node (init fields) reply old new = IsIdle IsOpening reply old new
-IsTold state is_settled caller hangs node statfs reply old new = IsIdle IsRoom reply old new
-IsTold state is_settled caller hangs node (readdir fields) reply old new = IsIdle (λ _. ⊤) reply old new
-IsTold state is_settled caller hangs node (readdirplus fields) reply old new = IsIdle (IsFault errno.ENOSYS) reply old new
-IsTold state is_settled caller hangs node (unserved kind) reply old new = IsIdle (IsFault (error_of_unserved kind)) reply old new
-IsTold state is_settled caller hangs node (unknown number) reply old new = IsIdle (IsFault errno.ENOSYS) reply old new
-IsTold state is_settled caller hangs node message reply old new = IsIdle (λ it. it ≡ told.Done) reply old new
+IsTold state is_settled sizes caller hangs node (fsync fields) reply old new = IsSynced state is_settled caller reply old new
+IsTold state is_settled sizes caller hangs node (fsyncdir fields) reply old new = IsSynced state is_settled caller reply old new
+IsTold state is_settled sizes caller hangs node (init fields) reply old new = IsIdle IsOpening reply old new
+IsTold state is_settled sizes caller hangs node statfs reply old new = IsIdle (IsRoom sizes (state old.store)) reply old new
+IsTold state is_settled sizes caller hangs node (readdir fields) reply old new = IsIdle (λ _. ⊤) reply old new
+IsTold state is_settled sizes caller hangs node (readdirplus fields) reply old new = IsIdle (IsFault errno.ENOSYS) reply old new
+IsTold state is_settled sizes caller hangs node (unserved kind) reply old new = IsIdle (IsFault (error_of_unserved kind)) reply old new
+IsTold state is_settled sizes caller hangs node (unknown number) reply old new = IsIdle (IsFault errno.ENOSYS) reply old new
+IsTold state is_settled sizes caller hangs node message reply old new = IsIdle (λ it. it ≡ told.Done) reply old new

@@ -1,5 +1,5 @@
 -- Calls of a message, made on a volume one after another.
-use Rattle.std.specs.Prelude.{◌≡◌, ℕ, Bool, true, false, List, [], ◌∷◌, ◌++◌, length, take, map}
+use Rattle.std.specs.Prelude.{◌≡◌, Bool, true, false, List, [], ◌∷◌, ◌++◌, length, take, map}
 use Rattle.lfs_types.specs.Caller.{Caller}
 use Rattle.lfs_types.specs.StoreStates.{StoreState}
 use Rattle.lfs_types.specs.declared.answer.Answer.{Answer}

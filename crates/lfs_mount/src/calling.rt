@@ -6,8 +6,8 @@ ghost use Rattle.lfs_fuse_calls.specs.Telling.{SaysServed};
 ghost use Rattle.lfs_mount.specs.Handled.{AreAskedAndMade, IsHandled, hangs_in};
 
 use crate::making::make;
-use crate::mount::Mount;
 use crate::naming::OPENED_FILE;
+use crate::tree::Tree;
 use lfs_fuse_calls::asked::asked;
 use lfs_fuse_calls::paths::{name_of, path_of};
 use lfs_fuse_calls::telling::{
@@ -22,7 +22,7 @@ use lfs_types::name::Name;
 use lfs_types::store::FileStore;
 use std::alloc::Global;
 
-impl<F: FileStore + Drop> Mount<F> {
+impl<F: FileStore + Drop> Tree<F> {
     /// Makes the calls that a message asks for, of the path of a node or of the name that it tells in it.
     pub(crate) fn calls(
         &mut self,

@@ -3,11 +3,11 @@
 ghost use Rattle.std.specs.Prelude.{◌≡◌, ◌∷◌, [], ◌<◌, IfOk, IfErr};
 ghost use Rattle.lfs_fuse_calls.specs.Telling.{SaysOr, attr_told, refusal_in, seen_in};
 ghost use Rattle.lfs_nodes.specs.Maps.{room_in};
-ghost use Rattle.lfs_mount.specs.Handled.{IsDone, IsRenamed, IsRenamedToFree, is_missing, IsSet, IsSetAttr, IsSynced, SaysDone, hangs_in};
+ghost use Rattle.lfs_mount.specs.Handled.{IsDone, IsRenamed, IsRenamedToFree, is_missing, IsSet, IsSetAttr, IsSetJudged, IsSynced, SaysDone, hangs_in};
 ghost use Rattle.lfs_mount.specs.Making.{AreMade};
 
 use crate::making::make;
-use crate::mount::Mount;
+use crate::tree::Tree;
 use lfs_fuse_calls::asked::asked_to_set;
 use lfs_fuse_calls::paths::{name_of, path_of};
 use lfs_fuse_calls::telling::{attr_told, refusal_in, seen_in};
@@ -16,6 +16,7 @@ use lfs_fuse_reply::errno::Errno;
 use lfs_fuse_wire::attributes::SetAttr;
 use lfs_fuse_wire::message::Message;
 use lfs_nodes::NodeId;
+use lfs_stamps::leave::dating_refusal;
 use lfs_types::answer::Answer;
 use lfs_types::attrs::Attrs;
 use lfs_types::cred::Cred;
@@ -82,7 +83,7 @@ fn is_missing(errno: Errno) -> bool
     matches!(errno, Errno::ENOENT)
 }
 
-impl<F: FileStore + Drop> Mount<F> {
+impl<F: FileStore + Drop> Tree<F> {
     /// Makes one call, and gives its answer, in a list; an error where there is no memory for that.
     pub(crate) fn one(
         &mut self,
@@ -140,6 +141,24 @@ impl<F: FileStore + Drop> Mount<F> {
         }
     }
 
+    /// Sets attributes that are these at present, where the caller may set the times that are set with them.
+    fn set_judged(
+        &mut self,
+        alloc: Global,
+        node: u64,
+        fields: &SetAttr,
+        present: &Attrs,
+        cred: &Cred,
+    ) -> Told
+        ensures { IsSetJudged F.state F.is_settled cred.now (hangs_in self.old.nodes) node fields.now
+            result self.old.volume self.new.volume present.now }
+    {
+        match dating_refusal(cred, fields, present) {
+            Some(errno) => Told::Error(errno),
+            None => self.set(alloc, node, fields, present, cred),
+        }
+    }
+
     /// Sets attributes, behind a look at those that there are.
     pub(crate) fn set_attr(
         &mut self,
@@ -160,7 +179,7 @@ impl<F: FileStore + Drop> Mount<F> {
             return Told::Error(errno);
         }
         match seen_in(answers.as_slice()) {
-            Some(seen) => self.set(alloc, node, fields, &seen.attrs, cred),
+            Some(seen) => self.set_judged(alloc, node, fields, &seen.attrs, cred),
             None => Told::Error(Errno::EIO),
         }
     }

@@ -4,7 +4,7 @@ ghost use Rattle.std.specs.Prelude.{◌≡◌, ◌+◌, ◌≤◌, IfSome};
 ghost use Rattle.lfs_mount.specs.Flags.{flags_shown, flags_wanted, has, number_if, user_flags};
 ghost use Rattle.lfs_mount.specs.Handled.{GoesOnFlags, IsFlagged, IsFlagsSet, SaysFlagged, hangs_in};
 
-use crate::mount::Mount;
+use crate::tree::Tree;
 use lfs_fuse_calls::paths::path_of;
 use lfs_fuse_calls::telling::{refusal_in, seen_in};
 use lfs_fuse_calls::told::Told;
@@ -78,7 +78,7 @@ fn flagged_told(answers: &[Answer]) -> Told
     }
 }
 
-impl<F: FileStore + Drop> Mount<F> {
+impl<F: FileStore + Drop> Tree<F> {
     /// Sets the flags of a node, which are these at present.
     fn set_flags(
         &mut self,

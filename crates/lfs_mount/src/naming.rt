@@ -5,7 +5,7 @@ ghost use Rattle.lfs_fuse_calls.specs.Attrs.{attr_of};
 ghost use Rattle.lfs_fuse_calls.specs.Telling.{TellsEntry, TellsCreated};
 ghost use Rattle.lfs_mount.specs.Handled.{IsNodeFault};
 
-use crate::mount::Mount;
+use crate::tree::Tree;
 use lfs_fuse_calls::attr::attr;
 use lfs_fuse_calls::telling::Seen;
 use lfs_fuse_calls::told::Told;
@@ -34,7 +34,7 @@ fn error_of(fault: LookUpFault) -> Errno
     }
 }
 
-impl<F: FileStore + Drop> Mount<F> {
+impl<F: FileStore + Drop> Tree<F> {
     /// The node of what a name in a directory leads to, with the attributes that a Stat showed.
     fn entry(
         &mut self,

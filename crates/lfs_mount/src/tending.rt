@@ -18,23 +18,23 @@ const FEW_CLEAN: u32 = 3;
 impl<F: FileStore + Drop> Mount<F> {
     /// How many segments of the store are clean.
     pub fn clean_segments(&self) -> u32
-        ensures { result ≡ (F.state self.now.volume.store).clean }
+        ensures { result ≡ (F.state self.now.tree.volume.store).clean }
     {
-        self.volume.clean_segments()
+        self.tree.volume.clean_segments()
     }
 
     /// Lets the entries of the journal go, where there is room for fewer than 256 more. The volume's store and level stay.
     pub fn make_room(&mut self, alloc: Global) -> Result<(), AllocError>
-        ensures store { self.new.volume.store ≡ self.old.volume.store }
-        ensures level { self.new.volume.level ≡ self.old.volume.level }
+        ensures store { self.new.tree.volume.store ≡ self.old.tree.volume.store }
+        ensures level { self.new.tree.volume.level ≡ self.old.tree.volume.level }
     {
-        let limit = self.volume.journal_limit() as usize;
-        let used = self.volume.journal().len();
+        let limit = self.tree.volume.journal_limit() as usize;
+        let used = self.tree.volume.journal().len();
         if limit.saturating_sub(used) >= ROOM {
             return Ok(());
         }
         let room = Vec::with_capacity(alloc, limit)?;
-        let _ = self.volume.drain(room);
+        let _ = self.tree.volume.drain(room);
         Ok(())
     }
 }
@@ -42,24 +42,24 @@ impl<F: FileStore + Drop> Mount<F> {
 impl<F: CleanedStore + Drop> Mount<F> {
     /// Makes a pass of the cleaner. No file changes.
     fn pass(&mut self)
-        ensures content { (F.state self.new.volume.store).content ≡ (F.state self.old.volume.store).content }
-        ensures level { self.new.volume.level ≡ self.old.volume.level }
+        ensures content { (F.state self.new.tree.volume.store).content ≡ (F.state self.old.tree.volume.store).content }
+        ensures level { self.new.tree.volume.level ≡ self.old.tree.volume.level }
     {
         let cleaner = superuser();
         let mut pass = Pass::new();
         let mut last = None;
         while let Some(call) = pass.next(last.as_ref()) {
-            last = Some(self.volume.clean(0, &cleaner, call));
+            last = Some(self.tree.volume.clean(0, &cleaner, call));
         }
     }
 
     /// Makes a pass of the cleaner where there are fewer than three clean segments, so that room that was given back is found, or
     /// three and more than that before. No file changes.
     pub fn tend(&mut self, before: u32)
-        ensures content { (F.state self.new.volume.store).content ≡ (F.state self.old.volume.store).content }
-        ensures level { self.new.volume.level ≡ self.old.volume.level }
+        ensures content { (F.state self.new.tree.volume.store).content ≡ (F.state self.old.tree.volume.store).content }
+        ensures level { self.new.tree.volume.level ≡ self.old.tree.volume.level }
     {
-        let after = self.volume.clean_segments();
+        let after = self.tree.volume.clean_segments();
         if after < FEW_CLEAN || (after == FEW_CLEAN && after < before) {
             self.pass();
         }

@@ -1,9 +1,7 @@
-use Rattle.std.proofs.Common.{rules, ◌≡◌, ◌<◌, ◌∷◌, [], ◌++◌, List, length, true, false, sym, ap, subst, ◌∙◌, arith, length-append, append_assoc, append-nil}
+use Rattle.std.proofs.Common.{rules, ◌≡◌, ◌∷◌, [], ◌++◌, true, false, sym, ap, subst, ◌∙◌, arith, length-append, append_assoc, append-nil}
 use Rattle.std.proofs.lemmas.Grind.{common_steps}
-use Rattle.lfs_types.specs.declared.request.Request.{Request}
-use Rattle.lfs_types.specs.declared.answer.Answer.{Answer}
 use Rattle.lfs_model.specs.Runs.{kept}
-use Rattle.lfs_volume.specs.CallRuns.{AreAnswers, IsCallMade}
+use Rattle.lfs_volume.specs.CallRuns.{AreAnswers}
 use Rattle.lfs_volume.specs.Journals.{Since}
 use Rattle.lfs_volume.proofs.CallLemmas.{call_made}
 use Rattle.lfs_fuse_calls.specs.Shown.{is_full, wanted_by}

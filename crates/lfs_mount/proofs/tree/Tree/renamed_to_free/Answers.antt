@@ -5,7 +5,7 @@ use Rattle.lfs_fuse_calls.specs.Telling.{refusal_in}
 use Rattle.lfs_fuse_calls.specs.declared.told.Told.TheVariants.{Error}
 use Rattle.lfs_mount.specs.Handled.{IsRenamed, hangs_in, is_missing}
 use Rattle.lfs_mount.proofs.HandledLemmas.{sought_free, sought_refused, sought_there}
-use Rattle.lfs_mount.proofs.mount.Mount.renamed_to_free.Goals as goal
+use Rattle.lfs_mount.proofs.tree.Tree.renamed_to_free.Goals as goal
 
 pub returns-in-None : goal.returns-in-None
 returns-in-None g c =

@@ -7,7 +7,7 @@ use Rattle.lfs_fuse_calls.specs.Telling.{refusal_in, seen_in}
 use Rattle.lfs_fuse_calls.specs.declared.told.Told.TheVariants.{Error}
 use Rattle.lfs_mount.specs.Handled.{GoesOnFlags, hangs_in}
 use Rattle.lfs_mount.proofs.HandledLemmas.{looked_on, looked_refused, looked_unseen}
-use Rattle.lfs_mount.proofs.mount.Mount.flagged.Goals as goal
+use Rattle.lfs_mount.proofs.tree.Tree.flagged.Goals as goal
 
 pub returns-in-Some : goal.returns-in-Some
 returns-in-Some g c =

@@ -5,9 +5,9 @@ use Rattle.lfs_fuse_wire.specs.Said.{setattr}
 use Rattle.lfs_fuse_reply.specs.declared.errno.Errno.TheVariants.{EIO}
 use Rattle.lfs_fuse_calls.specs.Telling.{refusal_in, seen_in}
 use Rattle.lfs_fuse_calls.specs.declared.told.Told.TheVariants.{Error}
-use Rattle.lfs_mount.specs.Handled.{IsSet, hangs_in}
+use Rattle.lfs_mount.specs.Handled.{IsSetJudged, hangs_in}
 use Rattle.lfs_mount.proofs.HandledLemmas.{looked_on, looked_refused, looked_unseen}
-use Rattle.lfs_mount.proofs.mount.Mount.set_attr.Goals as goal
+use Rattle.lfs_mount.proofs.tree.Tree.set_attr.Goals as goal
 
 pub returns-in-Some : goal.returns-in-Some
 returns-in-Some g c =
@@ -19,7 +19,7 @@ returns-in-Some g c =
     let refused : refusal_in c.in-Ok.answers.items ≡ Some c.in-Some.errno =
     sym (ap refusal_in c.as_slice.ensures.value) ∙ sym c.refusal_in.ensures ∙ c.in-Some.is in
     inl (looked_refused state settled c.args.cred.now hangs c.args.node (setattr c.args.fields.now) reply c.args.self.now.volume new
-    (λ between (present : Attrs). IsSet state settled c.args.cred.now hangs c.args.node c.args.fields.now reply between new present)
+    (λ between (present : Attrs). IsSetJudged state settled c.args.cred.now hangs c.args.node c.args.fields.now reply between new present)
     c.in-Ok.answers.items c.in-Some.errno c.in-Ok.ensures.made refused refl)
 
 pub returns-in-Some-seen_in : goal.returns-in-Some-seen_in
@@ -27,17 +27,17 @@ returns-in-Some-seen_in g c =
     let state = g.F.FileStore.state in
     let settled = g.F.FileStore.is_settled in
     let hangs = hangs_in c.args.self.now.nodes in
-    let reply = c.set.result in
+    let reply = c.set_judged.result in
     let between = c.calls.new.self.volume in
-    let new = c.set.new.self.volume in
+    let new = c.set_judged.new.self.volume in
     let seen = c.in-Some-seen_in.seen in
     let served : refusal_in c.in-Ok.answers.items ≡ None = grind (arith, common_steps) in
     let was : seen_in c.in-Ok.answers.items ≡ Some seen =
     sym (ap seen_in c.as_slice-2.ensures.value) ∙ sym c.seen_in.ensures ∙ c.in-Some-seen_in.is in
     inl (looked_on state settled c.args.cred.now hangs c.args.node (setattr c.args.fields.now) reply c.args.self.now.volume between new
-    (λ between (present : Attrs). IsSet state settled c.args.cred.now hangs c.args.node c.args.fields.now reply between new present)
+    (λ between (present : Attrs). IsSetJudged state settled c.args.cred.now hangs c.args.node c.args.fields.now reply between new present)
     c.in-Ok.answers.items seen c.in-Ok.ensures.made served was
-    (subst (λ n. IsSet state settled c.args.cred.now (hangs_in n) c.args.node c.args.fields.now reply between new seen.attrs) c.calls.ensures.nodes c.set.ensures))
+    (subst (λ n. IsSetJudged state settled c.args.cred.now (hangs_in n) c.args.node c.args.fields.now reply between new seen.attrs) c.calls.ensures.nodes c.set_judged.ensures))
 
 pub returns : goal.returns
 returns g c =
@@ -50,5 +50,5 @@ returns g c =
     let unseen : seen_in c.in-Ok.answers.items ≡ None =
     sym (ap seen_in c.as_slice-2.ensures.value) ∙ sym c.seen_in.ensures ∙ c.in-None.is in
     inl (looked_unseen state settled c.args.cred.now hangs c.args.node (setattr c.args.fields.now) reply c.args.self.now.volume new
-    (λ between (present : Attrs). IsSet state settled c.args.cred.now hangs c.args.node c.args.fields.now reply between new present)
+    (λ between (present : Attrs). IsSetJudged state settled c.args.cred.now hangs c.args.node c.args.fields.now reply between new present)
     c.in-Ok.answers.items c.in-Ok.ensures.made served unseen refl)

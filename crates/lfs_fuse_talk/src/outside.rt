@@ -1,0 +1,90 @@
+//! What a mount asks of the world outside: the time, and the groups of a process.
+
+use crate::groups::others;
+use lfs_fuse_wire::attributes::Time;
+use lfs_fuse_wire::header::Header;
+use std::alloc::{AllocError, Global};
+use std::rt::Files;
+use std::time::{Clock, SystemTime, UNIX_EPOCH};
+
+/// The world outside a mount.
+pub trait Outside {
+    /// The present time.
+    fn now(&mut self) -> Time;
+
+    /// The groups of the process of a message but that of its header, at most 15; `None` where they can't be known.
+    fn others(&mut self, alloc: Global, header: &Header) -> Result<Option<Vec<u32>>, AllocError>;
+}
+
+/// The system: its clock, and its processes' files beneath `/proc`.
+#[derive(Drop)]
+pub struct System<'a, S: Files + Clock> {
+    system: &'a S,
+    last: Time,
+}
+
+impl<'a, S: Files + Clock> System<'a, S> {
+    /// This system.
+    pub fn of(system: &'a S) -> System<'a, S> {
+        System {
+            system,
+            last: Time {
+                seconds: 0,
+                nanoseconds: 0,
+            },
+        }
+    }
+}
+
+/// What a clock reads, if it reads.
+fn time_of<S: Clock>(clock: &S) -> Option<Time> {
+    let now = SystemTime::now(clock).ok()?;
+    let since = now.duration_since(UNIX_EPOCH).ok()?;
+    Some(Time {
+        seconds: since.as_secs(),
+        nanoseconds: since.subsec_nanos(),
+    })
+}
+
+impl<S: Files + Clock> Outside for System<'_, S> {
+    /// What the clock reads; the last time that it read, where it doesn't.
+    fn now(&mut self) -> Time {
+        if let Some(time) = time_of(self.system) {
+            self.last = time;
+        }
+        self.last
+    }
+
+    fn others(&mut self, alloc: Global, header: &Header) -> Result<Option<Vec<u32>>, AllocError> {
+        others(alloc, self.system, header)
+    }
+}
+
+/// A recorded talk, whose processes are gone: no group is known but that of a message, and each look at the time is a second
+/// behind the one before.
+#[derive(Drop)]
+pub struct Recording {
+    seconds: u64,
+}
+
+impl Recording {
+    /// The beginning of a talk, at second 0 of 1970.
+    pub fn new() -> Recording {
+        Recording { seconds: 0 }
+    }
+}
+
+impl Outside for Recording {
+    fn now(&mut self) -> Time {
+        let seconds = self.seconds;
+        self.seconds = seconds.saturating_add(1);
+        Time {
+            seconds,
+            nanoseconds: 0,
+        }
+    }
+
+    fn others(&mut self, alloc: Global, _header: &Header) -> Result<Option<Vec<u32>>, AllocError> {
+        Ok(Some(Vec::new(alloc)))
+    }
+}

@@ -1,0 +1,8 @@
+use Rattle.std.proofs.Common.{◌≡◌}
+use Rattle.lfs_mount.specs.Room.{used_below}
+use Rattle.lfs_mount.proofs.room.used.Given as goal
+
+abbrev pub invariant-loop-number : goal.invariant-loop-number
+invariant-loop-number g l = record {
+  is : l.count ≡ used_below (g.F.FileStore.state l.store).content l.number;
+}

@@ -1,0 +1,145 @@
+//! What a message comes to.
+
+ghost use Rattle.std.specs.Prelude.{◌≡◌};
+ghost use Rattle.lfs_fuse_wire.specs.Views.{view};
+ghost use Rattle.lfs_mount.specs.Handled.{IsHandled, IsMade, IsRename, IsRenamed, IsRenamedToFree, IsTold, error_of_unserved, hangs_in};
+
+use crate::changing::Spot;
+use crate::mount::Sizes;
+use crate::room::{init_reply, room};
+use crate::tree::Tree;
+use lfs_fuse_calls::told::Told;
+use lfs_fuse_reply::errno::Errno;
+use lfs_fuse_wire::forgetting::Forgets;
+use lfs_fuse_wire::kind::FileKind;
+use lfs_fuse_wire::message::Message;
+use lfs_fuse_wire::naming::RenameMode;
+use lfs_fuse_wire::opcode::Unserved;
+use lfs_nodes::{NodeId, Nodes};
+use lfs_types::cred::Cred;
+use lfs_types::store::FileStore;
+use std::alloc::Global;
+
+/// What is told of a message of which nothing but the kind is read: there are no links, attributes beside the usual ones or
+/// locks here.
+fn error_of_unserved(kind: Unserved) -> Errno
+    ensures { result ≡ error_of_unserved kind }
+{
+    match kind {
+        Unserved::Link | Unserved::Symlink => Errno::EPERM,
+        Unserved::Readlink => Errno::EINVAL,
+        Unserved::Fallocate | Unserved::Tmpfile => Errno::EOPNOTSUPP,
+        _ => Errno::ENOSYS,
+    }
+}
+
+/// The kernel forgets the nodes of a batch.
+fn forget_all(nodes: &mut Nodes, forgets: &Forgets<'_>) {
+    for index in 0..forgets.len() {
+        if let Some(forget) = forgets.get(index) {
+            nodes.forget(NodeId(forget.node), forget.lookups);
+        }
+    }
+}
+
+impl<F: FileStore + Drop> Tree<F> {
+    /// Moves an entry, by what becomes of one that has the new name.
+    fn rename(
+        &mut self,
+        alloc: Global,
+        mode: RenameMode,
+        from: &Spot<'_>,
+        to: &Spot<'_>,
+        cred: &Cred,
+    ) -> Told
+        ensures { IsRename mode
+            (IsRenamed F.state F.is_settled cred.now (hangs_in self.old.nodes) from.now.node from.now.name.now
+            to.now.node to.now.name.now result self.old.volume self.new.volume)
+            (IsRenamedToFree F.state F.is_settled cred.now (hangs_in self.old.nodes) from.now.node from.now.name.now
+            to.now.node to.now.name.now result self.old.volume self.new.volume)
+            result self.old.volume self.new.volume }
+    {
+        match mode {
+            RenameMode::Replace => self.renamed(alloc, from, to, cred),
+            RenameMode::NoReplace => self.renamed_to_free(alloc, from, to, cred),
+            RenameMode::Exchange | RenameMode::Other => Told::Error(Errno::EINVAL),
+        }
+    }
+
+    /// Makes a node of this kind: regular files alone.
+    fn make_node(
+        &mut self,
+        alloc: Global,
+        node: u64,
+        kind: Option<FileKind>,
+        message: &Message<'_>,
+        cred: &Cred,
+    ) -> Told
+        ensures { IsMade kind (IsHandled F.state F.is_settled cred.now (hangs_in self.old.nodes) node (view message.now)
+            result self.old.volume self.new.volume) result self.old.volume self.new.volume }
+    {
+        match kind {
+            Some(FileKind::Regular) => self.once(alloc, node, message, cred),
+            Some(FileKind::Directory) | None => Told::Error(Errno::EPERM),
+        }
+    }
+
+    /// What a message comes to.
+    pub(crate) fn told(
+        &mut self,
+        alloc: Global,
+        sizes: Sizes,
+        node: u64,
+        message: &Message<'_>,
+        cred: &Cred,
+    ) -> Told
+        ensures { IsTold F.state F.is_settled sizes cred.now (hangs_in self.old.nodes) node (view message.now)
+            result self.old.volume self.new.volume }
+    {
+        match message {
+            Message::Lookup(_)
+            | Message::GetAttr(_)
+            | Message::Access(_)
+            | Message::Mkdir(_, _)
+            | Message::Create(_, _)
+            | Message::Unlink(_)
+            | Message::Rmdir(_)
+            | Message::Open(_)
+            | Message::Read(_)
+            | Message::Write(_, _)
+            | Message::Opendir(_) => self.once(alloc, node, message, cred),
+            Message::Mknod(fields, _) => self.make_node(alloc, node, fields.kind, message, cred),
+            Message::SetAttr(fields) => self.set_attr(alloc, node, fields, cred),
+            Message::Ioctl(fields) => self.flagged(alloc, node, fields, cred),
+            Message::Rename(fields, name, new_name) => {
+                let from = Spot { node, name };
+                let to = Spot {
+                    node: fields.directory,
+                    name: new_name,
+                };
+                self.rename(alloc, fields.mode, &from, &to, cred)
+            }
+            Message::Fsync(_) | Message::Fsyncdir(_) => self.synced(alloc, cred),
+            Message::Init(init) => Told::Init(init_reply(init)),
+            Message::Statfs => Told::Statfs(room(self.volume.store(), sizes)),
+            Message::Readdir(wanted) => self.listings.told(alloc, wanted),
+            Message::Readdirplus(_) | Message::Unknown(_) => Told::Error(Errno::ENOSYS),
+            Message::Unserved(kind) => Told::Error(error_of_unserved(*kind)),
+            Message::Forget(fields) => {
+                self.nodes.forget(NodeId(node), fields.lookups);
+                Told::Done
+            }
+            Message::BatchForget(forgets) => {
+                forget_all(&mut self.nodes, forgets);
+                Told::Done
+            }
+            Message::Releasedir(fields) => {
+                self.listings.close(fields.handle);
+                Told::Done
+            }
+            Message::Destroy | Message::Interrupt(_) | Message::Flush(_) | Message::Release(_) => {
+                Told::Done
+            }
+        }
+    }
+}

@@ -1,0 +1,4 @@
+pub mod Change
+pub mod Leave
+pub mod Stamps
+pub mod Times
