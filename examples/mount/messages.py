@@ -192,7 +192,7 @@ def names(talk):
     talk.say(GETATTR, 3, bytes(16), 8, error=errno.ESTALE)
     talk.say(GETATTR, 4, bytes(16), 8, reply=attr_out(attr(6, REGULAR | 0o640, 7, 0)))
     talk.say(UNLINK, 2, b"line\nfeed\0", 8, reply=b"", written=[4])
-    talk.say(GETATTR, 2, bytes(16), 8, reply=attr_out(attr(4, DIRECTORY | 0o777, 0, 0, 512, links=2)))
+    talk.say(GETATTR, 2, bytes(16), 8, reply=attr_out(attr(4, DIRECTORY | 0o777, links=2)))
     talk.say(READ, 4, read_in(0, 1), 7, error=errno.ESTALE)
     talk.say(FORGET, 4, struct.pack("<Q", 1))
     talk.say(BATCH_FORGET, 0, struct.pack("<IIQQ", 1, 0, 3, 3))
