@@ -222,6 +222,27 @@ def flags(talk):
     talk.say(IOCTL, 5, struct.pack("<QIIQII", 0, 0, 0x5401, 0, 0, 0), 7, error=errno.ENOTTY)
 
 
+def release_in(handle):
+    return struct.pack("<QIIQ", handle, 0, 0, 0)
+
+
+def closed(talk):
+    """A file that is made without its owner's right to write is filled by who makes it, and closed by the kernel; a mode that
+    is set while it is open stays."""
+    talk.say(CREATE, 2, create_in(O_WRONLY, REGULAR | 0o444, b"ro"), 7,
+             reply=entry(6, attr(6, REGULAR | 0o644, 7, 0)) + opened(1), made=6, written=[4])
+    talk.say(WRITE, 6, write_in(0, b"ro"), 7, reply=written(2), written=[6])
+    talk.say(WRITE, 6, write_in(0, b"no"), 8, error=errno.EACCES)
+    talk.say(RELEASE, 6, release_in(1), reply=b"")
+    talk.say(GETATTR, 6, bytes(16), 8, reply=attr_out(attr(6, REGULAR | 0o444, 7, 0, 2)))
+    talk.say(WRITE, 6, write_in(0, b"no"), 7, error=errno.EACCES)
+    talk.say(CREATE, 2, create_in(O_WRONLY, REGULAR | 0o040, b"kept"), 7,
+             reply=entry(7, attr(7, REGULAR | 0o640, 7, 0)) + opened(1), made=7, written=[4])
+    talk.say(SETATTR, 7, setattr_in(1, mode=0o660), 7, reply=attr_out(attr(7, REGULAR | 0o660, 7, 0)), restated=[7])
+    talk.say(RELEASE, 7, release_in(1), reply=b"")
+    talk.say(GETATTR, 7, bytes(16), 7, reply=attr_out(attr(7, REGULAR | 0o660, 7, 0)))
+
+
 def rest(talk):
     """What isn't served, what is no message, and the end."""
     talk.say(SYMLINK, 2, b"link\0target\0", error=errno.EPERM)
@@ -245,7 +266,7 @@ def main():
     if len(sys.argv) != 2:
         sys.exit(__doc__)
     talk = Talk()
-    for part in (beginning, files, attributes, names, pieces, flags, rest):
+    for part in (beginning, files, attributes, names, pieces, flags, closed, rest):
         part(talk)
     folder = Path(sys.argv[1])
     (folder / "stdin").write_bytes(talk.messages)

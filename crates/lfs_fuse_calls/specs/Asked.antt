@@ -1,5 +1,5 @@
 -- The calls that a message asks for, of a path, in order.
-use Rattle.std.specs.Prelude.{ℕ, ◌%◌, Bool, true, false, List, [], ◌∷◌, ◌++◌, length, Option, None, Some}
+use Rattle.std.specs.Prelude.{ℕ, ◌+◌, ◌/◌, ◌%◌, ◌==◌, if◌then◌else◌, Bool, true, false, List, [], ◌∷◌, ◌++◌, length, Option, None, Some}
 use Rattle.lfs_types.specs.declared.attrs.Attrs.{Attrs}
 use Rattle.lfs_types.specs.declared.request.Request.{Request}
 use Rattle.lfs_types.specs.declared.request.Request.TheVariants.{Stat, Read, Write, List as Names, SetLength, Create, Mkdir, Unlink, Rmdir, Chmod, Chown}
@@ -44,6 +44,19 @@ asked_to_open flags path =
 abbrev pub mode_of : ℕ → ℕ
 mode_of permissions = permissions % 4096
 
+-- what the owner lacks of the bits by which he may read and write
+abbrev pub lacking : ℕ → ℕ
+lacking mode = (if mode / 256 % 2 == 0 then 256 else 0) + (if mode / 128 % 2 == 0 then 128 else 0)
+
+-- The mode with which a file is made that is opened too: as its message tells, and with its owner's right to read and write,
+-- by which the one who makes it fills it.
+abbrev pub lent_mode : ℕ → ℕ
+lent_mode permissions = mode_of permissions + lacking (mode_of permissions)
+
+-- the mode that it gets once it is closed, where that is another
+abbrev pub due_mode : ℕ → Option ℕ
+due_mode permissions = if lacking (mode_of permissions) == 0 then None else Some (mode_of permissions)
+
 -- Of one path: that of the message's node, or of the name in it.
 abbrev pub asked : Said → List (List ℕ) → List Request
 asked (lookup name) path = Stat path ∷ []
@@ -52,7 +65,7 @@ asked (setattr fields) path = Stat path ∷ []
 asked (access fields) path = Stat path ∷ []
 asked (ioctl fields) path = Stat path ∷ []
 asked (mknod fields name) path = Create path (mode_of fields.permissions) ∷ Stat path ∷ []
-asked (create fields name) path = Create path (mode_of fields.permissions) ∷ Stat path ∷ []
+asked (create fields name) path = Create path (lent_mode fields.permissions) ∷ Stat path ∷ []
 asked (mkdir fields name) path = Mkdir path (mode_of fields.permissions) ∷ Stat path ∷ []
 asked (unlink name) path = Unlink path ∷ []
 asked (rmdir name) path = Rmdir path ∷ []

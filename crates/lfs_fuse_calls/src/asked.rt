@@ -1,8 +1,8 @@
 //! The calls that a message asks for, of a path, in order.
 
-ghost use Rattle.std.specs.Prelude.{◌≡◌, ◌++◌, ◌∷◌, [], IfOk, OnOk};
+ghost use Rattle.std.specs.Prelude.{◌≡◌, ◌+◌, ◌<◌, ◌++◌, ◌∷◌, [], IfOk, OnOk};
 ghost use Rattle.lfs_fuse_wire.specs.Views.{view};
-ghost use Rattle.lfs_fuse_calls.specs.Asked.{asked, asked_if, asked_to_open, asked_to_set, asked_with, is_told, mode_of, reads, told_or, writes};
+ghost use Rattle.lfs_fuse_calls.specs.Asked.{asked, asked_if, asked_to_open, asked_to_set, asked_with, due_mode, is_told, lacking, lent_mode, mode_of, reads, told_or, writes};
 ghost use Rattle.lfs_fuse_calls.specs.Pieces.{put_at};
 
 use crate::pieces::{payload, put_at, read_pieces, write_pieces};
@@ -22,6 +22,41 @@ fn mode_of(permissions: u16) -> Mode
     match Mode::new(permissions % 0o10000) {
         Some(mode) => mode,
         None => unreachable!(),
+    }
+}
+
+/// What the owner lacks of the bits by which he may read and write.
+fn lacking(mode: u16) -> u16
+    requires { mode < 4096 }
+    ensures bits { result ≡ lacking mode }
+    ensures room { result + mode < 4096 }
+{
+    let read = if mode / 256 % 2 == 0 { 0o400 } else { 0 };
+    let write = if mode / 128 % 2 == 0 { 0o200 } else { 0 };
+    read + write
+}
+
+/// The mode with which a file is made that is opened too: with its owner's right to read and write it, which grants nothing
+/// to anybody but who makes it.
+fn lent_mode(permissions: u16) -> Mode
+    ensures { result ≡ lent_mode permissions }
+{
+    let bits = permissions % 0o10000;
+    match Mode::new(bits + lacking(bits)) {
+        Some(mode) => mode,
+        None => unreachable!(),
+    }
+}
+
+/// The mode that a file gets once it is closed, where it was made with another.
+pub fn due_mode(permissions: u16) -> Option<Mode>
+    ensures { result ≡ due_mode permissions }
+{
+    let mode = mode_of(permissions);
+    if lacking(mode.bits()) == 0 {
+        None
+    } else {
+        Some(mode)
     }
 }
 
@@ -111,8 +146,8 @@ pub fn asked(alloc: Global, message: &Message<'_>, path: &Path) -> Result<Vec<Re
             let path = path.try_clone(alloc)?;
             one(alloc, Request::Stat { path })
         }
-        Message::Mknod(fields, _) => made(alloc, fields.permissions, path),
-        Message::Create(fields, _) => made(alloc, fields.permissions, path),
+        Message::Mknod(fields, _) => made(alloc, mode_of(fields.permissions), path),
+        Message::Create(fields, _) => made(alloc, lent_mode(fields.permissions), path),
         Message::Mkdir(fields, _) => made_directory(alloc, fields.permissions, path),
         Message::Unlink(_) => {
             let path = path.try_clone(alloc)?;
@@ -135,12 +170,11 @@ pub fn asked(alloc: Global, message: &Message<'_>, path: &Path) -> Result<Vec<Re
     }
 }
 
-/// The calls that make a file.
-fn made(alloc: Global, permissions: u16, path: &Path) -> Result<Vec<Request>, AllocError>
+/// The calls that make a file of this mode.
+fn made(alloc: Global, mode: Mode, path: &Path) -> Result<Vec<Request>, AllocError>
     ensures { IfOk result (λ calls. calls.items
-        ≡ Request.Create path.now (mode_of permissions) ∷ Request.Stat path.now ∷ []) }
+        ≡ Request.Create path.now mode ∷ Request.Stat path.now ∷ []) }
 {
-    let mode = mode_of(permissions);
     let new = path.try_clone(alloc)?;
     and_stat(alloc, Request::Create { path: new, mode }, path)
 }

@@ -4,9 +4,10 @@ use Rattle.lfs_types.specs.Caller.{Caller}
 use Rattle.lfs_types.specs.StoreStates.{StoreState}
 use Rattle.lfs_volume.specs.Seen.{Seen}
 use Rattle.lfs_nodes.specs.declared.node.Hang.{Hang}
+use Rattle.lfs_nodes.specs.declared.node.Hang.TheVariants.{Gone}
 use Rattle.lfs_nodes.specs.declared.parts.Parts.{Parts}
 use Rattle.lfs_nodes.specs.Nodes.{known}
-use Rattle.lfs_nodes.specs.Reads.{number_in}
+use Rattle.lfs_nodes.specs.Reads.{hang_in, number_in}
 use Rattle.lfs_fuse_wire.specs.Header.{header_in}
 use Rattle.lfs_fuse_wire.specs.Said.{Said, has_reply, said}
 use Rattle.lfs_fuse_wire.specs.declared.attributes.Time.{Time}
@@ -18,28 +19,39 @@ use Rattle.lfs_fuse_calls.specs.declared.told.Told.{Told}
 use Rattle.lfs_fuse_calls.specs.declared.told.Told.TheVariants.{Error}
 use Rattle.lfs_stamps.specs.Change.{change_of, other_node}
 use Rattle.lfs_stamps.specs.Times.{dated, stamped}
-use Rattle.lfs_stamps.specs.declared.stamps.Stamps.{Stamps}
-use Rattle.lfs_mount.specs.Handled.{IsTold}
+use Rattle.lfs_mount.specs.Handled.{IsTold, hangs_in}
+use Rattle.lfs_mount.specs.Loans.{due, noted, with_handle}
+use Rattle.lfs_mount.specs.declared.mount.Beside.{Beside}
 use Rattle.lfs_mount.specs.declared.mount.Sizes.{Sizes}
 
 -- the inode number of each node of a mount
 abbrev pub rows_in : Parts → ℕ → Option ℕ
 rows_in parts node = number_in (known parts node)
 
--- What comes of a message that comes now: its calls; and the files that it changed, as what is told of it says, have the
--- present time, all others keep theirs, and attributes are told with their times.
-pub record IsToldDated {F : Type 0} (state : F → StoreState) (is_settled : F → Type 0) (sizes : Sizes) (now : Time) (caller : Caller) (hangs : ℕ → Option Hang) (rows : ℕ → Option ℕ) (node : ℕ) (message : Said) (reply : Told) (old new : Seen F) (times_before times_after : List Stamps) : Type 0 where
+-- the inode number of a node that isn't gone
+abbrev pub live_of : Option Hang → Option ℕ → Option ℕ
+live_of (Some Gone) row = None
+live_of hang row = row
+
+abbrev pub live_in : Parts → ℕ → Option ℕ
+live_in parts node = live_of (hang_in (known parts node)) (rows_in parts node)
+
+-- What comes of a message that comes now: its calls; the files that it changed, as what is told of it says, have the present
+-- time, all others keep theirs, and attributes are told with their times; and what is put down of files that are made with
+-- more than their mode.
+pub record IsToldDated {F : Type 0} (state : F → StoreState) (is_settled : F → Type 0) (sizes : Sizes) (now : Time) (caller : Caller) (nodes : Parts) (node : ℕ) (message : Said) (reply : Told) (old new : Seen F) (before after : Beside) : Type 0 where
   pub told : Told
-  pub is : IsTold state is_settled sizes caller hangs node message told old new
-  pub times : times_after ≡ stamped now (rows node) (rows (other_node message)) (change_of message told) times_before
-  pub shown : reply ≡ dated times_after told
+  pub is : IsTold state is_settled sizes (due message before.loans.modes.items (live_in nodes node)) caller (hangs_in nodes) node message told old new
+  pub times : after.times.stamps.items ≡ stamped now (rows_in nodes node) (rows_in nodes (other_node message)) (change_of message told) before.times.stamps.items
+  pub loans : after.loans.modes.items ≡ noted message told before.loans.modes.items
+  pub shown : reply ≡ dated after.times.stamps.items (with_handle message told)
 
 -- what comes of a message, or of bytes that are none: those are EINVAL, and no call is made; and whether a reply is wanted
-abbrev pub IsHeard : {F : Type 0} → (F → StoreState) → (F → Type 0) → Sizes → Time → Caller → (ℕ → Option Hang) → (ℕ → Option ℕ) → ℕ → Option Said → Told → Bool → Seen F → Seen F → List Stamps → List Stamps → Type 0
-IsHeard state is_settled sizes now caller hangs rows node None reply wanted old new times_before times_after =
-    (reply ≡ Error EINVAL) × (wanted ≡ true) × (new ≡ old) × (times_after ≡ times_before)
-IsHeard state is_settled sizes now caller hangs rows node (Some message) reply wanted old new times_before times_after =
-    IsToldDated state is_settled sizes now caller hangs rows node message reply old new times_before times_after × (wanted ≡ has_reply message)
+abbrev pub IsHeard : {F : Type 0} → (F → StoreState) → (F → Type 0) → Sizes → Time → Caller → Parts → ℕ → Option Said → Told → Bool → Seen F → Seen F → Beside → Beside → Type 0
+IsHeard state is_settled sizes now caller nodes node None reply wanted old new before after =
+    (reply ≡ Error EINVAL) × (wanted ≡ true) × (new ≡ old) × (after ≡ before)
+IsHeard state is_settled sizes now caller nodes node (Some message) reply wanted old new before after =
+    IsToldDated state is_settled sizes now caller nodes node message reply old new before after × (wanted ≡ has_reply message)
 
 -- bytes, with the reply to the message of this number behind them, or with none
 abbrev pub replied : Bool → ℕ → Told → List ℕ → List ℕ
@@ -48,19 +60,19 @@ replied false unique reply out = out
 
 -- One reply to the message of a header, with its own number, or none where none is wanted; its calls were made as the
 -- header's caller, with the other groups of the process.
-pub record IsReplied {F : Type 0} (state : F → StoreState) (is_settled : F → Type 0) (sizes : Sizes) (now : Time) (hangs : ℕ → Option Hang) (rows : ℕ → Option ℕ) (others : List ℕ) (header : Header) (message : Option Said) (out_before out_after : List ℕ) (old new : Seen F) (times_before times_after : List Stamps) : Type 0 where
+pub record IsReplied {F : Type 0} (state : F → StoreState) (is_settled : F → Type 0) (sizes : Sizes) (now : Time) (nodes : Parts) (others : List ℕ) (header : Header) (message : Option Said) (out_before out_after : List ℕ) (old new : Seen F) (before after : Beside) : Type 0 where
   pub reply : Told
   pub wanted : Bool
-  pub heard : IsHeard state is_settled sizes now (caller_of header others) hangs rows header.node message reply wanted old new times_before times_after
+  pub heard : IsHeard state is_settled sizes now (caller_of header others) nodes header.node message reply wanted old new before after
   pub written : out_after ≡ replied wanted header.unique reply out_before
 
 -- What comes of bytes: of those without a header nothing, else one reply or none.
-abbrev pub IsAnsweredOf : {F : Type 0} → (F → StoreState) → (F → Type 0) → Sizes → Time → (ℕ → Option Hang) → (ℕ → Option ℕ) → List ℕ → Option Header → Option Said → List ℕ → List ℕ → Seen F → Seen F → List Stamps → List Stamps → Type 0
-IsAnsweredOf state is_settled sizes now hangs rows others None message out_before out_after old new times_before times_after =
-    (out_after ≡ out_before) × (new ≡ old) × (times_after ≡ times_before)
-IsAnsweredOf state is_settled sizes now hangs rows others (Some header) message out_before out_after old new times_before times_after =
-    IsReplied state is_settled sizes now hangs rows others header message out_before out_after old new times_before times_after
+abbrev pub IsAnsweredOf : {F : Type 0} → (F → StoreState) → (F → Type 0) → Sizes → Time → Parts → List ℕ → Option Header → Option Said → List ℕ → List ℕ → Seen F → Seen F → Beside → Beside → Type 0
+IsAnsweredOf state is_settled sizes now nodes others None message out_before out_after old new before after =
+    (out_after ≡ out_before) × (new ≡ old) × (after ≡ before)
+IsAnsweredOf state is_settled sizes now nodes others (Some header) message out_before out_after old new before after =
+    IsReplied state is_settled sizes now nodes others header message out_before out_after old new before after
 
-abbrev pub IsAnswered : {F : Type 0} → (F → StoreState) → (F → Type 0) → Sizes → Time → (ℕ → Option Hang) → (ℕ → Option ℕ) → List ℕ → List ℕ → List ℕ → List ℕ → Seen F → Seen F → List Stamps → List Stamps → Type 0
-IsAnswered state is_settled sizes now hangs rows others bytes out_before out_after old new times_before times_after =
-    IsAnsweredOf state is_settled sizes now hangs rows others (header_in bytes) (said bytes) out_before out_after old new times_before times_after
+abbrev pub IsAnswered : {F : Type 0} → (F → StoreState) → (F → Type 0) → Sizes → Time → Parts → List ℕ → List ℕ → List ℕ → List ℕ → Seen F → Seen F → Beside → Beside → Type 0
+IsAnswered state is_settled sizes now nodes others bytes out_before out_after old new before after =
+    IsAnsweredOf state is_settled sizes now nodes others (header_in bytes) (said bytes) out_before out_after old new before after

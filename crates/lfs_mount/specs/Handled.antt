@@ -5,13 +5,13 @@ use Rattle.lfs_types.specs.StoreStates.{StoreState}
 use Rattle.lfs_types.specs.declared.answer.Answer.{Answer}
 use Rattle.lfs_types.specs.declared.attrs.Attrs.{Attrs}
 use Rattle.lfs_types.specs.declared.request.Request.{Request}
-use Rattle.lfs_types.specs.declared.request.Request.TheVariants.{Chflags, Rename, Stat as Stats, Sync}
+use Rattle.lfs_types.specs.declared.request.Request.TheVariants.{Chflags, Chmod, Rename, Stat as Stats, Sync}
 use Rattle.lfs_volume.specs.Seen.{Seen}
 use Rattle.lfs_nodes.specs.declared.node.Hang.{Hang}
 use Rattle.lfs_nodes.specs.declared.parts.Parts.{Parts}
 use Rattle.lfs_nodes.specs.Maps.{node_at}
 use Rattle.lfs_nodes.specs.Reads.{hang_in}
-use Rattle.lfs_fuse_wire.specs.Said.{Said, init, lookup, getattr, setattr, access, mknod, mkdir, create, unlink, rmdir, rename, opening, read, write, fsync, opendir, readdir, readdirplus, fsyncdir, statfs, ioctl, unserved, unknown}
+use Rattle.lfs_fuse_wire.specs.Said.{Said, init, lookup, getattr, setattr, access, mknod, mkdir, create, unlink, rmdir, rename, opening, read, write, fsync, opendir, readdir, readdirplus, release, fsyncdir, statfs, ioctl, unserved, unknown}
 use Rattle.lfs_fuse_wire.specs.declared.attributes.SetAttr.{SetAttr}
 use Rattle.lfs_fuse_wire.specs.declared.ioctl.Command.{Command}
 use Rattle.lfs_fuse_wire.specs.declared.ioctl.Command.TheVariants as command
@@ -208,6 +208,25 @@ IsFlagged state is_settled caller hangs node fields reply old new =
     (λ between present. GoesOnFlags state is_settled caller hangs node fields.command reply between new present.flags)
     ⊎ IsRefused reply old new
 
+-- ---- a file that is closed
+
+-- A mode was given to a node's file, as this caller.
+pub record IsGiven {F : Type 0} (state : F → StoreState) (is_settled : F → Type 0) (caller : Caller) (hangs : ℕ → Option Hang) (node mode : ℕ) (old new : Seen F) : Type 0 where
+  pub path : List (List ℕ)
+  pub leads : IsPathOf hangs node None path
+  pub answers : List Answer
+  pub made : AreMade state is_settled caller (Chmod path mode ∷ []) answers old new
+
+-- the same, or no call was made
+abbrev pub IsGivenOrNot : {F : Type 0} → (F → StoreState) → (F → Type 0) → Caller → (ℕ → Option Hang) → ℕ → ℕ → Seen F → Seen F → Type 0
+IsGivenOrNot state is_settled caller hangs node mode old new = IsGiven state is_settled caller hangs node mode old new ⊎ (new ≡ old)
+
+-- the mode that is due was given, if there is one
+abbrev pub IsReleased : {F : Type 0} → (F → StoreState) → (F → Type 0) → Caller → (ℕ → Option Hang) → ℕ → Option ℕ → Told → Seen F → Seen F → Type 0
+IsReleased state is_settled caller hangs node None reply old new = (reply ≡ told.Done) × (new ≡ old)
+IsReleased state is_settled caller hangs node (Some mode) reply old new =
+    (reply ≡ told.Done) × IsGivenOrNot state is_settled caller hangs node mode old new
+
 -- ---- any message
 
 -- no call is made
@@ -244,30 +263,31 @@ IsRename mode.Exchange Replaces Seeks reply old new = IsIdle (IsFault errno.EINV
 IsRename mode.Other Replaces Seeks reply old new = IsIdle (IsFault errno.EINVAL) reply old new
 
 -- What comes of a message to a node: which calls it makes, as this caller and no other, and what their answers have it told.
-abbrev pub IsTold : {F : Type 0} → (F → StoreState) → (F → Type 0) → Sizes → Caller → (ℕ → Option Hang) → ℕ → Said → Told → Seen F → Seen F → Type 0
-IsTold state is_settled sizes caller hangs node (lookup name) reply old new = IsHandled state is_settled caller hangs node (lookup name) reply old new
-IsTold state is_settled sizes caller hangs node (getattr fields) reply old new = IsHandled state is_settled caller hangs node (getattr fields) reply old new
-IsTold state is_settled sizes caller hangs node (access wanted) reply old new = IsHandled state is_settled caller hangs node (access wanted) reply old new
-IsTold state is_settled sizes caller hangs node (mknod fields name) reply old new = IsMade fields.kind (IsHandled state is_settled caller hangs node (mknod fields name) reply old new) reply old new
-IsTold state is_settled sizes caller hangs node (mkdir fields name) reply old new = IsHandled state is_settled caller hangs node (mkdir fields name) reply old new
-IsTold state is_settled sizes caller hangs node (create fields name) reply old new = IsHandled state is_settled caller hangs node (create fields name) reply old new
-IsTold state is_settled sizes caller hangs node (unlink name) reply old new = IsHandled state is_settled caller hangs node (unlink name) reply old new
-IsTold state is_settled sizes caller hangs node (rmdir name) reply old new = IsHandled state is_settled caller hangs node (rmdir name) reply old new
-IsTold state is_settled sizes caller hangs node (opening fields) reply old new = IsHandled state is_settled caller hangs node (opening fields) reply old new
-IsTold state is_settled sizes caller hangs node (read fields) reply old new = IsHandled state is_settled caller hangs node (read fields) reply old new
-IsTold state is_settled sizes caller hangs node (write fields bytes) reply old new = IsHandled state is_settled caller hangs node (write fields bytes) reply old new
-IsTold state is_settled sizes caller hangs node (opendir fields) reply old new = IsHandled state is_settled caller hangs node (opendir fields) reply old new
-IsTold state is_settled sizes caller hangs node (setattr fields) reply old new = IsSetAttr state is_settled caller hangs node fields reply old new
-IsTold state is_settled sizes caller hangs node (ioctl fields) reply old new = IsFlagged state is_settled caller hangs node fields reply old new
-IsTold state is_settled sizes caller hangs node (rename fields name new_name) reply old new =
+abbrev pub IsTold : {F : Type 0} → (F → StoreState) → (F → Type 0) → Sizes → Option ℕ → Caller → (ℕ → Option Hang) → ℕ → Said → Told → Seen F → Seen F → Type 0
+IsTold state is_settled sizes due caller hangs node (lookup name) reply old new = IsHandled state is_settled caller hangs node (lookup name) reply old new
+IsTold state is_settled sizes due caller hangs node (getattr fields) reply old new = IsHandled state is_settled caller hangs node (getattr fields) reply old new
+IsTold state is_settled sizes due caller hangs node (access wanted) reply old new = IsHandled state is_settled caller hangs node (access wanted) reply old new
+IsTold state is_settled sizes due caller hangs node (mknod fields name) reply old new = IsMade fields.kind (IsHandled state is_settled caller hangs node (mknod fields name) reply old new) reply old new
+IsTold state is_settled sizes due caller hangs node (mkdir fields name) reply old new = IsHandled state is_settled caller hangs node (mkdir fields name) reply old new
+IsTold state is_settled sizes due caller hangs node (create fields name) reply old new = IsHandled state is_settled caller hangs node (create fields name) reply old new
+IsTold state is_settled sizes due caller hangs node (unlink name) reply old new = IsHandled state is_settled caller hangs node (unlink name) reply old new
+IsTold state is_settled sizes due caller hangs node (rmdir name) reply old new = IsHandled state is_settled caller hangs node (rmdir name) reply old new
+IsTold state is_settled sizes due caller hangs node (opening fields) reply old new = IsHandled state is_settled caller hangs node (opening fields) reply old new
+IsTold state is_settled sizes due caller hangs node (read fields) reply old new = IsHandled state is_settled caller hangs node (read fields) reply old new
+IsTold state is_settled sizes due caller hangs node (write fields bytes) reply old new = IsHandled state is_settled caller hangs node (write fields bytes) reply old new
+IsTold state is_settled sizes due caller hangs node (opendir fields) reply old new = IsHandled state is_settled caller hangs node (opendir fields) reply old new
+IsTold state is_settled sizes due caller hangs node (setattr fields) reply old new = IsSetAttr state is_settled caller hangs node fields reply old new
+IsTold state is_settled sizes due caller hangs node (ioctl fields) reply old new = IsFlagged state is_settled caller hangs node fields reply old new
+IsTold state is_settled sizes due caller hangs node (rename fields name new_name) reply old new =
     IsRename fields.mode (IsRenamed state is_settled caller hangs node name fields.directory new_name reply old new)
     (IsRenamedToFree state is_settled caller hangs node name fields.directory new_name reply old new) reply old new
-IsTold state is_settled sizes caller hangs node (fsync fields) reply old new = IsSynced state is_settled caller reply old new
-IsTold state is_settled sizes caller hangs node (fsyncdir fields) reply old new = IsSynced state is_settled caller reply old new
-IsTold state is_settled sizes caller hangs node (init fields) reply old new = IsIdle IsOpening reply old new
-IsTold state is_settled sizes caller hangs node statfs reply old new = IsIdle (IsRoom sizes (state old.store)) reply old new
-IsTold state is_settled sizes caller hangs node (readdir fields) reply old new = IsIdle (λ _. ⊤) reply old new
-IsTold state is_settled sizes caller hangs node (readdirplus fields) reply old new = IsIdle (IsFault errno.ENOSYS) reply old new
-IsTold state is_settled sizes caller hangs node (unserved kind) reply old new = IsIdle (IsFault (error_of_unserved kind)) reply old new
-IsTold state is_settled sizes caller hangs node (unknown number) reply old new = IsIdle (IsFault errno.ENOSYS) reply old new
-IsTold state is_settled sizes caller hangs node message reply old new = IsIdle (λ it. it ≡ told.Done) reply old new
+IsTold state is_settled sizes due caller hangs node (fsync fields) reply old new = IsSynced state is_settled caller reply old new
+IsTold state is_settled sizes due caller hangs node (fsyncdir fields) reply old new = IsSynced state is_settled caller reply old new
+IsTold state is_settled sizes due caller hangs node (init fields) reply old new = IsIdle IsOpening reply old new
+IsTold state is_settled sizes due caller hangs node statfs reply old new = IsIdle (IsRoom sizes (state old.store)) reply old new
+IsTold state is_settled sizes due caller hangs node (readdir fields) reply old new = IsIdle (λ _. ⊤) reply old new
+IsTold state is_settled sizes due caller hangs node (readdirplus fields) reply old new = IsIdle (IsFault errno.ENOSYS) reply old new
+IsTold state is_settled sizes due caller hangs node (unserved kind) reply old new = IsIdle (IsFault (error_of_unserved kind)) reply old new
+IsTold state is_settled sizes due caller hangs node (unknown number) reply old new = IsIdle (IsFault errno.ENOSYS) reply old new
+IsTold state is_settled sizes due caller hangs node (release fields) reply old new = IsReleased state is_settled caller hangs node due reply old new
+IsTold state is_settled sizes due caller hangs node message reply old new = IsIdle (λ it. it ≡ told.Done) reply old new

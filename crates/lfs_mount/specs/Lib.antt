@@ -1,5 +1,6 @@
 pub mod Answered
 pub mod Flags
 pub mod Handled
+pub mod Loans
 pub mod Making
 pub mod Room

@@ -3,9 +3,9 @@
 ghost use Rattle.std.specs.Prelude.{◌≡◌, OnOk};
 ghost use Rattle.lfs_fuse_wire.specs.Said.{said};
 ghost use Rattle.lfs_fuse_wire.specs.Views.{view};
-ghost use Rattle.lfs_mount.specs.Answered.{IsAnswered, IsHeard, IsToldDated, replied, rows_in};
-ghost use Rattle.lfs_mount.specs.Handled.{hangs_in};
+ghost use Rattle.lfs_mount.specs.Answered.{IsAnswered, IsHeard, IsToldDated, live_in, replied};
 
+use crate::loans::with_handle;
 use crate::mount::Mount;
 use lfs_fuse_calls::caller::caller;
 use lfs_fuse_calls::told::Told;
@@ -41,17 +41,31 @@ impl<F: FileStore + Drop> Mount<F> {
         message: &Message<'_>,
         cred: &Cred,
     ) -> Told
-        ensures told { IsToldDated F.state F.is_settled self.old.sizes now cred.now (hangs_in self.old.tree.nodes) (rows_in self.old.tree.nodes) node
+        ensures told { IsToldDated F.state F.is_settled self.old.sizes now cred.now self.old.tree.nodes node
             (view message.now) result self.old.tree.volume self.new.tree.volume
-            self.old.times.stamps.items self.new.times.stamps.items }
+            self.old.beside self.new.beside }
         ensures sizes { self.new.sizes ≡ self.old.sizes }
     {
         let row = self.tree.nodes.row(NodeId(node));
         let other = self.tree.nodes.row(NodeId(other_node(message)));
-        let told = self.tree.told(alloc, self.sizes, node, message, cred);
+        let live = self.live_row(node);
+        let due = self.beside.loans.due(message, live);
+        let told = self.tree.told(alloc, self.sizes, due, node, message, cred);
         let change = change_of(message, &told);
-        self.times.stamp(now, row, other, &change);
-        self.times.dated(told)
+        self.beside.loans.note(message, &told);
+        self.beside.times.stamp(now, row, other, &change);
+        self.beside.times.dated(with_handle(message, told))
+    }
+
+    /// The inode number of a node that isn't gone.
+    fn live_row(&self, node: u64) -> Option<u32>
+        ensures { result ≡ live_in self.now.tree.nodes node }
+    {
+        if self.tree.nodes.is_gone(NodeId(node)) {
+            None
+        } else {
+            self.tree.nodes.row(NodeId(node))
+        }
     }
 
     /// What the bytes of a message come to, and whether a reply is wanted: an error where they are no message.
@@ -63,9 +77,9 @@ impl<F: FileStore + Drop> Mount<F> {
         bytes: &[u8],
         cred: &Cred,
     ) -> (Told, bool)
-        ensures heard { IsHeard F.state F.is_settled self.old.sizes now cred.now (hangs_in self.old.tree.nodes) (rows_in self.old.tree.nodes)
+        ensures heard { IsHeard F.state F.is_settled self.old.sizes now cred.now self.old.tree.nodes
             header.now.node (said bytes.now) result.0 result.1 self.old.tree.volume self.new.tree.volume
-            self.old.times.stamps.items self.new.times.stamps.items }
+            self.old.beside self.new.beside }
         ensures sizes { self.new.sizes ≡ self.old.sizes }
     {
         match Message::decode(bytes) {
@@ -91,9 +105,9 @@ impl<F: FileStore + Drop> Mount<F> {
         others: &[u32],
         out: &mut Vec<u8>,
     ) -> Result<(), AllocError>
-        ensures answered { OnOk result (IsAnswered F.state F.is_settled self.old.sizes now (hangs_in self.old.tree.nodes) (rows_in self.old.tree.nodes)
+        ensures answered { OnOk result (IsAnswered F.state F.is_settled self.old.sizes now self.old.tree.nodes
             others.now bytes.now out.old.items out.new.items self.old.tree.volume self.new.tree.volume
-            self.old.times.stamps.items self.new.times.stamps.items) }
+            self.old.beside self.new.beside) }
         ensures sizes { self.new.sizes ≡ self.old.sizes }
     {
         let Some(header) = Header::decode(bytes) else {

@@ -3,7 +3,7 @@
 ghost use Rattle.std.specs.Prelude.{◌≡◌, ◌∷◌, [], ◌<◌, IfOk, IfErr};
 ghost use Rattle.lfs_fuse_calls.specs.Telling.{SaysOr, attr_told, refusal_in, seen_in};
 ghost use Rattle.lfs_nodes.specs.Maps.{room_in};
-ghost use Rattle.lfs_mount.specs.Handled.{IsDone, IsRenamed, IsRenamedToFree, is_missing, IsSet, IsSetAttr, IsSetJudged, IsSynced, SaysDone, hangs_in};
+ghost use Rattle.lfs_mount.specs.Handled.{IsDone, IsGivenOrNot, IsReleased, IsRenamed, IsRenamedToFree, is_missing, IsSet, IsSetAttr, IsSetJudged, IsSynced, SaysDone, hangs_in};
 ghost use Rattle.lfs_mount.specs.Making.{AreMade};
 
 use crate::making::make;
@@ -20,6 +20,7 @@ use lfs_stamps::leave::dating_refusal;
 use lfs_types::answer::Answer;
 use lfs_types::attrs::Attrs;
 use lfs_types::cred::Cred;
+use lfs_types::mode::Mode;
 use lfs_types::name::Name;
 use lfs_types::path::Path;
 use lfs_types::request::Request;
@@ -182,6 +183,34 @@ impl<F: FileStore + Drop> Tree<F> {
             Some(seen) => self.set_judged(alloc, node, fields, &seen.attrs, cred),
             None => Told::Error(Errno::EIO),
         }
+    }
+
+    /// Gives a node's file a mode, where it has a path and there is memory for that.
+    fn give(&mut self, alloc: Global, node: u64, mode: Mode, cred: &Cred)
+        ensures { IsGivenOrNot F.state F.is_settled cred.now (hangs_in self.old.nodes) node mode
+            self.old.volume self.new.volume }
+    {
+        let Ok(path) = path_of(alloc, &self.nodes, node, None) else {
+            return;
+        };
+        let _ = self.one(alloc, cred, Request::Chmod { path, mode });
+    }
+
+    /// A file is closed, and gets the mode that is due then, if there is one.
+    pub(crate) fn released(
+        &mut self,
+        alloc: Global,
+        node: u64,
+        due: Option<Mode>,
+        cred: &Cred,
+    ) -> Told
+        ensures { IsReleased F.state F.is_settled cred.now (hangs_in self.old.nodes) node due
+            result self.old.volume self.new.volume }
+    {
+        if let Some(mode) = due {
+            self.give(alloc, node, mode, cred);
+        }
+        Told::Done
     }
 
     /// Moves the node of what was renamed, where that was served.

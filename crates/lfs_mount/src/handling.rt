@@ -17,6 +17,7 @@ use lfs_fuse_wire::naming::RenameMode;
 use lfs_fuse_wire::opcode::Unserved;
 use lfs_nodes::{NodeId, Nodes};
 use lfs_types::cred::Cred;
+use lfs_types::mode::Mode;
 use lfs_types::store::FileStore;
 use std::alloc::Global;
 
@@ -89,11 +90,12 @@ impl<F: FileStore + Drop> Tree<F> {
         &mut self,
         alloc: Global,
         sizes: Sizes,
+        due: Option<Mode>,
         node: u64,
         message: &Message<'_>,
         cred: &Cred,
     ) -> Told
-        ensures { IsTold F.state F.is_settled sizes cred.now (hangs_in self.old.nodes) node (view message.now)
+        ensures { IsTold F.state F.is_settled sizes due cred.now (hangs_in self.old.nodes) node (view message.now)
             result self.old.volume self.new.volume }
     {
         match message {
@@ -137,9 +139,8 @@ impl<F: FileStore + Drop> Tree<F> {
                 self.listings.close(fields.handle);
                 Told::Done
             }
-            Message::Destroy | Message::Interrupt(_) | Message::Flush(_) | Message::Release(_) => {
-                Told::Done
-            }
+            Message::Release(_) => self.released(alloc, node, due, cred),
+            Message::Destroy | Message::Interrupt(_) | Message::Flush(_) => Told::Done,
         }
     }
 }

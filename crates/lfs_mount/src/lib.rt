@@ -8,6 +8,7 @@ mod changing;
 mod flagging;
 mod handling;
 mod listing;
+mod loans;
 mod making;
 pub mod mount;
 mod naming;

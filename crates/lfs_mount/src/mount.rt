@@ -4,6 +4,7 @@ ghost use Rattle.std.specs.Prelude.{◌≡◌, IfOk, replicate};
 ghost use Rattle.lfs_stamps.specs.Stamps.{born};
 
 use crate::listing::Listings;
+use crate::loans::Loans;
 use crate::tree::Tree;
 use lfs_fuse_wire::attributes::Time;
 use lfs_nodes::Nodes;
@@ -21,11 +22,18 @@ pub struct Sizes {
     pub inodes: u32,
 }
 
-/// A volume, the nodes by which the kernel calls its files, and the times of these.
+/// What a mount keeps of files beside its volume, by inode number.
+#[derive(Drop)]
+pub struct Beside {
+    pub(crate) times: Times,
+    pub(crate) loans: Loans,
+}
+
+/// A volume, the nodes by which the kernel calls its files, and what is kept of these beside it.
 #[derive(Drop)]
 pub struct Mount<F: FileStore + Drop> {
     pub(crate) tree: Tree<F>,
-    pub(crate) times: Times,
+    pub(crate) beside: Beside,
     pub(crate) sizes: Sizes,
 }
 
@@ -39,15 +47,22 @@ impl<F: FileStore + Drop> Mount<F> {
     ) -> Result<Mount<F>, AllocError>
         ensures volume { IfOk result (λ mount. mount.tree.volume ≡ volume) }
         ensures sizes { IfOk result (λ mount. mount.sizes ≡ sizes) }
-        ensures times { IfOk result (λ mount. mount.times.stamps.items ≡ replicate sizes.inodes (born now)) }
+        ensures times { IfOk result (λ mount. mount.beside.times.stamps.items ≡ replicate sizes.inodes (born now)) }
     {
-        let times = Times::new(alloc, sizes.inodes, now)?;
+        let beside = Beside {
+            times: Times::new(alloc, sizes.inodes, now)?,
+            loans: Loans::new(alloc, sizes.inodes)?,
+        };
         let nodes = Nodes::new(alloc)?;
         let tree = Tree {
             volume,
             nodes,
             listings: Listings::new(alloc),
         };
-        Ok(Mount { tree, times, sizes })
+        Ok(Mount {
+            tree,
+            beside,
+            sizes,
+        })
     }
 }

@@ -2,8 +2,7 @@ use Rattle.std.proofs.Common.{◌≡◌, Some, sym, subst, ◌∙◌}
 use Rattle.lfs_types.specs.Caller.{Caller}
 use Rattle.lfs_fuse_wire.specs.Header.{header_in}
 use Rattle.lfs_fuse_wire.specs.Said.{said}
-use Rattle.lfs_mount.specs.Answered.{IsAnsweredOf, IsHeard, rows_in}
-use Rattle.lfs_mount.specs.Handled.{hangs_in}
+use Rattle.lfs_mount.specs.Answered.{IsAnsweredOf, IsHeard}
 use Rattle.lfs_mount.proofs.mount.Mount.answer.Goals as goal
 
 pub returns-clause-answered : goal.returns-clause-answered
@@ -12,20 +11,19 @@ returns-clause-answered g c =
     let settled = g.F.FileStore.is_settled in
     let sizes = c.args.self.now.sizes in
     let now = c.args.now in
-    let hangs = hangs_in c.args.self.now.tree.nodes in
-    let rows = rows_in c.args.self.now.tree.nodes in
+    let nodes = c.args.self.now.tree.nodes in
     let others = c.args.others.now in
     let bytes = c.args.bytes.now in
     let header = c.in-Some.header in
     let heard = c.heard-told.result in
     let old = c.args.self.now.tree.volume in
     let new = c.heard-told.new.self.tree.volume in
-    let before = c.args.self.now.times.stamps.items in
-    let after = c.heard-told.new.self.times.stamps.items in
+    let before = c.args.self.now.beside in
+    let after = c.heard-told.new.self.beside in
     let found : header_in bytes ≡ Some header = sym c.decode.ensures ∙ c.in-Some.is in
-    subst (λ h. IsAnsweredOf state settled sizes now hangs rows others h (said bytes) c.args.out.now.items c.append_if.new.out.items old new before after) (sym found) (record {
+    subst (λ h. IsAnsweredOf state settled sizes now nodes others h (said bytes) c.args.out.now.items c.append_if.new.out.items old new before after) (sym found) (record {
       reply = heard.0;
       wanted = heard.1;
-      heard = subst (λ (who : Caller). IsHeard state settled sizes now who hangs rows header.node (said bytes) heard.0 heard.1 old new before after) c.caller-cred.ensures c.heard-told.ensures.heard;
+      heard = subst (λ (who : Caller). IsHeard state settled sizes now who nodes header.node (said bytes) heard.0 heard.1 old new before after) c.caller-cred.ensures c.heard-told.ensures.heard;
       written = c.in_ok-append_if.ensures;
     })
