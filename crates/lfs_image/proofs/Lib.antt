@@ -1,1 +1,1 @@
-pub mod HeadLemmas
+pub mod LoadingLemmas

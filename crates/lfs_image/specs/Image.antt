@@ -1,10 +1,13 @@
 -- The bytes of an image.
-use Rattle.std.specs.Prelude.{ℕ, List, ◌++◌, length, replicate}
+use Rattle.std.specs.Prelude.{◌≡◌, ℕ, ◌≤◌, List, ◌++◌, length, replicate}
 use Rattle.std.specs.List.{flat_map}
 use Rattle.lfs_types.specs.declared.level.Level.{Level}
 use Rattle.lfs_types.specs.declared.level.Level.TheVariants.{PermanentlyInsecure, Insecure, Secure, HighlySecure}
+use Rattle.lfs_types.specs.Ranges.{most_inodes, most_segments}
 use Rattle.lfs_ifile.specs.Layout.{ifile_bytes, u32_bytes}
+use Rattle.lfs_segments.specs.Memory.{block_at, label}
 use Rattle.lfs_log.specs.Parts.{LogParts}
+use Rattle.lfs_image.specs.declared.head.Head.{Head}
 
 -- the securelevel as a number from 0 up: 1 more than 4.4BSD's
 abbrev pub level_word : Level → ℕ
@@ -15,11 +18,34 @@ level_word HighlySecure = 3
 
 -- The head, one block: LFSI, the form, how many segments and inode numbers there are, the active segment and how many of
 -- its blocks are used, and the securelevel; zeros fill it up.
-abbrev pub head_bytes : LogParts → Level → List ℕ
-head_bytes l level =
-    u32_bytes 0x4c46_5349 ++ u32_bytes 1 ++ u32_bytes l.memory.segments ++ u32_bytes (length l.tables.rows)
-    ++ u32_bytes l.memory.active ++ u32_bytes l.memory.fill ++ u32_bytes (level_word level) ++ replicate 484 0
+unfoldable pub head_bytes : Head → List ℕ
+head_bytes h =
+    u32_bytes 0x4c46_5349 ++ u32_bytes 1 ++ u32_bytes h.segments ++ u32_bytes h.inodes
+    ++ u32_bytes h.active ++ u32_bytes h.used ++ u32_bytes (level_word h.level) ++ replicate 484 0
+
+-- what the head tells of a log and a securelevel
+abbrev pub head_of : LogParts → Level → Head
+head_of l level = record {
+  segments = l.memory.segments;
+  inodes = length l.tables.rows;
+  active = l.memory.active;
+  used = l.memory.fill;
+  level = level;
+}
+
+-- what stands behind the head: each block from address 0 on, the ifile
+abbrev pub body_bytes : LogParts → List ℕ
+body_bytes l = flat_map (λ block. block) l.memory.blocks ++ ifile_bytes l.tables
 
 -- The image: the head, each block from address 0 on, the ifile.
 abbrev pub image_bytes : LogParts → Level → List ℕ
-image_bytes l level = head_bytes l level ++ flat_map (λ block. block) l.memory.blocks ++ ifile_bytes l.tables
+image_bytes l level = head_bytes (head_of l level) ++ body_bytes l
+
+-- the block at address 0 says the numbers of segments and of inode numbers
+abbrev pub IsLabelled : LogParts → Type 0
+IsLabelled l = block_at l.memory 0 ≡ label l.memory.segments (length l.tables.rows)
+
+-- a head has at most as many segments and inode numbers as a volume
+pub record IsInRange (h : Head) : Type 0 where
+  pub segments : h.segments ≤ most_segments
+  pub inodes : h.inodes ≤ most_inodes

@@ -2,8 +2,13 @@
 //! project's profile).
 #![tactic(auto)]
 
+mod fault;
+mod head;
+mod loading;
 mod saving;
 #[cfg(test)]
 mod tests;
 
+pub use fault::ImageFault;
+pub use loading::load;
 pub use saving::save;
