@@ -1,1 +1,3 @@
 pub mod LoadingLemmas
+pub mod HeadLemmas
+pub mod ImageLemmas

@@ -1,18 +1,18 @@
 -- An image from its pieces.
-use Rattle.std.proofs.Common.{◌≡◌, ℕ, ◌+◌, ◌*◌, ◌/◌, List, [], ◌∷◌, ◌++◌, length, take, drop, refl, sym, ap, ◌∙◌, arith, append_assoc}
+use Rattle.std.proofs.Common.{◌≡◌, ℕ, ◌+◌, ◌*◌, ◌/◌, List, [], ◌∷◌, ◌++◌, length, take, drop, refl, sym, ap, subst, ◌∙◌, ◌-◌, arith, append_assoc}
 use Rattle.std.specs.List.{flat_map}
-use Rattle.std.proofs.lemmas.List.{drop-drop, take-append-drop}
+use Rattle.std.proofs.lemmas.List.{drop-drop, take-append-drop, take_rest}
 use Rattle.std.proofs.lemmas.List.Concat.{flat_map-append}
 use Rattle.lfs_types.specs.declared.level.Level.{Level}
 use Rattle.lfs_cache.specs.Contents.{nothing_in}
 use Rattle.lfs_segments.specs.Memory.{seen}
 use Rattle.lfs_ifile.specs.Layout.{ifile_bytes}
 use Rattle.lfs_ifile.specs.Tables.{Tables}
-use Rattle.lfs_log.specs.Parts.{LogParts}
+use Rattle.lfs_log.specs.Parts.{IsParts, LogParts}
 use Rattle.lfs_staging.specs.declared.parts.Parts.{Parts}
 use Rattle.lfs_fsck.specs.Stored.{stored}
 use Rattle.lfs_image.specs.declared.head.Head.{Head}
-use Rattle.lfs_image.specs.Image.{body_bytes, head_bytes, head_of, image_bytes}
+use Rattle.lfs_image.specs.Image.{IsImageOf, body_bytes, head_bytes, head_of, image_bytes}
 
 -- one more block
 again : (f block behind rest bytes : List ℕ) → rest ≡ block ++ behind → f ++ rest ≡ bytes → (f ++ (block ++ [])) ++ behind ≡ bytes
@@ -37,19 +37,33 @@ same_head l h blocks memory many rows =
     let segments : length blocks / 64 ≡ h.segments = omega (arith, many) in
     rw (memory, rows, segments) refl
 
+-- what stands behind the head is the blocks and the ifile
 pub same_body : (l : LogParts) (tables : Tables) (blocks : List (List ℕ)) (active used : ℕ) (rest body : List ℕ)
     → l.memory ≡ seen blocks active used → l.tables ≡ tables → ifile_bytes tables ≡ rest
     → flat_map (λ block. block) blocks ++ rest ≡ body → body_bytes l ≡ body
 same_body l tables blocks active used rest body memory is file whole = rw (memory, is, file) whole
 
+-- blocks and what stands behind them are the bytes behind the head, which are read as some of the bytes
+pub blocks_whole : (bytes : List ℕ) (blocks : List (List ℕ)) (count : ℕ)
+    → flat_map (λ block. block) blocks ++ drop (512 * count) (take (length bytes - 512) (drop 512 bytes)) ≡ take (length bytes - 512) (drop 512 bytes)
+    → flat_map (λ block. block) blocks ++ drop (512 + 512 * count) bytes ≡ drop 512 bytes
+blocks_whole bytes blocks count whole =
+    let behind : drop (512 * count) (drop 512 bytes) ≡ drop (512 + 512 * count) bytes = drop-drop (512 * count) 512 bytes in
+    subst (λ rest. flat_map (λ block. block) blocks ++ rest ≡ drop 512 bytes) behind
+    (subst (λ body. flat_map (λ block. block) blocks ++ drop (512 * count) body ≡ body) (take_rest bytes 512) whole)
+
 -- the head and what stands behind it
 join : (a b x y bytes : List ℕ) → a ≡ x → b ≡ y → x ++ y ≡ bytes → a ++ b ≡ bytes
 join a b x y bytes p q whole = rw (p, q) whole
 
-pub same_image : (l : LogParts) (level : Level) (h : Head) (bytes : List ℕ) → take 512 bytes ≡ head_bytes h → head_of l level ≡ h
+same_image : (l : LogParts) (level : Level) (h : Head) (bytes : List ℕ) → take 512 bytes ≡ head_bytes h → head_of l level ≡ h
     → body_bytes l ≡ drop 512 bytes → image_bytes l level ≡ bytes
 same_image l level h bytes told same body =
     join (head_bytes (head_of l level)) (body_bytes l) (take 512 bytes) (drop 512 bytes) bytes (ap head_bytes same ∙ sym told) body (take-append-drop 512 bytes)
+
+pub image_of : (l : LogParts) (h : Head) (bytes : List ℕ) → IsParts l → take 512 bytes ≡ head_bytes h → head_of l h.level ≡ h
+    → body_bytes l ≡ drop 512 bytes → IsImageOf bytes l h.level
+image_of l h bytes parts told same body = record { parts = parts; spelled = same_image l h.level h bytes told same body }
 
 -- parts by their fields
 pub stored_parts : (p : Parts) (l : LogParts) (frames : ℕ) → p.log ≡ l → p.cache ≡ nothing_in frames → p.waiting ≡ []

@@ -1,12 +1,11 @@
 -- The bytes of an image.
-use Rattle.std.specs.Prelude.{◌≡◌, ℕ, ◌≤◌, List, ◌++◌, length, replicate}
+use Rattle.std.specs.Prelude.{◌≡◌, ℕ, List, ◌++◌, length, replicate}
 use Rattle.std.specs.List.{flat_map}
 use Rattle.lfs_types.specs.declared.level.Level.{Level}
 use Rattle.lfs_types.specs.declared.level.Level.TheVariants.{PermanentlyInsecure, Insecure, Secure, HighlySecure}
-use Rattle.lfs_types.specs.Ranges.{most_inodes, most_segments}
 use Rattle.lfs_ifile.specs.Layout.{ifile_bytes, u32_bytes}
 use Rattle.lfs_segments.specs.Memory.{block_at, label}
-use Rattle.lfs_log.specs.Parts.{LogParts}
+use Rattle.lfs_log.specs.Parts.{IsParts, LogParts}
 use Rattle.lfs_image.specs.declared.head.Head.{Head}
 
 -- the securelevel as a number from 0 up: 1 more than 4.4BSD's
@@ -45,7 +44,7 @@ image_bytes l level = head_bytes (head_of l level) ++ body_bytes l
 abbrev pub IsLabelled : LogParts → Type 0
 IsLabelled l = block_at l.memory 0 ≡ label l.memory.segments (length l.tables.rows)
 
--- a head has at most as many segments and inode numbers as a volume
-pub record IsInRange (h : Head) : Type 0 where
-  pub segments : h.segments ≤ most_segments
-  pub inodes : h.inodes ≤ most_inodes
+-- a log is well formed, and these are the bytes of its image at a securelevel
+pub record IsImageOf (bytes : List ℕ) (l : LogParts) (level : Level) : Type 0 where
+  pub parts : IsParts l
+  pub spelled : image_bytes l level ≡ bytes

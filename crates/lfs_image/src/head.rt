@@ -1,16 +1,22 @@
 //! The head of an image: what its first block tells.
 
-ghost use Rattle.std.specs.Prelude.{◌≡◌, ◌+◌, ◌≤◌, IfOk, IfSome, IsTrue, drop, length, take};
+ghost use Rattle.std.specs.Prelude.{◌≡◌, ◌+◌, ◌<◌, ◌≤◌, ◌↔◌, IfErr, IfNone, IfOk, IfSome, IsTrue, OnOk, drop, length, take};
 ghost use Rattle.lfs_types.specs.declared.block.TheConstants.{BLOCK_SIZE};
-ghost use Rattle.lfs_image.specs.Image.{IsInRange, head_bytes, head_of, level_word};
+ghost use Rattle.lfs_types.specs.declared.limits.TheConstants.{SEGMENT_BLOCKS};
+ghost use Rattle.lfs_types.specs.Ranges.{least_inodes, least_segments, most_inodes, most_segments};
+ghost use Rattle.lfs_segments.specs.Memory.{log_start};
+ghost use Rattle.lfs_ifile.specs.Layout.{number_at};
+ghost use Rattle.lfs_image.specs.Faults.{IsImageFaultOf};
+ghost use Rattle.lfs_image.specs.Heads.{MayHead, ReadsHead};
+ghost use Rattle.lfs_image.specs.Image.{head_bytes, head_of, level_word};
 
 use crate::fault::ImageFault;
 use byteorder::{BigEndian, ByteOrder};
 use lfs_log::Log;
-use lfs_segments::segments::{MOST_SEGMENTS, SEGMENT_BLOCKS};
+use lfs_segments::segments::{LEAST_SEGMENTS, MOST_SEGMENTS, SEGMENT_BLOCKS, log_start};
 use lfs_types::block::{BLOCK_SIZE, Block, ZERO_BLOCK};
 use lfs_types::level::Level;
-use lfs_types::limits::MOST_INODES;
+use lfs_types::limits::{LEAST_INODES, MOST_INODES};
 
 /// `LFSI`, with which an image begins.
 const MARK: u32 = 0x4c46_5349;
@@ -62,34 +68,114 @@ impl Head {
         block
     }
 
-    /// What the first block of some bytes tells: `Short` where they are less than a block, `Head` where it is no head, or
-    /// that of more segments or inode numbers than a volume has.
+    /// The head with which some bytes begin, else why they begin with none that a volume may have.
     pub(crate) fn read(bytes: &[u8]) -> Result<Head, ImageFault>
         ensures long { IfOk result (λ _. BLOCK_SIZE ≤ length bytes.now) }
         ensures told { IfOk result (λ head. take BLOCK_SIZE bytes.now ≡ head_bytes head) }
-        ensures range { IfOk result IsInRange }
+        ensures reads { IfOk result (ReadsHead bytes.now) }
+        ensures range { IfOk result MayHead }
+        ensures fault { IfErr result (IsImageFaultOf bytes.now) }
     {
         if bytes.len() < BLOCK_SIZE {
             return Err(ImageFault::Short);
         }
-        let first = block_from(bytes, 0);
-        let head = numbers_of(&first).ok_or(ImageFault::Head)?;
-        if head.segments > MOST_SEGMENTS || head.inodes > MOST_INODES {
-            return Err(ImageFault::Head);
+        let head = numbers_of(bytes)?;
+        check_sizes(bytes)?;
+        check_active(bytes)?;
+        if is_head(bytes, &head) {
+            Ok(head)
+        } else {
+            Err(ImageFault::Gap)
         }
-        if !is_head(&first, &head) {
-            return Err(ImageFault::Head);
-        }
-        Ok(head)
     }
 }
 
-/// Whether a block is that of a head.
-fn is_head(first: &Block, head: &Head) -> bool
-    ensures { IsTrue result → first.now ≡ head_bytes head.now }
+/// Whether bytes begin with the block of a head.
+fn is_head(bytes: &[u8], head: &Head) -> bool
+    requires { BLOCK_SIZE ≤ length bytes.now }
+    ensures { IsTrue result ↔ take BLOCK_SIZE bytes.now ≡ head_bytes head.now }
 {
+    let first = block_from(bytes, 0);
     let wanted = head.block();
-    first == &wanted
+    first == wanted
+}
+
+/// The numbers that stand as in a head, where the mark and the form are an image's, and there is such a securelevel.
+fn numbers_of(bytes: &[u8]) -> Result<Head, ImageFault>
+    requires { BLOCK_SIZE ≤ length bytes.now }
+    ensures reads { IfOk result (ReadsHead bytes.now) }
+    ensures fault { IfErr result (IsImageFaultOf bytes.now) }
+{
+    if word(bytes, 0) != MARK {
+        return Err(ImageFault::Mark);
+    }
+    if word(bytes, 4) != FORM {
+        return Err(ImageFault::Form);
+    }
+    let number = word(bytes, 24);
+    let Some(level) = level_from(number) else {
+        return Err(ImageFault::Securelevel { number });
+    };
+    Ok(Head {
+        segments: word(bytes, 8),
+        inodes: word(bytes, 12),
+        active: word(bytes, 16),
+        used: word(bytes, 20),
+        level,
+    })
+}
+
+/// Whether a volume may have as many segments and inode numbers as some bytes tell of.
+fn check_sizes(bytes: &[u8]) -> Result<(), ImageFault>
+    requires { BLOCK_SIZE ≤ length bytes.now }
+    ensures segments_least { OnOk result (least_segments ≤ number_at bytes.now 8) }
+    ensures segments_most { OnOk result (number_at bytes.now 8 ≤ most_segments) }
+    ensures inodes_least { OnOk result (least_inodes ≤ number_at bytes.now 12) }
+    ensures inodes_most { OnOk result (number_at bytes.now 12 ≤ most_inodes) }
+    ensures fault { IfErr result (IsImageFaultOf bytes.now) }
+{
+    let segments = word(bytes, 8);
+    if segments < LEAST_SEGMENTS || segments > MOST_SEGMENTS {
+        return Err(ImageFault::Segments { number: segments });
+    }
+    let inodes = word(bytes, 12);
+    if inodes < LEAST_INODES || inodes > MOST_INODES {
+        return Err(ImageFault::Inodes { number: inodes });
+    }
+    Ok(())
+}
+
+/// Whether there is such an active segment, with so many of its blocks used.
+fn check_active(bytes: &[u8]) -> Result<(), ImageFault>
+    requires { BLOCK_SIZE ≤ length bytes.now }
+    ensures inside { OnOk result (number_at bytes.now 16 < number_at bytes.now 8) }
+    ensures begun { OnOk result (log_start (number_at bytes.now 16) ≤ number_at bytes.now 20) }
+    ensures within { OnOk result (number_at bytes.now 20 ≤ SEGMENT_BLOCKS) }
+    ensures fault { IfErr result (IsImageFaultOf bytes.now) }
+{
+    let active = word(bytes, 16);
+    if active >= word(bytes, 8) {
+        return Err(ImageFault::Active { segment: active });
+    }
+    let used = word(bytes, 20);
+    if used < log_start(active) || used > SEGMENT_BLOCKS {
+        return Err(ImageFault::Used { blocks: used });
+    }
+    Ok(())
+}
+
+/// The number in the four bytes from a place on, the highest first.
+#[tactic(auto, unfolding(lfs_ifile::specs::Layout::number_at))]
+fn word(bytes: &[u8], place: usize) -> u32
+    requires { place + 4 ≤ length bytes.now }
+    ensures { result ≡ number_at bytes.now place }
+{
+    u32::from_be_bytes([
+        bytes[place],
+        bytes[place + 1],
+        bytes[place + 2],
+        bytes[place + 3],
+    ])
 }
 
 /// The block of the bytes from a place on.
@@ -101,18 +187,6 @@ pub(crate) fn block_from(bytes: &[u8], place: usize) -> Block
     let mut block = ZERO_BLOCK;
     block.copy_from_slice(&bytes[place..place + BLOCK_SIZE]);
     block
-}
-
-/// The numbers that stand in a block as in a head; `None` where there is no such securelevel.
-fn numbers_of(block: &Block) -> Option<Head> {
-    let level = level_from(BigEndian::read_u32(&block[24..28]))?;
-    Some(Head {
-        segments: BigEndian::read_u32(&block[8..12]),
-        inodes: BigEndian::read_u32(&block[12..16]),
-        active: BigEndian::read_u32(&block[16..20]),
-        used: BigEndian::read_u32(&block[20..24]),
-        level,
-    })
 }
 
 /// The securelevel as a number from 0 up: 1 more than 4.4BSD's.
@@ -129,7 +203,8 @@ fn level_word(level: Level) -> u32
 
 /// The securelevel of a number from 0 up.
 fn level_from(word: u32) -> Option<Level>
-    ensures { IfSome result (λ level. level_word level ≡ word) }
+    ensures some { IfSome result (λ level. level_word level ≡ word) }
+    ensures none { IfNone result (3 < word) }
 {
     match word {
         0 => Some(Level::PermanentlyInsecure),

@@ -1,8 +1,11 @@
-//! An image by hand.
+//! An image by hand, and what is loaded from it.
 
-use crate::save;
+use crate::{ImageFault, load, save};
 use lfs_log::Log;
+use lfs_logstore::LogStore;
 use lfs_types::level::Level;
+use lfs_types::store::Params;
+use std::alloc::Global;
 use std::process::Abort;
 
 /// Asserts that these bytes stand from a place of an image on.
@@ -30,4 +33,91 @@ fn image_of_a_new_log(rt: HostRuntime) {
     expect_at(&rt, &image, 197_120, &ifile);
     // Segment 0 has no live bytes, and is active.
     expect_at(&rt, &image, 197_132, &[0, 0, 0, 0, 0, 0, 0, 2]);
+}
+
+/// The image of a new volume of 6 segments and 16 inode numbers.
+fn fresh(rt: &impl Abort, alloc: Global) -> Vec<u8> {
+    let params = Params {
+        segments: 6,
+        inodes: 16,
+        frames: 32,
+        journal: 1,
+    };
+    let mut image = Vec::new(alloc);
+    match LogStore::format(alloc, params) {
+        Ok(store) => save(&store.parts().log, Level::Secure, &mut image).expect(rt, "an image"),
+        Err(_) => panic!(rt; "no store"),
+    }
+    image
+}
+
+/// Asserts that some bytes are the image of no store, and why.
+fn expect_fault(rt: &impl Abort, alloc: Global, image: &[u8], wanted: ImageFault) {
+    assert_eq!(rt; load(alloc, image, 32).err(), Some(wanted));
+}
+
+/// Asserts what an image is called in which one byte has another value.
+fn expect_told(
+    rt: &impl Abort,
+    alloc: Global,
+    image: &mut Vec<u8>,
+    place: usize,
+    byte: u8,
+    wanted: ImageFault,
+) {
+    assert!(rt; place < image.len());
+    let kept = image[place];
+    image[place] = byte;
+    expect_fault(rt, alloc, image, wanted);
+    assert!(rt; place < image.len());
+    image[place] = kept;
+}
+
+#[test]
+fn image_of_a_new_volume_is_loaded(rt: HostRuntime) {
+    let image = fresh(&rt, rt.alloc());
+    let Ok((store, level)) = load(rt.alloc(), &image, 32) else {
+        panic!(rt; "not loaded");
+    };
+    assert!(rt; level == Level::Secure);
+    assert_eq!(rt; store.parts().log.next_address(), 3);
+    let mut again = Vec::new(rt.alloc());
+    save(&store.parts().log, level, &mut again).expect(&rt, "an image");
+    assert!(rt; again == image);
+}
+
+#[test]
+fn bytes_of_a_head_are_told(rt: HostRuntime) {
+    let mut image = fresh(&rt, rt.alloc());
+    let alloc = rt.alloc();
+    expect_told(&rt, alloc, &mut image, 0, 0, ImageFault::Mark);
+    expect_told(&rt, alloc, &mut image, 7, 2, ImageFault::Form);
+    let segments = ImageFault::Segments { number: 5 };
+    expect_told(&rt, alloc, &mut image, 11, 5, segments);
+    let inodes = ImageFault::Inodes { number: 15 };
+    expect_told(&rt, alloc, &mut image, 15, 15, inodes);
+    let active = ImageFault::Active { segment: 6 };
+    expect_told(&rt, alloc, &mut image, 19, 6, active);
+    let used = ImageFault::Used { blocks: 65 };
+    expect_told(&rt, alloc, &mut image, 23, 65, used);
+    let level = ImageFault::Securelevel { number: 4 };
+    expect_told(&rt, alloc, &mut image, 27, 4, level);
+    expect_told(&rt, alloc, &mut image, 28, 1, ImageFault::Gap);
+}
+
+#[test]
+fn bytes_behind_a_head_are_told(rt: HostRuntime) {
+    let mut image = fresh(&rt, rt.alloc());
+    let alloc = rt.alloc();
+    // A segment more: the image ends too early. A segment less would go on.
+    expect_told(&rt, alloc, &mut image, 11, 7, ImageFault::Short);
+    // The label's mark, the ifile's, the active segment's state.
+    expect_told(&rt, alloc, &mut image, 512, 0, ImageFault::Label);
+    expect_told(&rt, alloc, &mut image, 197_120, 0, ImageFault::IfileHead);
+    let state = ImageFault::IfileSegment { segment: 0 };
+    expect_told(&rt, alloc, &mut image, 197_139, 9, state);
+    expect_told(&rt, alloc, &mut image, 197_139, 1, ImageFault::Apart);
+    image.push(0).expect(&rt, "a byte");
+    expect_fault(&rt, alloc, &image, ImageFault::Long);
+    expect_fault(&rt, alloc, &[], ImageFault::Short);
 }
