@@ -1,0 +1,38 @@
+-- Bytes with a fault are the image of no volume.
+use Rattle.std.proofs.Common.{◌≡◌, ℕ, List, length, IsSome, refl, sym, ap, subst, inl, inr, false}
+use Rattle.std.proofs.lemmas.Bool.{cases_lt, false≢true}
+use Rattle.std.proofs.lemmas.List.{get_or_past}
+use Rattle.lfs_types.specs.declared.level.Level.{Level}
+use Rattle.lfs_ifile.specs.Inode.{fresh_row}
+use Rattle.lfs_ifile.specs.Tables.{row_of}
+use Rattle.lfs_log.specs.Parts.{LogParts}
+use Rattle.lfs_staging.specs.declared.parts.Parts.{Parts}
+use Rattle.lfs_staging.specs.Files.{content_of}
+use Rattle.lfs_staging.proofs.FileLemmas.{free_shown}
+use Rattle.lfs_logstore.specs.States.{state_of}
+use Rattle.lfs_calls.specs.Volumes.{HasWorld}
+use Rattle.lfs_fsck.specs.Stored.{settled}
+use Rattle.lfs_trees.specs.Faults.{IsBelow}
+use Rattle.lfs_trees.proofs.Refuting.{no_world}
+use Rattle.lfs_image.proofs.ImageLemmas.{no_image, one_image}
+use Rattle.lfs_checking.specs.declared.fault.VolumeFault.{VolumeFault}
+use Rattle.lfs_checking.specs.declared.fault.VolumeFault.TheVariants.{Image, Tree, Memory}
+use Rattle.lfs_checking.specs.Volumes.{IsVolume, IsVolumeFaultOf}
+
+pub no_volume : (bytes : List ℕ) (fault : VolumeFault) → IsVolumeFaultOf bytes fault → (fault ≡ Memory → ⊥) → (l : LogParts) (level : Level)
+    → IsVolume bytes l level → ⊥
+no_volume bytes (Image fault) (not_memory, is) other l level v = no_image bytes fault is not_memory l level v.stored v.labelled v.image.spelled
+no_volume bytes (Tree fault) (not_memory, has) other l level v =
+    let same : has.log ≡ l = (one_image bytes has.log l has.level level has.image v.image).0 in
+    no_world (state_of (settled has.log)) fault has.is not_memory (subst (λ m. HasWorld (state_of (settled m))) (sym same) v.world)
+no_volume bytes Memory is other l level v = other refl
+
+-- each number in use has a row
+pub below_rows : (p : Parts) → IsBelow (length p.log.tables.rows) (content_of p)
+below_rows p n used =
+    elim (cases_lt n (length p.log.tables.rows)) [
+      | inl inside ↦ inside
+      | inr past ↦
+          let free : (row_of p.log.tables n).used ≡ false = ap (λ row. row.used) (get_or_past p.log.tables.rows n fresh_row past) in
+          absurd (false≢true (subst (λ found. IsSome found) (free_shown p n free) used))
+    ]

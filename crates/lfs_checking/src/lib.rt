@@ -1,0 +1,12 @@
+//! A check of an image, over any reader and writer: whether it is that of a volume whose names show a tree, and what is wrong
+//! where it isn't.
+#![tactic(auto)]
+
+pub mod fault;
+pub mod options;
+pub mod program;
+pub mod reading;
+#[cfg(test)]
+mod tests;
+pub mod verdict;
+pub mod volume;
