@@ -1,0 +1,4 @@
+pub mod Acts
+pub mod Conditions
+pub mod Lines
+pub mod Who

@@ -1,0 +1,11 @@
+//! Who could make a call: over all callers, told apart only where the rules' answer differs.
+#![tactic(auto)]
+
+pub mod act;
+mod asking;
+pub mod condition;
+pub mod line;
+mod lines;
+mod posing;
+pub mod telling;
+pub mod who;

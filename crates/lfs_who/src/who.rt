@@ -1,0 +1,181 @@
+//! Who could act by a path.
+
+ghost use Rattle.std.specs.Prelude.{◌≡◌, ◌∷◌, [], ◌++◌, ◌==◌, ◌||◌, ◌≤◌, ℕ, List, IfOk, OnOk, true};
+ghost use Rattle.lfs_types.specs.Caller.{Caller};
+ghost use Rattle.lfs_types.specs.Tree.{World};
+ghost use Rattle.lfs_types.specs.declared.path.TheConstants.{PATH_MAX};
+ghost use Rattle.lfs_model.specs.World.{IsTree};
+ghost use Rattle.lfs_calls.specs.Volumes.{HasWorld, InWorld};
+ghost use Rattle.lfs_explain.specs.Trails.{IsTrail};
+ghost use Rattle.lfs_who.specs.Conditions.{has_part};
+ghost use Rattle.lfs_who.specs.declared.condition.Question.{Question as Asked};
+ghost use Rattle.lfs_who.specs.Who.{AreNamed, IsToldTo, IsWho, has_part_in, is_among, lines_for};
+
+use crate::act::Act;
+use crate::asking::questions_of;
+use crate::condition::{Condition, Question};
+use crate::line::Line;
+use crate::lines::lines_of;
+use lfs_calls::tree::Tree;
+use lfs_explain::explain::{Explanation, explain, first_of};
+use lfs_types::cred::Cred;
+use lfs_types::level::Level;
+use lfs_types::path::Path;
+use lfs_types::request::Request;
+use lfs_types::store::FileStore;
+use std::alloc::{AllocError, Global};
+
+/// A user who is told apart from everybody else.
+#[derive(Drop, Debug)]
+pub struct Named {
+    /// The user.
+    pub uid: u32,
+    /// The lines of those who are he.
+    pub lines: Vec<Line>,
+}
+
+/// Who could act by a path, over all callers.
+#[derive(Drop, Debug)]
+pub struct Who {
+    /// The users of whom it is told by name.
+    pub named: Vec<Named>,
+    /// The lines of everybody else.
+    pub others: Vec<Line>,
+}
+
+/// Who could do this by a path now, over all callers there can be. Users and groups are told apart only where the rules
+/// decide otherwise. An error where memory runs out.
+pub fn who_could<F: FileStore>(
+    alloc: Global,
+    tree: &mut Tree<F>,
+    act: Act,
+    path: &Path,
+) -> Result<Who, AllocError>
+    requires { HasWorld (F.state tree.old) }
+    ensures who { IfOk result (λ who. InWorld (F.state tree.old) (λ w. IsWho w act path.now who)) }
+    ensures state { F.state tree.new ≡ F.state tree.old }
+{
+    let Ok(superuser) = Cred::new(0, &[0], false) else {
+        unreachable!()
+    };
+    let request = Request::Stat {
+        path: path.try_clone(alloc)?,
+    };
+    let _names = first_of(&request);
+    let explanation = explain(alloc, tree, Level::Insecure, &superuser, &request)?;
+    who_by(alloc, act, &explanation)
+}
+
+/// Who could do this by the path of an explained call of one path, from the same tree.
+pub fn who_by(alloc: Global, act: Act, explanation: &Explanation) -> Result<Who, AllocError>
+    requires { explanation.now.first.names ≤ PATH_MAX }
+    ensures { IfOk result (λ who. (w : World) (path : List (List ℕ)) → IsTree w.rows
+        → IsTrail w.rows path explanation.now.first → IsTrail w.rows [] explanation.now.second
+        → IsWho w act path who) }
+{
+    let questions = questions_of(alloc, act, &explanation.first)?;
+    let who = who_of(alloc, &questions)?;
+    Ok(who)
+}
+
+/// Who passes all that is asked.
+fn who_of(alloc: Global, questions: &[Question]) -> Result<Who, AllocError>
+    ensures { IfOk result (λ who. (c : Caller) → IsToldTo questions.now c
+        (lines_for who.named.items who.others.items c.uid)) }
+{
+    let users = users_of(alloc, questions)?;
+    let others = lines_of(alloc, questions, None)?;
+    let named = named_of(alloc, questions, &users, &others)?;
+    Ok(Who { named, others })
+}
+
+/// The users who have a part in what is asked.
+fn users_of(alloc: Global, questions: &[Question]) -> Result<Vec<u32>, AllocError>
+    ensures { IfOk result (λ users. (u : ℕ) → is_among u users.items ≡ has_part_in u questions.now) }
+{
+    let mut users = Vec::new(alloc);
+    for question in questions {
+        push_users(&mut users, &question.condition)?;
+    }
+    Ok(users)
+}
+
+/// Puts those who have a part in a condition among users.
+fn push_users(users: &mut Vec<u32>, condition: &Condition) -> Result<(), AllocError>
+    ensures { OnOk result ((u : ℕ) → is_among u users.new.items
+        ≡ (is_among u users.old.items || has_part u condition.now)) }
+{
+    match condition {
+        Condition::Fixed(_) => Ok(()),
+        Condition::Grants(attrs, _) => {
+            push_user(users, 0)?;
+            push_user(users, attrs.uid)
+        }
+        Condition::PassesSticky(dir, file) => {
+            push_user(users, 0)?;
+            push_user(users, dir.uid)?;
+            push_user(users, file.uid)
+        }
+    }
+}
+
+/// Puts a user among users, if he isn't.
+fn push_user(users: &mut Vec<u32>, uid: u32) -> Result<(), AllocError>
+    ensures { OnOk result ((u : ℕ) → is_among u users.new.items
+        ≡ (is_among u users.old.items || (u == uid))) }
+{
+    if users.contains(&uid) {
+        return Ok(());
+    }
+    Ok(users.push(uid)?)
+}
+
+/// Those of users whose lines are not everybody else's.
+fn named_of(
+    alloc: Global,
+    questions: &[Question],
+    users: &[u32],
+    others: &[Line],
+) -> Result<Vec<Named>, AllocError>
+    ensures { IfOk result (λ named. AreNamed questions.now named.items others.now users.now) }
+{
+    let mut named = Vec::new(alloc);
+    for uid in users {
+        let lines = lines_of(alloc, questions, Some(*uid))?;
+        put(&mut named, others, *uid, lines)?;
+    }
+    Ok(named)
+}
+
+/// Names a user whose lines are not everybody else's.
+fn put(
+    named: &mut Vec<Named>,
+    others: &[Line],
+    uid: u32,
+    lines: Vec<Line>,
+) -> Result<(), AllocError>
+    ensures { OnOk result ((questions : List Asked) (users : List ℕ)
+        → ((c : Caller) → c.uid ≡ uid → IsToldTo questions c lines.items)
+        → AreNamed questions named.old.items others.now users
+        → AreNamed questions named.new.items others.now (users ++ uid ∷ [])) }
+{
+    if is_alike(&lines, others) {
+        return Ok(());
+    }
+    Ok(named.push(Named { uid, lines })?)
+}
+
+/// Whether lines are the same as others.
+fn is_alike(lines: &[Line], others: &[Line]) -> bool
+    ensures { result ≡ true → lines.now ≡ others.now }
+{
+    if lines.len() != others.len() {
+        return false;
+    }
+    for at in 0..lines.len() {
+        if !lines[at].is_same(&others[at]) {
+            return false;
+        }
+    }
+    true
+}
