@@ -6,6 +6,7 @@ ghost use Rattle.lfs_auditing.specs.Ranges.{IsBetween, IsInRange};
 use clap::builder::ValueParser;
 use clap::error::ErrorKind;
 use clap::{Arg, ArgAction, ArgMatches, Command, Error};
+use lfs_types::path::{BadPath, Path};
 use std::alloc::{AllocError, Global};
 use std::convert::AsStr;
 
@@ -47,6 +48,12 @@ const INODES: NumberOption = NumberOption {
 /// The word that names the file of the journal.
 const JOURNAL: &str = "journal";
 
+/// The option that takes a path.
+const WHO: &str = "who";
+
+/// What is told of a text that is no path.
+const WHO_REFUSAL: &str = "--who takes a path of the volume, which begins with a slash";
+
 /// What `--help` tells behind the options.
 const MORE: &str =
     "Status 0: each entry is legal behind those before it; 1: one isn't, or a line tells none, or a fault;
@@ -55,7 +62,7 @@ const MORE: &str =
 Example: printf '0 as 0 0 | create /a 0644 | ok\\n' | lfs_audit_trail";
 
 /// What `lfs_audit_trail` is asked to do.
-#[derive(Clone, Copy, Debug)]
+#[derive(Drop, Debug)]
 pub struct Options<'a> {
     /// How many inode numbers the volume had.
     pub inodes: u32,
@@ -63,6 +70,8 @@ pub struct Options<'a> {
     pub segments: u32,
     /// The file of the journal, where one is named.
     pub journal: Option<&'a str>,
+    /// The path of which is told who could act by it at the end, where one is asked of.
+    pub who: Option<Path>,
 }
 
 /// The options that words ask for; the first word is the program's name.
@@ -76,16 +85,29 @@ pub fn options_of<'a, S: AsStr>(alloc: Global, words: &'a [S]) -> Result<Options
 {
     let mut command = command(alloc)?;
     let matches = command.try_get_matches_from_mut(words)?;
-    match numbers_in(&matches) {
-        Ok((inodes, segments)) => {
-            let journal = matches.get_str(JOURNAL);
-            Ok(Options {
-                inodes,
-                segments,
-                journal,
-            })
-        }
-        Err(refusal) => Err(wrong_value(&mut command, refusal)),
+    let (inodes, segments) = match numbers_in(&matches) {
+        Ok(numbers) => numbers,
+        Err(refusal) => return Err(wrong_value(&mut command, refusal)),
+    };
+    let who = match path_in(alloc, &matches) {
+        Ok(who) => who,
+        Err(BadPath::Memory) => return Err(AllocError.into()),
+        Err(_) => return Err(wrong_value(&mut command, WHO_REFUSAL)),
+    };
+    let journal = matches.get_str(JOURNAL);
+    Ok(Options {
+        inodes,
+        segments,
+        journal,
+        who,
+    })
+}
+
+/// The path that the matches ask of, if they do.
+fn path_in(alloc: Global, matches: &ArgMatches<'_>) -> Result<Option<Path>, BadPath> {
+    match matches.get_str(WHO) {
+        Some(text) => Ok(Some(Path::parse(alloc, text)?)),
+        None => Ok(None),
     }
 }
 
@@ -152,7 +174,17 @@ fn command<'a>(alloc: Global) -> Result<Command<'a>, AllocError> {
         .after_help(MORE)
         .arg(INODES.arg(alloc))?
         .arg(SEGMENTS.arg(alloc))?
+        .arg(who(alloc))?
         .arg(journal(alloc))
+}
+
+/// The option for a path.
+fn who<'a>(alloc: Global) -> Arg<'a> {
+    Arg::new(alloc, WHO)
+        .long(WHO)
+        .value_name("PATH")
+        .action(ArgAction::Set)
+        .help("Tells who could make which call by this path at the end, over all users and groups")
 }
 
 /// The word for the file of the journal.

@@ -1,8 +1,11 @@
 //! `lfs_audit_trail`: a journal is read, from standard input or from a file, and what is found is told.
 
-ghost use Rattle.std.specs.Prelude.{◌≡◌, [], IfOk};
+ghost use Rattle.std.specs.Prelude.{◌≡◌, ℕ, List, [], IfErr, IfOk, None, Option};
+ghost use Rattle.clap.specs.Values.{kind_of};
 ghost use Rattle.lfs_trace.specs.Checking.{numbers_of};
 ghost use Rattle.lfs_auditing.specs.Audits.{HasRead, IsAudited, status_of};
+ghost use Rattle.lfs_auditing.specs.Ends.{EndsAudit, EndsUnasked, IsTrailEnd};
+ghost use Rattle.lfs_auditing.specs.Ranges.{IsInRange};
 
 use crate::audit::{Audit, Stop};
 use crate::fault::AuditFault;
@@ -37,10 +40,35 @@ where
     R: Read,
     W: Write,
     D: Write,
+    ensures { IsTrailEnd (R.remaining stdin.old)
+        result stdin.old stdin.new stdout.old stdout.new stderr.old stderr.new }
 {
     let alloc = env.alloc();
     let words = words(env);
-    match asked(alloc, &words) {
+    let asked = asked(alloc, &words);
+    settle(files, alloc, asked, stdin, stdout, stderr)
+}
+
+/// Does what was asked for, or tells why that is nothing.
+fn settle<F, R, W, D>(
+    files: &F,
+    alloc: Global,
+    asked: Result<Options<'_>, Error>,
+    stdin: &mut R,
+    stdout: &mut W,
+    stderr: &mut D,
+) -> u8
+where
+    F: Files,
+    R: Read,
+    W: Write,
+    D: Write,
+    ensures audit { IfOk asked.entry (λ options. EndsAudit options
+        (R.remaining stdin.old) result stderr.old stderr.new) }
+    ensures not_run { IfErr asked.entry (λ error. (stdin.new ≡ stdin.old)
+        × EndsUnasked (kind_of error) result stdout.old stdout.new stderr.old stderr.new) }
+{
+    match asked {
         Ok(options) => match run(files, alloc, &options, stdin, stdout) {
             Ok(status) => status,
             Err(fault) => end(stderr, fault),
@@ -50,7 +78,9 @@ where
 }
 
 /// The status behind a fault, which is told.
-fn end<D: Write>(stderr: &mut D, fault: AuditFault) -> u8 {
+fn end<D: Write>(stderr: &mut D, fault: AuditFault) -> u8
+    ensures { result ≡ 1 }
+{
     let _ = tell(stderr, NAME, &fault);
     1
 }
@@ -80,7 +110,9 @@ fn words<E: Env + AllocGlobal>(env: &E) -> Result<Vec<String>, NoWords> {
 }
 
 /// What the words of a command line ask for.
-fn asked<'a>(alloc: Global, words: &'a Result<Vec<String>, NoWords>) -> Result<Options<'a>, Error> {
+fn asked<'a>(alloc: Global, words: &'a Result<Vec<String>, NoWords>) -> Result<Options<'a>, Error>
+    ensures { IfOk result IsInRange }
+{
     match words {
         Ok(words) => options_of(alloc, words.as_slice()),
         Err(NoWords::Memory) => Err(AllocError.into()),
@@ -90,7 +122,9 @@ fn asked<'a>(alloc: Global, words: &'a Result<Vec<String>, NoWords>) -> Result<O
 
 /// Tells what was asked for in place of an audit: the help, on standard output, and of words that were refused why, on standard
 /// error. Gives the status with which the program ends.
-fn refuse<W: Write, D: Write>(stdout: &mut W, stderr: &mut D, error: &Error) -> u8 {
+fn refuse<W: Write, D: Write>(stdout: &mut W, stderr: &mut D, error: &Error) -> u8
+    ensures { EndsUnasked (kind_of error.now) result stdout.old stdout.new stderr.old stderr.new }
+{
     match error.kind() {
         ErrorKind::OutOfMemory => end(stderr, AuditFault::Memory),
         ErrorKind::DisplayHelp => match write!(stdout, "{error}") {
@@ -111,7 +145,12 @@ fn run<F: Files, R: Read, W: Write>(
     options: &Options<'_>,
     stdin: &mut R,
     stdout: &mut W,
-) -> Result<u8, AuditFault> {
+) -> Result<u8, AuditFault>
+    ensures audited { IfOk result (λ status. (bytes : Option (List ℕ))
+        × IsAudited bytes options.now.inodes options.now.segments status) }
+    ensures read { IfOk result (λ status. options.now.journal ≡ None
+        → IsAudited (R.remaining stdin.old) options.now.inodes options.now.segments status) }
+{
     match options.journal {
         Some(path) => match File::open(files, path) {
             Ok(mut file) => audit(alloc, options, &mut file, stdout),
@@ -150,7 +189,7 @@ fn audit_lines<R: Read, W: Write>(
     let mut audit = fresh_audit(alloc, options)?;
     let stop = audit.read_journal(reader)?;
     let status = status_of(&stop);
-    let text = audit.tell(&stop);
+    let text = audit.tell(&stop, &options.who);
     // Left to the return, it would be dropped variant by variant, which takes the prover long.
     drop(stop);
     write_text(writer, text?.as_slice())?;

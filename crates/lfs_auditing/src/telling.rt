@@ -9,18 +9,38 @@ use lfs_model::journal::{Entry, Event};
 use lfs_print::print::push_answer;
 use lfs_trace::checker::Checker;
 use lfs_types::cred::Cred;
+use lfs_types::path::Path;
 use lfs_types::request::Request;
+use lfs_who::act::Act;
+use lfs_who::telling::push_who;
 use lfs_why::lines::tell_explanation;
 use lfs_words::append::push_number;
+use lfs_words::spelling::spell_path;
 use std::alloc::{AllocError, Global};
 
 impl Audit {
-    /// The text of an audit that stopped there: what it found, and the report.
-    pub fn tell(&mut self, stop: &Stop) -> Result<Vec<u8>, AllocError> {
+    /// The text of an audit that stopped there: what it found, the report, and who could act by a path that is asked of.
+    pub fn tell(&mut self, stop: &Stop, who: &Option<Path>) -> Result<Vec<u8>, AllocError> {
         let mut text = Vec::new(self.alloc);
         self.push_finding(&mut text, stop)?;
         self.push_report(&mut text)?;
+        if let Some(path) = who {
+            self.push_path(&mut text, path)?;
+        }
         Ok(text)
+    }
+
+    /// Appends who could act by a path behind the legal entries.
+    fn push_path(&mut self, out: &mut Vec<u8>, path: &Path) -> Result<(), AllocError> {
+        out.extend_from_slice(b"who could by")?;
+        spell_path(out, path)?;
+        out.extend_from_slice(b":\n")?;
+        let kind = self.checker.row(path).map(|row| row.attrs.kind);
+        for act in Act::all_of(kind) {
+            let who = self.checker.who(*act, path)?;
+            push_who(out, *act, &who)?;
+        }
+        Ok(())
     }
 
     /// Appends what an audit found.

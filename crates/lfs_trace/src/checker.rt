@@ -11,6 +11,7 @@ ghost use Rattle.lfs_explain.specs.Asked.{asked};
 ghost use Rattle.lfs_explain.specs.Trails.{IsTrail, first_names, second_names};
 ghost use Rattle.lfs_trace.specs.Checking.{IsChecked, IsLooking, IsPlain, IsRowAt, IsRuled, IsSameStanding, MayShow, StandsAt, level_behind, numbers_of, plain_state, standing};
 ghost use Rattle.lfs_types.specs.declared.attrs.Attrs.{Attrs};
+ghost use Rattle.lfs_who.specs.Who.{IsWho};
 
 use crate::answers::{may_be_refused, one_answer, wants_number};
 use crate::cleaning::is_cleaning;
@@ -31,6 +32,8 @@ use lfs_types::path::Path;
 use lfs_types::request::Request;
 use lfs_types::rule::Denial;
 use lfs_types::store::FileStore;
+use lfs_who::act::Act;
+use lfs_who::who::{Who, who_could};
 use std::alloc::{AllocError, Global};
 use std::marker::Model;
 
@@ -214,6 +217,15 @@ impl Checker {
             unreachable!()
         };
         row_of(&stat(&mut self.tree, &superuser, path))
+    }
+
+    /// Who could act by a path where the checker stands, over all callers.
+    pub fn who(&mut self, act: Act, path: &Path) -> Result<Who, AllocError>
+        ensures who { IfOk result (λ who. (w : World) → StandsAt self.old w
+            → IsWho w act path.now who) }
+        ensures same { IsSameStanding self.old self.new }
+    {
+        who_could(self.alloc, &mut self.tree, act, path)
     }
 
     /// Whether a number has a file where the checker stands.
