@@ -6,6 +6,7 @@ pub mod fault;
 pub mod options;
 pub mod program;
 pub mod reading;
+pub mod saving;
 #[cfg(test)]
 mod tests;
 pub mod verdict;

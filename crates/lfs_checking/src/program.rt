@@ -133,7 +133,8 @@ pub fn check<R: Read, W: Write>(
     reader: &mut R,
     writer: &mut W,
 ) -> Result<u8, CheckFault>
-    ensures { IfOk result (IsChecked (R.remaining reader.old)) }
+    ensures { IfOk result (IsChecked (R.remaining reader.old)
+        (W.contents writer.old) (W.contents writer.new)) }
 {
     let image = read_image(alloc, reader)?;
     let verdict = verdict(alloc, &image)?;

@@ -1,12 +1,13 @@
 //! Whether bytes are the image of a volume, and the volume.
 
-ghost use Rattle.std.specs.Prelude.{◌≡◌, ◌++◌, IfErr, IfOk, OnOk, codes};
+ghost use Rattle.std.specs.Prelude.{◌≡◌, ◌++◌, ◌≤◌, IfErr, IfOk, OnOk, codes};
 ghost use Rattle.lfs_types.specs.declared.level.Level.{Level};
 ghost use Rattle.lfs_calls.specs.Volumes.{HasWorld};
 ghost use Rattle.lfs_log.specs.Parts.{LogParts};
 ghost use Rattle.lfs_logstore.specs.States.{state_of};
 ghost use Rattle.lfs_view.specs.SpaceText.{space_text};
-ghost use Rattle.lfs_fsck.specs.Stored.{IsStored, settled};
+ghost use Rattle.lfs_fsck.specs.Stored.{IsStored, settled, stored};
+ghost use Rattle.lfs_types.specs.Ranges.{least_frames, most_frames};
 ghost use Rattle.lfs_image.specs.Image.{IsImageOf, IsLabelled};
 ghost use Rattle.lfs_checking.specs.declared.fault.VolumeFault.TheVariants.{Memory};
 ghost use Rattle.lfs_checking.specs.Volumes.{IsTold, IsVolume, IsVolumeFaultOf};
@@ -38,21 +39,44 @@ fn volume_text(alloc: Global, bytes: &[u8]) -> Result<Vec<u8>, VolumeFault>
     ensures told { IfOk result (λ text. IsTold bytes.now text.items) }
     ensures fault { IfErr result (IsVolumeFaultOf bytes.now) }
 {
-    let (mut store, level) = settled_store(alloc, bytes)?;
+    let (mut store, level) = store_in(alloc, bytes, LEAST_FRAMES)?;
     let text = text_of(alloc, &store)?;
     check_names(alloc, &mut store, level, bytes)?;
     Ok(text)
 }
 
-/// The store and the securelevel whose image these bytes are.
-fn settled_store(alloc: Global, bytes: &[u8]) -> Result<(LogStore, Level), VolumeFault>
+/// The store and the securelevel of the volume whose image these bytes are, whoever made them, with a cache of so many frames,
+/// 32 to 1,024, all empty: else what is wrong with them, or `Memory`. Nothing waits in the store. The bytes are read twice:
+/// once to look at the names, which fills the cache, and once for what is given.
+pub fn load_volume(
+    alloc: Global,
+    bytes: &[u8],
+    frames: u32,
+) -> Result<(LogStore, Level), VolumeFault>
+    requires at_least { least_frames ≤ frames }
+    requires at_most { frames ≤ most_frames }
+    ensures volume { IfOk result (λ both. IsVolume bytes.now both.0.log both.1) }
+    ensures settled { IfOk result (λ both. both.0 ≡ stored frames both.0.log) }
+    ensures world { IfOk result (λ both. HasWorld (state_of both.0)) }
+    ensures fault { IfErr result (IsVolumeFaultOf bytes.now) }
+{
+    let text = check_volume(alloc, bytes)?;
+    drop(text);
+    let both = store_in(alloc, bytes, frames)?;
+    Ok(both)
+}
+
+/// The store and the securelevel whose image these bytes are, with so many frames.
+fn store_in(alloc: Global, bytes: &[u8], frames: u32) -> Result<(LogStore, Level), VolumeFault>
+    requires at_least { least_frames ≤ frames }
+    requires at_most { frames ≤ most_frames }
     ensures image { IfOk result (λ both. IsImageOf bytes.now both.0.log both.1) }
     ensures stored { IfOk result (λ both. IsStored both.0.log) }
-    ensures settled { IfOk result (λ both. both.0 ≡ settled both.0.log) }
+    ensures settled { IfOk result (λ both. both.0 ≡ stored frames both.0.log) }
     ensures labelled { IfOk result (λ both. IsLabelled both.0.log) }
     ensures fault { IfErr result (IsVolumeFaultOf bytes.now) }
 {
-    match load(alloc, bytes, LEAST_FRAMES) {
+    match load(alloc, bytes, frames) {
         Ok(both) => Ok(both),
         Err(ImageFault::Memory) => Err(VolumeFault::Memory),
         Err(fault) => Err(VolumeFault::Image { fault }),
