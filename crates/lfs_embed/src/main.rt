@@ -1,68 +1,66 @@
-//! A file server inside a program: a volume, a session of each of two users, calls that are denied, and the journal.
+//! A file server inside a program: two users on threads of their own, calls that are denied, and what the journal has.
 #![tactic(auto)]
 
-use lfs_journal_lines::telling::push_entry;
+use lfs_model::journal::{Entry, Event};
+use lfs_print::print::push_answer;
+use lfs_script::spelling::push_request;
 use lfs_server::fresh::fresh_volume;
-use lfs_server::live::{Clients, Live, serve_clients};
+use lfs_server::live::{Client, Live, serve_clients};
 use lfs_server::live_session::Session;
 use lfs_types::cred::Cred;
 use lfs_types::mode::Mode;
 use lfs_types::path::Path;
-use lfs_types::payload::Payload;
-use lfs_types::request::{Place, Request};
+use lfs_types::request::Request;
 use lfs_types::store::Params;
-use std::alloc::Global;
+use std::alloc::{AllocError, Global};
 use std::io::Write;
 
-/// The numbers of the volume.
-const PARAMS: Params = Params {
-    segments: 64,
-    inodes: 256,
-    frames: 64,
-    journal: 4096,
-};
+/// One who uses the server, and his number.
+#[derive(Drop, Clone, Copy)]
+struct User(Global, u32);
 
-/// Those who use the server: the superuser and user 8.
-#[derive(Drop)]
-struct Users(Global);
-
-impl Clients for Users {
+impl Client for User {
     fn run<L: Live + Sync>(self, server: &L) {
-        if let (Some(one), Some(two)) = (begin(server, 0), begin(server, 8)) {
-            let _ = make(self.0, one, "/a");
-            let _ = make(self.0, two, "/b");
-        }
+        let _ = make(self.0, server, self.1);
     }
 }
 
-/// A session of this user.
-fn begin<L: Live>(server: &L, uid: u32) -> Option<Session<'_, L>> {
-    Session::begin(server, Cred::new(uid, &[uid], false).ok()?).ok()
-}
-
-/// Makes a file of two bytes. User 8 may not, as the root is the superuser's.
-fn make<L: Live>(alloc: Global, mut session: Session<'_, L>, name: &str) -> anyhow::Result<()> {
-    let (path, mode) = (Path::parse(alloc, name)?, Mode::new(0o644).unwrap());
+/// Makes a file in a session. User 8 may not, as the root is the superuser's.
+fn make<L: Live>(alloc: Global, server: &L, uid: u32) -> anyhow::Result<()> {
+    let mut session = Session::begin(server, Cred::new(uid, &[uid], false)?)?;
+    let path = Path::parse(alloc, if uid == 0 { "/a" } else { "/b" })?;
+    let mode = Mode::new(0o644).unwrap();
     session.call(Request::Create { path, mode })?;
-    let (path, place) = (Path::parse(alloc, name)?, Place::End);
-    let bytes = Payload::new(Vec::from_slice(alloc, b"hi")?).unwrap();
-    session.call(Request::Write { path, place, bytes })?;
     session.end();
     Ok(())
 }
 
-fn main(rt: HostRuntime) -> anyhow::Result<()> {
-    let alloc = rt.alloc();
-    let volume = fresh_volume(alloc, PARAMS)?;
-    let stopped = serve_clients(&rt, alloc, volume, Users(alloc), &())?;
-    let mut lines = Vec::new(alloc);
-    for transcript in &stopped.transcripts {
-        for entry in stopped.volume.journal() {
-            if entry.session == transcript.session {
-                push_entry(&mut lines, entry)?;
-            }
+/// Appends what the journal has of a user's calls, a line for each.
+fn push_user(lines: &mut Vec<u8>, journal: &[Entry], uid: u32) -> Result<(), AllocError> {
+    for entry in journal {
+        if let (Event::User(request, answer), true) = (&entry.event, entry.cred.uid() == uid) {
+            push_request(lines, request)?;
+            lines.extend_from_slice(b" |")?;
+            push_answer(lines, answer)?;
+            lines.push(b'\n')?;
         }
     }
+    Ok(())
+}
+
+fn main(rt: HostRuntime) -> anyhow::Result<()> {
+    let params = Params {
+        segments: 64,
+        inodes: 256,
+        frames: 64,
+        journal: 4096,
+    };
+    let volume = fresh_volume(rt.alloc(), params)?;
+    let users = Vec::from_slice(rt.alloc(), &[User(rt.alloc(), 0), User(rt.alloc(), 8)])?;
+    let stopped = serve_clients(&rt, rt.alloc(), volume, users, &())?;
+    let mut lines = Vec::new(rt.alloc());
+    push_user(&mut lines, stopped.volume.journal(), 0)?;
+    push_user(&mut lines, stopped.volume.journal(), 8)?;
     rt.stdout().write_all(lines.as_slice())?;
     Ok(())
 }

@@ -71,8 +71,8 @@ pub trait Live {
     fn end(&self, transcript: Transcript);
 }
 
-/// Those who use a server while it runs.
-pub trait Clients {
+/// One who uses a server while it runs, on a thread of its own.
+pub trait Client {
     /// Begins sessions, makes calls and ends them. A session that has made a call and isn't
     /// ended is not settled.
     fn run<L: Live + Sync>(self, server: &L);
@@ -87,25 +87,25 @@ pub struct Stopped<F: FileStore + Drop> {
     pub transcripts: Vec<Transcript>,
 }
 
-/// Lets clients use a server over a volume with an empty journal, with the cleaner beside them on a thread of its own, as
-/// session 255 and user 0, and hands out what they leave once all threads have ended. A call is one holding of the lock on
-/// the volume.
+/// Lets clients use a server over a volume with an empty journal, each on a thread of its own, with the cleaner beside them
+/// on one more, as session 255 and user 0, and hands out what they leave once all threads have ended. A call is one holding
+/// of the lock on the volume; for nothing else a session waits for another.
 ///
 /// # Errors
 ///
-/// `Memory` and `Thread` come before the clients are run; `Unsettled` names a session whose calls and answers are not those
-/// of the journal, as of one that wasn't ended.
+/// `Memory` and `Thread` come only after all threads have ended, of which some may have made calls; `Unsettled` names a
+/// session whose calls and answers are not those of the journal, as of one that wasn't ended.
 pub fn serve_clients<R, F, C, G>(
     rt: &R,
     alloc: Global,
     volume: Volume<F>,
-    clients: C,
+    clients: Vec<C>,
     gate: &G,
 ) -> Result<Stopped<F>, ServeFault>
 where
     R: Threads + Wait + Sync,
     F: CleanedStore + Send + Drop,
-    C: Clients + Drop,
+    C: Client + Send + Drop,
     G: Gate,
     requires { volume.journal ≡ [] }
     ensures settled { IfOk result (λ stopped. IsInterleavingOf

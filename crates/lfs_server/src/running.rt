@@ -8,7 +8,7 @@ ghost use Rattle.lfs_server.specs.Serving.{IsRunFault, IsStopFault};
 use crate::doorbell::{Button, Rings, doorbell};
 use crate::gate::Gate;
 use crate::kept::{Kept, Sizes};
-use crate::live::{Clients, Stopped};
+use crate::live::{Client, Stopped};
 use crate::live_server::{Server, Told};
 use crate::run::Run;
 use crate::serving::{ServeFault, start_cleaner};
@@ -19,19 +19,19 @@ use lfs_types::store::FileStore;
 use lfs_volume::volume::Volume;
 use std::sync::{Mutex, Wait};
 use std::thread;
-use std::thread::Threads;
+use std::thread::{Scope, Threads};
 
 /// Lets clients use a server over a volume of these sizes, and hands out what they leave.
 pub fn serve_kept<S, R, F, C, G>(
     run: &Run<'_, R, G>,
     volume: Volume<F>,
-    clients: C,
+    clients: Vec<C>,
 ) -> Result<Stopped<F>, ServeFault>
 where
     S: Sizes + Send,
     R: Threads + Wait + Sync,
     F: CleanedStore + Send + Drop,
-    C: Clients + Drop,
+    C: Client + Send + Drop,
     G: Gate,
     requires shaped { (F.state volume.store).shape ≡ S.shape }
     requires limited { volume.limit ≡ S.limit }
@@ -59,20 +59,20 @@ where
     )
 }
 
-/// Runs the clients, and the cleaner on a thread of its own, until both have ended.
+/// Runs the clients and the cleaner, each on a thread of its own, until all have ended.
 fn run_clients<S, R, F, C, G>(
     run: &Run<'_, R, G>,
     volume: &Mutex<Kept<S, F>>,
     told: &Mutex<Told>,
     button: Button,
     rings: &Rings,
-    clients: C,
+    clients: Vec<C>,
 ) -> Result<(), ServeFault>
 where
     S: Sizes + Send,
     R: Threads + Wait + Sync,
     F: CleanedStore + Send + Drop,
-    C: Clients + Drop,
+    C: Client + Send + Drop,
     G: Gate,
     ensures { IfErr result IsRunFault }
 {
@@ -84,28 +84,71 @@ where
             ensures { IfErr result IsRunFault }
         {
             start_cleaner(scope, run, volume, rings)?;
-            let server = Server {
-                run,
-                volume,
-                told,
-                button,
-            };
-            attend(server, clients);
-            Ok(())
+            start_clients(scope, run, volume, told, &button, clients)
         },
     )
 }
 
-/// Runs the clients on a server. Behind them its button is gone, so that the cleaner ends.
-fn attend<S, R, F, C, G>(server: Server<'_, S, R, F, G>, clients: C)
+/// Starts each client on a thread of its own.
+fn start_clients<'s, E, S, R, F, C, G>(
+    scope: &Scope<'s, E>,
+    run: &'s Run<'s, R, G>,
+    volume: &'s Mutex<Kept<S, F>>,
+    told: &'s Mutex<Told>,
+    button: &Button,
+    clients: Vec<C>,
+) -> Result<(), ServeFault>
 where
     S: Sizes + Send,
     R: Threads + Wait + Sync,
     F: CleanedStore + Send + Drop,
-    C: Clients + Drop,
+    C: Client + Send + Drop + 's,
+    G: Gate,
+    ensures { IfErr result IsRunFault }
+{
+    for client in clients {
+        let button = button.try_clone()?;
+        let server = Server {
+            run,
+            volume,
+            told,
+            button,
+        };
+        start_client(scope, server, client)?;
+    }
+    Ok(())
+}
+
+/// Starts a client on a thread of its own, with a server of its own over the volume that all share.
+fn start_client<'s, E, S, R, F, C, G>(
+    scope: &Scope<'s, E>,
+    server: Server<'s, S, R, F, G>,
+    client: C,
+) -> Result<(), ServeFault>
+where
+    S: Sizes + Send,
+    R: Threads + Wait + Sync,
+    F: CleanedStore + Send + Drop,
+    C: Client + Send + Drop + 's,
+    G: Gate,
+    ensures { IfErr result IsRunFault }
+{
+    match scope.spawn(move || attend(server, client)) {
+        Ok(_) => Ok(()),
+        Err(_) => Err(ServeFault::Thread),
+    }
+}
+
+/// Runs a client on its server. Behind it the server's button is gone: once those of all clients are, the cleaner ends.
+fn attend<S, R, F, C, G>(server: Server<'_, S, R, F, G>, client: C)
+where
+    S: Sizes + Send,
+    R: Threads + Wait + Sync,
+    F: CleanedStore + Send + Drop,
+    C: Client + Send + Drop,
     G: Gate,
 {
-    clients.run(&server);
+    client.run(&server);
 }
 
 /// Hands out a volume whose journal is an interleaving of these transcripts and of the cleaner's calls.
