@@ -31,8 +31,8 @@ fn append_if(is_wanted: bool, told: &Told, out: &mut Vec<u8>, unique: u64) -> Re
 }
 
 impl<F: FileStore + Drop> Mount<F> {
-    /// What a message comes to, which comes now: what it changed has the present time, and attributes are told with their
-    /// times.
+    /// What a message comes to, which comes now: what it changed has the present time, and attributes are told with
+    /// their times.
     fn told(
         &mut self,
         alloc: Global,
@@ -91,8 +91,8 @@ impl<F: FileStore + Drop> Mount<F> {
         }
     }
 
-    /// Answers one message, which comes now: its calls are made as the caller that its header tells, with the other groups of
-    /// its process, and its reply is added, if it wants one. Nothing is done of bytes that have no header.
+    /// Answers one message, which comes now: its calls are made as the caller that its header tells, with the other
+    /// groups of its process, and its reply is added, if it wants one. Nothing is done of bytes that have no header.
     ///
     /// # Errors
     ///

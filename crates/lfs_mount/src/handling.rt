@@ -21,8 +21,8 @@ use lfs_types::mode::Mode;
 use lfs_types::store::FileStore;
 use std::alloc::Global;
 
-/// What is told of a message of which nothing but the kind is read: there are no links, attributes beside the usual ones or
-/// locks here.
+/// What is told of a message of which nothing but the kind is read: there are no links, attributes beside the usual
+/// ones or locks here.
 fn error_of_unserved(kind: Unserved) -> Errno
     ensures { result ≡ error_of_unserved kind }
 {

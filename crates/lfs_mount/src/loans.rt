@@ -14,7 +14,8 @@ use std::alloc::{AllocError, Global};
 /// The handle of a file that was made with more than its mode. Others have 0.
 const LENT: u64 = 1;
 
-/// The mode that the file of each inode number gets once it is closed, where it was made with another and has got none since.
+/// The mode that the file of each inode number gets once it is closed, where it was made with another and has got
+/// none since.
 #[derive(Drop)]
 pub struct Loans {
     modes: Vec<Option<Mode>>,

@@ -10,8 +10,8 @@ use lfs_fuse_wire::init::{Init, InitFlags};
 use lfs_types::attrs::Attrs;
 use lfs_types::store::FileStore;
 
-/// What is taken up of the kernel's offer: larger writes, O_TRUNC in OPEN, control calls of directories, set-id bits as the
-/// volume's matter, messages of 32 pages, mmap beside direct I/O.
+/// What is taken up of the kernel's offer: larger writes, O_TRUNC in OPEN, control calls of directories, set-id bits
+/// as the volume's matter, messages of 32 pages, mmap beside direct I/O.
 const WANTED: u64 = 0x10_4048_0828;
 
 /// The most bytes of a write.
@@ -77,8 +77,8 @@ fn used<F: FileStore>(store: &F, numbers: u32) -> u64
     count
 }
 
-/// The room of a volume that was laid out so: a segment has 64 blocks of 512 bytes. Free are those of the clean segments, or
-/// those that no file's bytes take, whichever are more.
+/// The room of a volume that was laid out so: a segment has 64 blocks of 512 bytes. Free are those of the clean
+/// segments, or those that no file's bytes take, whichever are more.
 pub(crate) fn room<F: FileStore>(store: &F, sizes: Sizes) -> Statfs
     ensures { result ≡ room_of sizes (F.state store.now) }
 {

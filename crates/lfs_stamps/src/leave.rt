@@ -48,8 +48,8 @@ fn refusal_if(holds: bool, errno: Errno) -> Option<Errno>
     if holds { Some(errno) } else { None }
 }
 
-/// Why a caller may not set the times that a message sets, of a file of these attributes: the owner and the superuser may set
-/// any; who may write the file, the present time; and nobody, of a file that is immutable or only grows.
+/// Why a caller may not set the times that a message sets, of a file of these attributes: the owner and the superuser
+/// may set any; who may write the file, the present time; and nobody, of a file that is immutable or only grows.
 pub fn dating_refusal(cred: &Cred, fields: &SetAttr, attrs: &Attrs) -> Option<Errno>
     ensures { result ≡ dating_refusal cred.now fields.now attrs.now }
 {
