@@ -1,4 +1,5 @@
-//! A check of an image: it reads one, says whether it is that of a volume, and how full that is, or what is wrong with it.
+//! A check of an image: it reads one, says whether it is that of a volume, and how full that is, or what is wrong with
+//! it.
 #![tactic(auto)]
 
 use lfs_checking::program::lfs_check;

@@ -58,11 +58,17 @@ same_file l m n k =
 
 pub same_world : (l : LogParts) (n : ℕ) → HasWorld (state_of (settled l)) → HasWorld (state_of (stored n l))
 same_world l n world =
-    let same : content_of (stored n l) ≡ content_of (settled l) = content_of-same (settled l) (stored n l) refl (λ k low. same_file l least_frames n k) in
+    let same : content_of (stored n l) ≡ content_of (settled l) =
+    content_of-same (settled l) (stored n l) refl (λ k low. same_file l least_frames n k) in
     subst (λ c. HasWorld (record { content = c; clean = l.clean; shape = shape_of (length l.tables.rows) l.memory.segments })) (sym same) world
 
 -- what was found of the image of one log is so of what is loaded from it
 pub same_volume : (bytes : List ℕ) (l m : LogParts) (a b : Level) → IsVolume bytes l a → IsImageOf bytes m b → IsVolume bytes m b
 same_volume bytes l m a b v image =
     let same : l ≡ m = (one_image bytes l m a b v.image image).0 in
-    record { image = image; labelled = subst IsLabelled same v.labelled; stored = subst IsStored same v.stored; world = subst (λ p. HasWorld (state_of (settled p))) same v.world }
+    record {
+      image = image;
+      labelled = subst IsLabelled same v.labelled;
+      stored = subst IsStored same v.stored;
+      world = subst (λ p. HasWorld (state_of (settled p))) same v.world;
+    }

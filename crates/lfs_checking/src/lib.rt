@@ -1,5 +1,5 @@
-//! A check of an image, over any reader and writer: whether it is that of a volume whose names show a tree, and what is wrong
-//! where it isn't.
+//! A check of an image, over any reader and writer: whether it is that of a volume whose names show a tree, and what is
+//! wrong where it isn't; and how an image is written, and a volume loaded from one.
 #![tactic(auto)]
 
 pub mod fault;

@@ -10,8 +10,8 @@ const IMAGE: &str = "image";
 
 /// What `--help` tells behind the options.
 const MORE: &str =
-    "Status 0: the image is that of a volume, and how full it is is told; 1: it is none, and why is told in a line, or a fault;
-2: wrong arguments.";
+    "Status 0: the image is that of a volume, and how full it is is told; 1: it is none, and why is told in a line,
+or a fault; 2: wrong arguments.";
 
 /// The file that words name, where they name one; the first word is the program's name.
 ///

@@ -20,9 +20,9 @@ use std::rt::Files;
 /// The program's name.
 const NAME: &str = "lfs_check";
 
-/// Does what the arguments of an environment ask `lfs_check` for, and gives the status with which it ends: 0 for the image
-/// of a volume, and for help; 1 for one that isn't, and for a fault, told in a line on standard error; 2 for words that are
-/// refused.
+/// Does what the arguments of an environment ask `lfs_check` for, and gives the status with which it ends: 0 for the
+/// image of a volume, and for help; 1 for one that isn't, and for a fault, told in a line on standard error; 2 for words
+/// that are refused.
 pub fn lfs_check<E, F, R, W, D>(
     env: &E,
     files: &F,
@@ -90,8 +90,8 @@ fn asked<'a>(
     }
 }
 
-/// Tells what was asked for in place of a check: the help, on standard output, and of words that were refused why, on standard
-/// error. Gives the status with which the program ends.
+/// Tells what was asked for in place of a check: the help, on standard output, and of words that were refused why, on
+/// standard error. Gives the status with which the program ends.
 fn refuse<W: Write, D: Write>(stdout: &mut W, stderr: &mut D, error: &Error) -> u8 {
     match error.kind() {
         ErrorKind::OutOfMemory => end(stderr, CheckFault::Memory),

@@ -13,8 +13,8 @@ use lfs_types::level::Level;
 use std::alloc::{AllocError, Global};
 use std::io::Write;
 
-/// Writes the image of a store of which nothing waits, as behind a Sync, and of a securelevel. It takes memory for the whole
-/// image.
+/// Writes the image of a store of which nothing waits, as behind a Sync, and of a securelevel. It takes memory for the
+/// whole image.
 ///
 /// # Errors
 ///

@@ -16,7 +16,8 @@ pub struct Finding {
     pub text: Vec<u8>,
 }
 
-/// The verdict on some bytes: that they are the image of a volume, and how full it is; or what is wrong with them, in a line.
+/// The verdict on some bytes: that they are the image of a volume, and how full it is; or what is wrong with them, in a
+/// line.
 pub fn verdict(alloc: Global, bytes: &[u8]) -> Result<Finding, AllocError>
     ensures { IfOk result (λ verdict. IsVerdict bytes.now verdict.status verdict.text.items) }
 {

@@ -22,8 +22,8 @@ use lfs_types::limits::LEAST_FRAMES;
 use lfs_view::shows::ShowsLog;
 use std::alloc::{AllocError, Global};
 
-/// What is told of the volume whose image these bytes are, whoever made them: that it is well, and how full it is. Else what
-/// is wrong with them, or `Memory`. Each directory of the volume is read, and each block that a file has.
+/// What is told of the volume whose image these bytes are, whoever made them: that it is well, and how full it is. Else
+/// what is wrong with them, or `Memory`. Each directory of the volume is read, and each block that a file has.
 pub fn check_volume(alloc: Global, bytes: &[u8]) -> Result<Vec<u8>, VolumeFault>
     ensures told { IfOk result (λ text. IsTold bytes.now text.items) }
     ensures fault { IfErr result (IsVolumeFaultOf bytes.now) }
@@ -45,9 +45,9 @@ fn volume_text(alloc: Global, bytes: &[u8]) -> Result<Vec<u8>, VolumeFault>
     Ok(text)
 }
 
-/// The store and the securelevel of the volume whose image these bytes are, whoever made them, with a cache of so many frames,
-/// 32 to 1,024, all empty: else what is wrong with them, or `Memory`. Nothing waits in the store. The bytes are read twice:
-/// once to look at the names, which fills the cache, and once for what is given.
+/// The store and the securelevel of the volume whose image these bytes are, whoever made them, with a cache of so many
+/// frames, 32 to 1,024, all empty: else what is wrong with them, or `Memory`. Nothing waits in the store. The bytes are read
+/// twice: once to look at the names, which fills the cache, and once for what is given.
 pub fn load_volume(
     alloc: Global,
     bytes: &[u8],
