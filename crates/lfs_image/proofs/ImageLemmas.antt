@@ -87,7 +87,9 @@ body_at bytes l level is =
 head_at : (bytes : List ℕ) (l : LogParts) (level : Level) → IsImageOf bytes l level → take 512 bytes ≡ head_bytes (head_of l level)
 head_at bytes l level is =
     let h = head_bytes (head_of l level) in
-    ap (λ bs. take 512 bs) (sym is.spelled) ∙ ap (λ n. take n (h ++ body_bytes l)) (sym (length-head (head_of l level))) ∙ take-append_seam h (body_bytes l)
+    ap (λ bs. take 512 bs) (sym is.spelled)
+    ∙ ap (λ n. take n (h ++ body_bytes l)) (sym (length-head (head_of l level)))
+    ∙ take-append_seam h (body_bytes l)
 
 many_blocks : (bytes : List ℕ) (l : LogParts) (level : Level) → IsImageOf bytes l level → length l.memory.blocks ≡ number_at bytes 8 * 64
 many_blocks bytes l level is = is.parts.laid_out.whole ∙ ap (λ n. n * 64) (sym (reads_head bytes l level is).segments)
@@ -112,7 +114,9 @@ length_is bytes l level is =
     let agree = is.parts.agree in
     let segments = reads.segments in
     let inodes = reads.inodes in
-    ap length (sym is.spelled) ∙ length-append (head_bytes (head_of l level)) (body_bytes l) ∙ omega (arith, head, length-append blocks (ifile_bytes l.tables), many, file, agree, segments, inodes)
+    ap length (sym is.spelled)
+    ∙ length-append (head_bytes (head_of l level)) (body_bytes l)
+    ∙ omega (arith, head, length-append blocks (ifile_bytes l.tables), many, file, agree, segments, inodes)
 
 tables_of : (bytes : List ℕ) (l : LogParts) (level : Level) (t : Tables) → IsImageOf bytes l level → IsIfile t
     → ifile_bytes t ≡ drop (ifile_place bytes) bytes → l.tables ≡ t
@@ -172,7 +176,8 @@ not_apart bytes l level is apart =
 
 no_tables : (bytes : List ℕ) (l : LogParts) (level : Level) (fault : IfileFault) → IsImageOf bytes l level → (fault ≡ ifile_fault.Memory → ⊥)
     → IsIfileFaultOf (drop (ifile_place bytes) bytes) fault → ⊥
-no_tables bytes l level fault is other h = no_ifile (drop (ifile_place bytes) bytes) fault h other l.tables is.parts.formed (ifile_at bytes l level is)
+no_tables bytes l level fault is other h =
+    no_ifile (drop (ifile_place bytes) bytes) fault h other l.tables is.parts.formed (ifile_at bytes l level is)
 
 level-most : (level : Level) → level_word level ≤ 3
 level-most PermanentlyInsecure = omega arith
@@ -201,7 +206,8 @@ no_fault bytes (Active segment) (e, high) other l level s label is =
     let many = reads.segments in let same = reads.active in let inside = (may_head l level is.parts).active_inside in absurd (omega (arith, high))
 no_fault bytes (Used blocks) (e, inl low) other l level s label is =
     let reads = reads_head bytes l level is in
-    let begun : log_start (number_at bytes 16) ≤ l.memory.fill = subst (λ a. log_start a ≤ l.memory.fill) (sym reads.active) (may_head l level is.parts).begun in
+    let begun : log_start (number_at bytes 16) ≤ l.memory.fill =
+    subst (λ a. log_start a ≤ l.memory.fill) (sym reads.active) (may_head l level is.parts).begun in
     let same = reads.used in absurd (omega (arith, low))
 no_fault bytes (Used blocks) (e, inr high) other l level s label is =
     let same = (reads_head bytes l level is).used in let within = (may_head l level is.parts).within in absurd (omega (arith, high))

@@ -59,7 +59,8 @@ join a b x y bytes p q whole = rw (p, q) whole
 same_image : (l : LogParts) (level : Level) (h : Head) (bytes : List ℕ) → take 512 bytes ≡ head_bytes h → head_of l level ≡ h
     → body_bytes l ≡ drop 512 bytes → image_bytes l level ≡ bytes
 same_image l level h bytes told same body =
-    join (head_bytes (head_of l level)) (body_bytes l) (take 512 bytes) (drop 512 bytes) bytes (ap head_bytes same ∙ sym told) body (take-append-drop 512 bytes)
+    join (head_bytes (head_of l level)) (body_bytes l) (take 512 bytes) (drop 512 bytes) bytes
+    (ap head_bytes same ∙ sym told) body (take-append-drop 512 bytes)
 
 pub image_of : (l : LogParts) (h : Head) (bytes : List ℕ) → IsParts l → take 512 bytes ≡ head_bytes h → head_of l h.level ≡ h
     → body_bytes l ≡ drop 512 bytes → IsImageOf bytes l h.level

@@ -151,7 +151,8 @@ fn read_blocks(alloc: Global, bytes: &[u8], count: u32) -> Result<Vec<Block>, Al
     requires { BLOCK_SIZE * count ≤ length bytes.now }
     ensures many { IfOk result (λ blocks. length blocks.items ≡ count) }
     ensures each { IfOk result (λ blocks. All (λ block. length block ≡ BLOCK_SIZE) blocks.items) }
-    ensures read { IfOk result (λ blocks. flat_map (λ block. block) blocks.items ++ drop (BLOCK_SIZE * count) bytes.now ≡ bytes.now) }
+    ensures read { IfOk result (λ blocks. flat_map (λ block. block) blocks.items
+        ++ drop (BLOCK_SIZE * count) bytes.now ≡ bytes.now) }
 {
     let mut blocks = Vec::with_capacity(alloc, count as usize)?;
     for k in 0..count {
