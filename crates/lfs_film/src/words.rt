@@ -75,6 +75,7 @@ const SIGNS = {
 const DENIED = /^(?:\d+ )?(?:cleaner \w+ )?denied ([A-Z]\d)(?: (\w+) (\d) (\d+))?$/m;
 const REFUSED = /^(?:\d+ )?(?:cleaner \w+ )?refused (\w+)$/m;
 const FAULT = /^(?:\d+ )?(?:cleaner \w+ )?fault (\w+)/m;
+const TEXT_MOST = 48;
 const wordsOf = line => line.split(" ").slice(line.startsWith(".why ") ? 1 : 0);
 
 // Where the judged component stands in a line: [start, end], or nothing where it was cut or the call has no path.
@@ -95,6 +96,17 @@ function deniedOf(told) {
   return error ? { path: +path, component: +component } : {};
 }
 
+// The bytes that a line writes, or else those that an answer has, as a sentence where they are text.
+function bytesWords(line, told) {
+  const written = /^write \S+ (?:end|at \d+) ((?:[0-9a-f]{2})+)/.exec(line);
+  const read = /^\d+ bytes ((?:[0-9a-f]{2})+)/m.exec(told);
+  const [from, hex] = written ? [line, written[1]] : read ? [told, read[1]] : ["", ""], isCut = from.endsWith(" ..");
+  const text = hex.replace(/../g, pair => String.fromCharCode(parseInt(pair, 16)));
+  if (!/^[\x20-\x7e\n]+$/.test(text)) return "";
+  const few = text.replaceAll("\n", " ").slice(0, TEXT_MOST), more = isCut || few.length < text.length ? " .." : "";
+  return (written ? " It writes the text " : " It has the text ") + '"' + few + more + '".';
+}
+
 // What an answer says: its kind, a heading, a sentence, and the place in the line that it is about.
 function verdictOf(line, told) {
   const denied = DENIED.exec(told), refused = REFUSED.exec(told), fault = FAULT.exec(told);
@@ -107,7 +119,7 @@ function verdictOf(line, told) {
   }
   if (refused) return { kind: "refused", heading: "Refused: " + refused[1], says: REFUSALS[refused[1]] ?? "" };
   if (fault) return { kind: "refused", heading: "Fault: " + fault[1], says: FAULTS[fault[1]] ?? "" };
-  return { kind: "done", heading: "", says: CALLS[line.split(" ", 1)[0]] ?? "" };
+  return { kind: "done", heading: "", says: (CALLS[line.split(" ", 1)[0]] ?? "") + bytesWords(line, told) };
 }
 
 const counted = (count, word) => (count || "no") + " " + word + (count === 1 ? "" : "s");
