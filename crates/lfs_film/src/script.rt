@@ -151,7 +151,7 @@ function addRow({ from, path, depth, more }, caller, { before, judged }) {
 function paintTree() {
   const line = lineAt(at), { path, component } = deniedOf(toldAt(at)), paths = pathsOf(line), caller = callerOf(at);
   const judged = path === undefined || !paths[path] ? null : pathTo(paths[path], component);
-  const { root, known } = treeAt(at), before = at > 0 && isChange(line) ? shownBefore(paths) : null;
+  const before = at > 0 && isChange(line) ? shownBefore(paths) : null, { root, known } = treeAt(at);
   byId("caller").textContent = "Caller: " + callerAt(at) + (caller.user ? ". Bold: the bits that judge this caller." : ", whom every mode lets through.");
   byId("tree").replaceChildren();
   if (!known) return byId("tree").textContent = "A line was cut, so what it did is not known.";

@@ -93,11 +93,16 @@ function readTrees() {
   }
 }
 
-// The tree as a frame leaves it.
+// The tree as a frame leaves it, until it is asked for another: the last one goes on where the frame is a later one.
+let latest = { at: Infinity, tree: null };
 function treeAt(at) {
-  const key = Math.floor(at / TREE_STEP), kept = trees[key], tree = { root: copied(kept.root), known: kept.known };
-  for (let n = key * TREE_STEP + 1; n <= at; n++) follow(tree, n);
-  return tree;
+  const key = Math.floor(at / TREE_STEP);
+  if (latest.at > at || latest.at < key * TREE_STEP) {
+    const kept = trees[key];
+    latest = { at: key * TREE_STEP, tree: { root: copied(kept.root), known: kept.known } };
+  }
+  while (latest.at < at) follow(latest.tree, ++latest.at);
+  return latest.tree;
 }
 
 // The class whose bits judge a caller: nothing for the superuser, whom every mode lets through.
