@@ -1,5 +1,6 @@
 pub mod ArrivalLemmas
 pub mod AskLemmas
+pub mod AskedLemmas
 pub mod AttributeLemmas
 pub mod CallLemmas
 pub mod ChangeLemmas

@@ -1,8 +1,8 @@
 -- What a Rename comes to, by what has its new name.
-use Rattle.std.proofs.Common.{◌≡◌, ◌≢◌, ℕ, ◌≤◌, ◌==◌, Bool, true, false, List, length, Option, None, Some, Result, Ok, Err, inl, refl, sym, ap, subst, ◌∙◌, eq-eqb, ne_eqb}
+use Rattle.std.proofs.Common.{◌≡◌, ◌≢◌, ℕ, ◌≤◌, ◌==◌, Bool, true, false, List, length, Option, None, Some, Result, Ok, Err, inl, refl, sym, ap, subst, ◌∙◌, arith, eq-eqb, ne_eqb}
 use Rattle.lfs_types.specs.Caller.{Caller}
 use Rattle.lfs_types.specs.StoreStates.{Follows, StoreState}
-use Rattle.lfs_types.specs.Tree.{World, root}
+use Rattle.lfs_types.specs.Tree.{Content, World, root}
 use Rattle.lfs_types.specs.declared.answer.Answer.TheVariants as answers
 use Rattle.lfs_types.specs.declared.answer.Resource.TheVariants as resources
 use Rattle.lfs_types.specs.Shown.{ServesList}
@@ -29,7 +29,7 @@ use Rattle.lfs_calls.specs.Content.{Shows}
 use Rattle.lfs_calls.specs.Removes.{IsChildless}
 use Rattle.lfs_calls.specs.Entries.{OnServed}
 use Rattle.lfs_calls.specs.Outcomes.{FillsDirectory, IsOutcome}
-use Rattle.lfs_calls.specs.Renames.{GoesWith, HasNoRoom, IsCauseOf, IsMove, IsTarget, PlacesName, PlacesOver, PlacesRow, target_number}
+use Rattle.lfs_calls.specs.Renames.{GoesWith, HasNoRoom, IsCauseOf, IsMove, IsTarget, PlacedAt, PlacesName, PlacesOver, PlacesRow, target_number}
 use Rattle.lfs_calls.specs.Volumes.{IsVolume}
 use Rattle.lfs_calls.proofs.RenameEffects.{crowds, filled, fills, leaves, moves_first, not_full, roomy, shows_after, shows_over, swaps_place, world_same}
 use Rattle.lfs_calls.proofs.StateLemmas.{follows_itself, same_content}
@@ -197,3 +197,9 @@ pub follows_placed : (s : StoreState) (move : Move) (old new : List ℕ) (t : Ta
 follows_placed s move old new targets.Itself after h = follows_itself h.1
 follows_placed s move old new targets.Free after h = h.follows
 follows_placed s move old new (targets.Taken there) after h = h.follows
+
+-- a row is put in its place where the content says so
+pub placed_at : (s : StoreState) (move : Move) (old new : List ℕ) (t : Target) (c : Content) → PlacedAt s.content move old new t c → PlacesRow s move old new t (Ok tt) (record s { content = c })
+placed_at s move old new targets.Itself c h = (refl, ap (λ (x : Content). record s { content = x }) h)
+placed_at s move old new targets.Free c h = record { ok = h; err = tt; refused = tt; roomless = tt; follows = record { clean = omega arith; shape = refl } }
+placed_at s move old new (targets.Taken there) c h = record { ok = h; err = tt; refused = tt; roomless = tt; follows = record { clean = omega arith; shape = refl } }

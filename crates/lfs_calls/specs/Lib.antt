@@ -1,4 +1,5 @@
 pub mod Arrivals
+pub mod Asked
 pub mod Attributes
 pub mod Calls
 pub mod Content

@@ -189,6 +189,12 @@ GoesWith c rows move old new targets.Itself = Unit {0}
 GoesWith c rows move old new targets.Free = GoesTo c rows move old new
 GoesWith c rows move old new (targets.Taken there) = GoesOver c rows move old new there.number
 
+-- the content after a row was put in its place: the same where it has it already
+abbrev pub PlacedAt : Content → Move → List ℕ → List ℕ → Target → Content → Type 0
+PlacedAt c move name new targets.Itself after = after ≡ c
+PlacedAt c move name new targets.Free after = MovesTo c after move name new
+PlacedAt c move name new (targets.Taken there) after = MovesOver c after move name new there.number
+
 -- a row was put in its place, or not: nothing changes where it has it already
 abbrev pub PlacesRow : StoreState → Move → List ℕ → List ℕ → Target → Result (Unit {0}) NotServed → StoreState → Type 0
 PlacesRow old move name new targets.Itself result after = (result ≡ Ok tt) × (after ≡ old)

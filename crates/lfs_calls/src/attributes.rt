@@ -2,8 +2,9 @@
 
 ghost use Rattle.std.specs.Prelude.{◌≡◌, IsSomeAnd};
 ghost use Rattle.std.specs.FinMap.{get};
+ghost use Rattle.lfs_calls.specs.Asked.{Asks, IsAsked};
 ghost use Rattle.lfs_calls.specs.Attributes.{SetsAttrs};
-ghost use Rattle.lfs_calls.specs.Calls.{ChangesTo, IsCall, IsCallAt};
+ghost use Rattle.lfs_calls.specs.Calls.{ChangesTo, IsCall, IsCallAt, answered};
 ghost use Rattle.lfs_calls.specs.Volumes.{HasWorld};
 
 use crate::not_served::NotServed;
@@ -28,8 +29,10 @@ pub fn chmod<F: FileStore>(
     mode: Mode,
 ) -> Result<Served, NotServed>
     requires { HasWorld (F.state store.old) }
-    ensures { IsCall (F.state store.old) (F.state store.new) cred.now (Request.Chmod path.now mode)
+    ensures call { IsCall (F.state store.old) (F.state store.new) cred.now (Request.Chmod path.now mode)
         result }
+    ensures asked { IsAsked F.state F.made store.old cred.now
+        (Request.Chmod path.now mode) (answered result) store.new }
 {
     let file = find(store, cred, path)?;
     may_chmod(&file.attrs, cred, depth(path))?;
@@ -51,9 +54,11 @@ pub fn chown<F: FileStore>(
     gid: u32,
 ) -> Result<Served, NotServed>
     requires { HasWorld (F.state store.old) }
-    ensures { IsCall (F.state store.old) (F.state store.new) cred.now
+    ensures call { IsCall (F.state store.old) (F.state store.new) cred.now
         (Request.Chown path.now uid gid)
         result }
+    ensures asked { IsAsked F.state F.made store.old cred.now
+        (Request.Chown path.now uid gid) (answered result) store.new }
 {
     let file = find(store, cred, path)?;
     may_chown(&file.attrs, cred, uid, gid, depth(path))?;
@@ -77,8 +82,10 @@ pub fn chflags<F: FileStore>(
     flags: FileFlags,
 ) -> Result<Served, NotServed>
     requires { HasWorld (F.state store.old) }
-    ensures { IsCallAt level (F.state store.old) (F.state store.new) cred.now
+    ensures call { IsCallAt level (F.state store.old) (F.state store.new) cred.now
         (Request.Chflags path.now flags) result }
+    ensures asked { IsAsked F.state F.made store.old cred.now
+        (Request.Chflags path.now flags) (answered result) store.new }
 {
     let file = find(store, cred, path)?;
     may_chflags(&file.attrs, cred, level, flags, depth(path))?;
@@ -96,9 +103,11 @@ fn set_attrs<F: FileStore>(
     attrs: Attrs,
 ) -> Result<(), StoreRefusal>
     requires kind { IsSomeAnd (get (F.state store.old).content number) (λ f. f.kind ≡ attrs.kind) }
-    ensures { ChangesTo (F.state store.old)
+    ensures changes { ChangesTo (F.state store.old)
         (λ after. SetsAttrs (F.state store.old).content after number attrs) result
         (F.state store.new) }
+    ensures asked { Asks F.state F.made store.old by
+        (λ after. SetsAttrs (F.state store.old).content after number attrs) result store.new }
 {
     store.apply(&[Change::SetAttrs { ino: number, attrs }], by)
 }

@@ -3,9 +3,11 @@
 ghost use Rattle.std.specs.Prelude.{◌≡◌, ◌≤◌, Some, false};
 ghost use Rattle.lfs_types.specs.declared.limits.TheConstants.{FILE_BYTES};
 ghost use Rattle.lfs_types.specs.Kinds.{is_directory_kind};
+ghost use Rattle.lfs_types.specs.Reserves.{reserve_of};
 ghost use Rattle.lfs_types.specs.Splicing.{resized};
 ghost use Rattle.lfs_types.specs.Stored.{shown_attrs};
-ghost use Rattle.lfs_calls.specs.Calls.{ChangesTo, IsCall};
+ghost use Rattle.lfs_calls.specs.Asked.{Asks, IsAsked};
+ghost use Rattle.lfs_calls.specs.Calls.{ChangesTo, IsCall, answered};
 ghost use Rattle.lfs_calls.specs.Volumes.{HasWorld};
 ghost use Rattle.lfs_calls.specs.Writes.{ChangesBytes};
 
@@ -29,9 +31,11 @@ pub fn set_length<F: FileStore>(
     len: u64,
 ) -> Result<Served, NotServed>
     requires { HasWorld (F.state store.old) }
-    ensures { IsCall (F.state store.old) (F.state store.new) cred.now
+    ensures call { IsCall (F.state store.old) (F.state store.new) cred.now
         (Request.SetLength path.now len)
         result }
+    ensures asked { IsAsked F.state F.made store.old cred.now
+        (Request.SetLength path.now len) (answered result) store.new }
 {
     let file = find(store, cred, path)?;
     may_set_length(&file.attrs, cred, len, depth(path))?;
@@ -49,10 +53,14 @@ fn cut<F: FileStore>(
     requires shown { Some file.now.attrs ≡ shown_attrs (F.state store.old).content file.now.number }
     requires regular { is_directory_kind file.now.attrs.kind ≡ false }
     requires fits { len ≤ FILE_BYTES }
-    ensures { ChangesTo (F.state store.old)
+    ensures changes { ChangesTo (F.state store.old)
         (λ after. ChangesBytes (F.state store.old).content after
         file.now.number cred.now (λ old. resized old len))
         result (F.state store.new) }
+    ensures asked { Asks F.state F.made store.old (reserve_of cred.now)
+        (λ after. ChangesBytes (F.state store.old).content after
+        file.now.number cred.now (λ old. resized old len))
+        result store.new }
 {
     let Reached { number, attrs } = *file;
     let mode = mode_after(cred, attrs.mode);

@@ -6,7 +6,8 @@ ghost use Rattle.lfs_types.specs.Stored.{shown_attrs};
 ghost use Rattle.lfs_types.specs.Tree.{Content, file_of};
 ghost use Rattle.lfs_model.specs.World.{child};
 ghost use Rattle.lfs_model.specs.Rules.{Judges, judged, making, making_tests};
-ghost use Rattle.lfs_calls.specs.Calls.{ChangesTo, IsCall};
+ghost use Rattle.lfs_calls.specs.Asked.{Asks, IsAsked};
+ghost use Rattle.lfs_calls.specs.Calls.{ChangesTo, IsCall, answered};
 ghost use Rattle.lfs_calls.specs.Volumes.{HasWorld, InWorld};
 ghost use Rattle.lfs_calls.specs.Names.{FindsNew};
 ghost use Rattle.lfs_calls.specs.Makes.{CanMake, IsParent, request_for, MakesFile};
@@ -90,10 +91,14 @@ fn put_new<F: FileStore>(
     requires finds { (after : Content) → MakesFile (F.state store.old).content after
         number (file_of attrs []) dir room.now.off room.now.block
         → FindsNew (F.state store.old).content after dir name.now (Some number) }
-    ensures { ChangesTo (F.state store.old)
+    ensures changes { ChangesTo (F.state store.old)
         (λ after. MakesFile (F.state store.old).content after
         number (file_of attrs []) dir room.now.off room.now.block)
         result (F.state store.new) }
+    ensures asked { Asks F.state F.made store.old by
+        (λ after. MakesFile (F.state store.old).content after
+        number (file_of attrs []) dir room.now.off room.now.block)
+        result store.new }
 {
     let changes = [
         Change::Make { ino: number, attrs },
@@ -114,8 +119,10 @@ pub fn create<F: FileStore>(
     mode: Mode,
 ) -> Result<Served, NotServed>
     requires { HasWorld (F.state store.old) }
-    ensures { IsCall (F.state store.old) (F.state store.new) cred.now (Request.Create path.now mode)
+    ensures call { IsCall (F.state store.old) (F.state store.new) cred.now (Request.Create path.now mode)
         result }
+    ensures asked { IsAsked F.state F.made store.old cred.now
+        (Request.Create path.now mode) (answered result) store.new }
 {
     make(store, cred, path, Kind::File, mode)
 }
@@ -128,8 +135,10 @@ pub fn mkdir<F: FileStore>(
     mode: Mode,
 ) -> Result<Served, NotServed>
     requires { HasWorld (F.state store.old) }
-    ensures { IsCall (F.state store.old) (F.state store.new) cred.now (Request.Mkdir path.now mode)
+    ensures call { IsCall (F.state store.old) (F.state store.new) cred.now (Request.Mkdir path.now mode)
         result }
+    ensures asked { IsAsked F.state F.made store.old cred.now
+        (Request.Mkdir path.now mode) (answered result) store.new }
 {
     make(store, cred, path, Kind::Directory, mode)
 }
@@ -143,8 +152,10 @@ fn make<F: FileStore>(
     mode: Mode,
 ) -> Result<Served, NotServed>
     requires { HasWorld (F.state store.old) }
-    ensures { IsCall (F.state store.old) (F.state store.new) cred.now (request_for kind path.now mode)
-        result }
+    ensures call { IsCall (F.state store.old) (F.state store.new) cred.now
+        (request_for kind path.now mode) result }
+    ensures asked { IsAsked F.state F.made store.old cred.now
+        (request_for kind path.now mode) (answered result) store.new }
 {
     let names = path.names();
     let dir = judge_make(store, cred, names)?;

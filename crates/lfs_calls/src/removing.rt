@@ -6,7 +6,8 @@ ghost use Rattle.lfs_types.specs.Stored.{shown_attrs};
 ghost use Rattle.lfs_types.specs.Tree.{World};
 ghost use Rattle.lfs_model.specs.Rules.{Judges, judged, removing, rmdir_tests, rule_table};
 ghost use Rattle.lfs_model.specs.World.{children};
-ghost use Rattle.lfs_calls.specs.Calls.{ChangesTo, IsCall};
+ghost use Rattle.lfs_calls.specs.Asked.{Asks, IsAsked};
+ghost use Rattle.lfs_calls.specs.Calls.{ChangesTo, IsCall, answered};
 ghost use Rattle.lfs_calls.specs.Volumes.{HasWorld, InWorld, IsVolume};
 ghost use Rattle.lfs_calls.specs.Removes.{HangsAs, IsChildless, IsRemovable, IsRemoval, TakesRow, removal_request, removed_tests};
 
@@ -72,9 +73,12 @@ fn take_row<F: FileStore>(
     requires world { (w : World) × (IsVolume (F.state store.old) w
         × HangsAs (F.state store.old).content w.rows removal.now name.now
         × IsChildless w.rows removal.now.file.number) }
-    ensures { ChangesTo (F.state store.old)
+    ensures changes { ChangesTo (F.state store.old)
         (λ after. TakesRow (F.state store.old).content after removal.now name.now)
         result (F.state store.new) }
+    ensures asked { Asks F.state F.made store.old by
+        (λ after. TakesRow (F.state store.old).content after removal.now name.now)
+        result store.new }
 {
     let Reached { number, attrs } = removal.dir;
     let room = take_name(store, number, attrs.size, name);
@@ -98,8 +102,10 @@ pub fn unlink<F: FileStore>(
     path: &Path,
 ) -> Result<Served, NotServed>
     requires { HasWorld (F.state store.old) }
-    ensures { IsCall (F.state store.old) (F.state store.new) cred.now (Request.Unlink path.now)
+    ensures call { IsCall (F.state store.old) (F.state store.new) cred.now (Request.Unlink path.now)
         result }
+    ensures asked { IsAsked F.state F.made store.old cred.now
+        (Request.Unlink path.now) (answered result) store.new }
 {
     remove(store, cred, path, Kind::File)
 }
@@ -111,8 +117,10 @@ pub fn rmdir<F: FileStore>(
     path: &Path,
 ) -> Result<Served, NotServed>
     requires { HasWorld (F.state store.old) }
-    ensures { IsCall (F.state store.old) (F.state store.new) cred.now (Request.Rmdir path.now)
+    ensures call { IsCall (F.state store.old) (F.state store.new) cred.now (Request.Rmdir path.now)
         result }
+    ensures asked { IsAsked F.state F.made store.old cred.now
+        (Request.Rmdir path.now) (answered result) store.new }
 {
     remove(store, cred, path, Kind::Directory)
 }
@@ -125,8 +133,10 @@ fn remove<F: FileStore>(
     kind: Kind,
 ) -> Result<Served, NotServed>
     requires { HasWorld (F.state store.old) }
-    ensures { IsCall (F.state store.old) (F.state store.new) cred.now (removal_request kind path.now)
-        result }
+    ensures call { IsCall (F.state store.old) (F.state store.new) cred.now
+        (removal_request kind path.now) result }
+    ensures asked { IsAsked F.state F.made store.old cred.now
+        (removal_request kind path.now) (answered result) store.new }
 {
     let names = path.names();
     let removal = judge_removal(store, cred, names, kind)?;

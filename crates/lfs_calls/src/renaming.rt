@@ -8,13 +8,14 @@ ghost use Rattle.lfs_types.specs.Stored.{bytes_of, shown_attrs};
 ghost use Rattle.lfs_types.specs.Tree.{Content, World, root};
 ghost use Rattle.lfs_types.specs.declared.rule.Rule.TheVariants.{IsNotBeneathItself};
 ghost use Rattle.lfs_model.specs.Rules.{Judges, apart_test, arriving, first_failing, front, judged, last, moving_tests, position, reached, rule_table, visited};
-ghost use Rattle.lfs_calls.specs.Calls.{ChangesTo, IsCall};
+ghost use Rattle.lfs_calls.specs.Asked.{Asks, IsAsked, OnPlaced};
+ghost use Rattle.lfs_calls.specs.Calls.{ChangesTo, IsCall, answered};
 ghost use Rattle.lfs_calls.specs.Volumes.{HasWorld, InWorld, IsVolume};
 ghost use Rattle.lfs_calls.specs.Content.{FitsNowhere};
 ghost use Rattle.lfs_calls.specs.Names.{MovesName};
 ghost use Rattle.lfs_model.specs.Walks.{is_on_way};
 ghost use Rattle.lfs_calls.specs.Makes.{IsBlockOf, with_block};
-ghost use Rattle.lfs_calls.specs.Renames.{ArePlaces, AreSwapped, CanSwap, GoesOver, GoesTo, GoesWith, HasNoRoom, IsMove, IsSwap, IsTarget, MovesOver, MovesTo, PlacesRow, PutsRow, StaysInPlace, SwapsBlocks, WritesBlocks, name_left, target_number};
+ghost use Rattle.lfs_calls.specs.Renames.{ArePlaces, AreSwapped, CanSwap, GoesOver, GoesTo, GoesWith, HasNoRoom, IsMove, IsSwap, IsTarget, MovesOver, MovesTo, PlacedAt, PlacesRow, PutsRow, StaysInPlace, SwapsBlocks, WritesBlocks, name_left, target_number};
 ghost use Rattle.lfs_model.specs.Walks.{walked};
 ghost use Rattle.lfs_model.specs.World.{child};
 ghost use Rattle.lfs_calls.specs.Arrivals.{IsArrival};
@@ -258,9 +259,12 @@ fn put_blocks<F: FileStore>(
     requires moves { (after : Content) → WritesBlocks (F.state store.old).content after
         old_dir taken.now dir room.now → MovesName (F.state store.old).content after
         old_dir names.now.old.now dir names.now.new.now names.now.number }
-    ensures { ChangesTo (F.state store.old)
+    ensures changes { ChangesTo (F.state store.old)
         (λ after. WritesBlocks (F.state store.old).content after old_dir taken.now dir room.now)
         result (F.state store.new) }
+    ensures asked { Asks F.state F.made store.old names.now.by
+        (λ after. WritesBlocks (F.state store.old).content after old_dir taken.now dir room.now)
+        result store.new }
 {
     let put = Change::Put {
         ino: dir,
@@ -352,9 +356,12 @@ fn put_swapped<F: FileStore>(
     requires moves { (after : Content) → SwapsBlocks (F.state store.old).content after
         old_dir taken.now dir room.now gone → MovesName (F.state store.old).content after
         old_dir names.now.old.now dir names.now.new.now names.now.number }
-    ensures { ChangesTo (F.state store.old)
+    ensures changes { ChangesTo (F.state store.old)
         (λ after. SwapsBlocks (F.state store.old).content after old_dir taken.now dir room.now gone)
         result (F.state store.new) }
+    ensures asked { Asks F.state F.made store.old names.now.by
+        (λ after. SwapsBlocks (F.state store.old).content after old_dir taken.now dir room.now gone)
+        result store.new }
 {
     let put = Change::Put {
         ino: dir,
@@ -388,6 +395,8 @@ pub fn rename<F: FileStore>(
         result }
     ensures stays { InWorld (F.state store.old) (λ w.
         StaysInPlace (F.state store.old) (F.state store.new) w cred.now from.now to.now result) }
+    ensures asked { IsAsked F.state F.made store.old cred.now
+        (Request.Rename from.now to.now) (answered result) store.new }
 {
     let (from, to) = (from.names(), to.names());
     let planned = judge_rename(store, cred, from, to)?;
@@ -408,8 +417,11 @@ fn place_row<F: FileStore>(
 ) -> Result<(), NotServed>
     requires goes { (w : World) × (IsVolume (F.state store.old) w
         × GoesWith (F.state store.old).content w.rows planned.now old.now new.now planned.now.target) }
-    ensures { PlacesRow (F.state store.old) planned.now old.now new.now planned.now.target
+    ensures places { PlacesRow (F.state store.old) planned.now old.now new.now planned.now.target
         result (F.state store.new) }
+    ensures asked { OnPlaced result (λ said. Asks F.state F.made store.old by
+        (PlacedAt (F.state store.old).content planned.now old.now new.now planned.now.target)
+        said store.new) }
 {
     match planned.target {
         Target::Itself => Ok(()),
@@ -428,10 +440,13 @@ fn move_free<F: FileStore>(
 ) -> Result<(), NotServed>
     requires goes { (w : World) × (IsVolume (F.state store.old) w
         × GoesTo (F.state store.old).content w.rows planned.now old.now new.now) }
-    ensures { PutsRow (F.state store.old)
+    ensures puts { PutsRow (F.state store.old)
         (HasNoRoom (F.state store.old).content planned.now old.now new.now)
         (λ after. MovesTo (F.state store.old).content after planned.now old.now new.now)
         result (F.state store.new) }
+    ensures asked { OnPlaced result (λ said. Asks F.state F.made store.old by
+        (λ after. MovesTo (F.state store.old).content after planned.now old.now new.now)
+        said store.new) }
 {
     let Some(places) = find_places(store, planned, old, new) else {
         return Err(NotServed::Refused(Resource::DirectoryFull));
@@ -460,9 +475,12 @@ fn move_over<F: FileStore>(
 ) -> Result<(), StoreRefusal>
     requires goes { (w : World) × (IsVolume (F.state store.old) w
         × GoesOver (F.state store.old).content w.rows planned.now old.now new.now there) }
-    ensures { ChangesTo (F.state store.old)
+    ensures changes { ChangesTo (F.state store.old)
         (λ after. MovesOver (F.state store.old).content after planned.now old.now new.now there)
         result (F.state store.new) }
+    ensures asked { Asks F.state F.made store.old by
+        (λ after. MovesOver (F.state store.old).content after planned.now old.now new.now there)
+        result store.new }
 {
     let Places { taken, room } = find_swap(store, planned, there, old, new);
     let (old_dir, new_dir) = (planned.removal.dir.number, planned.dir.number);

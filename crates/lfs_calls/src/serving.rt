@@ -2,7 +2,8 @@
 
 ghost use Rattle.std.specs.Prelude.{◌≡◌, OnOk};
 ghost use Rattle.lfs_types.specs.Caller.{Caller};
-ghost use Rattle.lfs_calls.specs.Calls.{IsCall, IsCallAt};
+ghost use Rattle.lfs_calls.specs.Asked.{IsAsked};
+ghost use Rattle.lfs_calls.specs.Calls.{IsCall, IsCallAt, answered};
 ghost use Rattle.lfs_calls.specs.Volumes.{HasWorld};
 
 use crate::attributes::{chflags, chmod, chown};
@@ -24,7 +25,8 @@ use lfs_types::store::FileStore;
 use std::alloc::Global;
 
 /// Makes the call that a request asks for over a store at this securelevel. Only a Read and a List take memory of
-/// their own. Where a Sync is served, nothing waits in the store.
+/// their own. Where a Sync is served, nothing waits in the store. A call that changes files is served, or refused for want
+/// of space or memory, as the store says to the changes that make the call, and the store is asked for nothing else.
 pub fn serve<F: FileStore>(
     alloc: Global,
     store: &mut Tree<F>,
@@ -36,6 +38,8 @@ pub fn serve<F: FileStore>(
     ensures call { IsCallAt level (F.state store.old) (F.state store.new)
         cred.now request.now result }
     ensures synced { request.now ≡ Request.Sync → OnOk result (F.is_settled store.new) }
+    ensures asked { IsAsked F.state F.made store.old cred.now request.now (answered result)
+        store.new }
 {
     match request {
         Request::Stat { path } => stat(store, cred, path),

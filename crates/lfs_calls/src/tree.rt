@@ -176,7 +176,8 @@ impl<F: FileStore> Tree<F> {
             (F.state self.old).content }
         requires keeps { KeepsNames (F.state self.old).content
             (applied changes.now (F.state self.old).content) }
-        ensures { Applies (F.state self.old) changes.now result (F.state self.new) }
+        ensures applies { Applies (F.state self.old) changes.now result (F.state self.new) }
+        ensures made { F.made self.old changes.now by result self.new }
     {
         apply_followed(
             &mut self.store,
@@ -200,7 +201,8 @@ impl<F: FileStore> Tree<F> {
             (F.state self.old).content }
         requires finds { FindsNew (F.state self.old).content
             (applied changes.now (F.state self.old).content) dir name.now found }
-        ensures { Applies (F.state self.old) changes.now result (F.state self.new) }
+        ensures applies { Applies (F.state self.old) changes.now result (F.state self.new) }
+        ensures made { F.made self.old changes.now by result self.new }
     {
         apply_followed(
             &mut self.store,
@@ -228,7 +230,8 @@ impl<F: FileStore> Tree<F> {
         requires moves { MovesName (F.state self.old).content
             (applied changes.now (F.state self.old).content)
             from.0 from.1.now to.0 to.1.now number }
-        ensures { Applies (F.state self.old) changes.now result (F.state self.new) }
+        ensures applies { Applies (F.state self.old) changes.now result (F.state self.new) }
+        ensures made { F.made self.old changes.now by result self.new }
     {
         apply_followed(
             &mut self.store,
@@ -255,6 +258,7 @@ fn apply_followed<F: FileStore>(
     requires { CanApply (F.state store.old).shape.numbers changes.now
         (F.state store.old).content }
     ensures applies { Applies (F.state store.old) changes.now result (F.state store.new) }
+    ensures made { F.made store.old changes.now by result store.new }
     ensures shown { AreShown attributes.old (F.state store.old).content
         → AreShown attributes.new (F.state store.new).content }
     ensures full { AreFull hints.old (F.state store.old).content

@@ -3,9 +3,11 @@
 ghost use Rattle.std.specs.Prelude.{◌≡◌, ◌≤◌, ◌+◌, Some, false, length};
 ghost use Rattle.lfs_types.specs.declared.limits.TheConstants.{FILE_BYTES, TRANSFER_BYTES};
 ghost use Rattle.lfs_types.specs.Kinds.{is_directory_kind};
+ghost use Rattle.lfs_types.specs.Reserves.{reserve_of};
 ghost use Rattle.lfs_types.specs.Splicing.{splice};
 ghost use Rattle.lfs_types.specs.Stored.{shown_attrs};
-ghost use Rattle.lfs_calls.specs.Calls.{ChangesTo, IsCall};
+ghost use Rattle.lfs_calls.specs.Asked.{Asks, IsAsked};
+ghost use Rattle.lfs_calls.specs.Calls.{ChangesTo, IsCall, answered};
 ghost use Rattle.lfs_calls.specs.Volumes.{HasWorld};
 ghost use Rattle.lfs_calls.specs.Writes.{ChangesBytes};
 
@@ -31,8 +33,10 @@ pub fn write<F: FileStore>(
     bytes: &Payload,
 ) -> Result<Served, NotServed>
     requires { HasWorld (F.state store.old) }
-    ensures { IsCall (F.state store.old) (F.state store.new) cred.now
+    ensures call { IsCall (F.state store.old) (F.state store.new) cred.now
         (Request.Write path.now place bytes.now) result }
+    ensures asked { IsAsked F.state F.made store.old cred.now
+        (Request.Write path.now place bytes.now) (answered result) store.new }
 {
     let bytes = bytes.as_slice();
     let file = find(store, cred, path)?;
@@ -57,10 +61,14 @@ fn put<F: FileStore>(
     requires few { length bytes.now ≤ TRANSFER_BYTES }
     requires fits { start + length bytes.now ≤ FILE_BYTES }
     requires size { file.now.attrs.size ≤ FILE_BYTES }
-    ensures { ChangesTo (F.state store.old)
+    ensures changes { ChangesTo (F.state store.old)
         (λ after. ChangesBytes (F.state store.old).content after
         file.now.number cred.now (λ old. splice old start bytes.now))
         result (F.state store.new) }
+    ensures asked { Asks F.state F.made store.old (reserve_of cred.now)
+        (λ after. ChangesBytes (F.state store.old).content after
+        file.now.number cred.now (λ old. splice old start bytes.now))
+        result store.new }
 {
     let Reached { number, attrs } = *file;
     let mode = mode_after(cred, attrs.mode);

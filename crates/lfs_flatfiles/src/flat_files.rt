@@ -208,11 +208,16 @@ impl FlatFiles {
 impl FileStore for FlatFiles {
     ghost use Rattle.std.specs.Prelude.{⊤};
     ghost use Rattle.std.specs.Vec.{vec_len};
+    ghost use Rattle.lfs_types.specs.StoreStates.{Applies};
     ghost use Rattle.lfs_flatfiles.specs.FlatFiles.{state_of};
 
     ghost is_settled = { λ _. ⊤ };
 
     ghost state = { λ store. state_of (vec_len store.places) store.places.items };
+
+    ghost made = { λ old changes by result new.
+        Applies (state_of (vec_len old.places) old.places.items) changes result
+        (state_of (vec_len new.places) new.places.items) };
 
     fn attrs(&self, ino: u32) -> Option<Attrs> {
         self.places.get(ino as usize)?.attrs()

@@ -1,3 +1,4 @@
+pub mod Answering
 pub mod CleanerCalls
 pub mod Cleaning
 pub mod Gaining

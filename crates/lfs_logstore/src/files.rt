@@ -8,6 +8,7 @@ ghost use Rattle.lfs_types.specs.Stored.{Reads, bytes_of, slice_of};
 ghost use Rattle.lfs_staging.specs.Filling.{SameButClean};
 ghost use Rattle.lfs_segwrite.specs.Applying.{HasRoomFor, MakesChanges, WritesWaiting};
 ghost use Rattle.lfs_staging.specs.Store.{IsSettled};
+ghost use Rattle.lfs_logstore.specs.Answering.{ComesTo};
 ghost use Rattle.lfs_logstore.specs.States.{state_of};
 
 use crate::store::LogStore;
@@ -19,10 +20,13 @@ use lfs_types::store::{Change, FileStore, Reserve, StoreRefusal};
 impl FileStore for LogStore {
     ghost use Rattle.lfs_logstore.specs.States.{state_of};
     ghost use Rattle.lfs_staging.specs.Store.{IsSettled};
+    ghost use Rattle.lfs_logstore.specs.Answering.{ComesTo};
 
     ghost state = { state_of };
 
     ghost is_settled = { IsSettled };
+
+    ghost made = { ComesTo };
 
     fn attrs(&self, ino: u32) -> Option<Attrs> {
         self.parts.attrs(ino)
@@ -51,7 +55,8 @@ impl FileStore for LogStore {
     fn apply(&mut self, changes: &[Change<'_>], by: Reserve) -> Result<(), StoreRefusal>
         requires { CanApply (state_of self.old).shape.numbers changes.now (state_of self.old).content }
         ensures applies { Applies (state_of self.old) changes.now result (state_of self.new) }
-        ensures made { OnOk result (MakesChanges by changes.now self.old self.new) }
+        ensures made { ComesTo self.old changes.now by result self.new }
+        ensures makes { OnOk result (MakesChanges by changes.now self.old self.new) }
         // There was room, as the log stood.
         ensures fits { OnOk result (HasRoomFor by changes.now self.old) }
         ensures refused { OnErr result (self.new ≡ self.old) }

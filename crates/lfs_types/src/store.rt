@@ -1,6 +1,6 @@
 //! The trait of a file store: files by number, with no names and no permissions.
 
-ghost use Rattle.std.specs.Prelude.{◌≡◌, [], length, IsSome, OnOk};
+ghost use Rattle.std.specs.Prelude.{◌≡◌, [], length, IsSome, List, OnOk, Result};
 ghost use Rattle.std.specs.FinMap.{get};
 ghost use Rattle.lfs_types.specs.Changes.{CanApply};
 ghost use Rattle.lfs_types.specs.Reserves.{reserve_of};
@@ -87,10 +87,17 @@ pub enum StoreRefusal {
 /// A store of files by number. Contracts see one state of it: its content as a finite map, however it is kept,
 /// the number of its clean segments, and what no call changes.
 pub trait FileStore {
+    ghost use Rattle.lfs_types.specs.declared.store.Change.{Change};
+    ghost use Rattle.lfs_types.specs.declared.store.Reserve.{Reserve};
+    ghost use Rattle.lfs_types.specs.declared.store.StoreRefusal.{StoreRefusal};
+
     /// The state that contracts see.
     ghost state: { Self → StoreState };
     /// Nothing waits to be written.
     ghost is_settled: { Self → Type 0 };
+    /// Changes that were asked for on somebody's behalf came to this result, and left the store so. Each store says it by a
+    /// relation of its own, and only `apply` gives it: so it says that the store was asked.
+    ghost made: { Self → List Change → Reserve → Result (Unit {0}) StoreRefusal → Self → Type 0 };
 
     /// The attributes of a number, if it is in use.
     fn attrs(&self, ino: u32) -> Option<Attrs>
@@ -115,7 +122,8 @@ pub trait FileStore {
     /// Makes all the changes, in order, or none of them. On whose behalf says only which may be refused for want of room.
     fn apply(&mut self, changes: &[Change<'_>], by: Reserve) -> Result<(), StoreRefusal>
         requires { CanApply (state self.old).shape.numbers changes.now (state self.old).content }
-        ensures { Applies (state self.old) changes.now result (state self.new) };
+        ensures applies { Applies (state self.old) changes.now result (state self.new) }
+        ensures made { made self.old changes.now by result self.new };
 
     /// Writes what waits to be written. The content stays.
     fn sync(&mut self) -> Result<(), StoreRefusal>

@@ -165,7 +165,7 @@ copy_outcome s w caller request (Denied denial) o h = absurd h
 copy_outcome s w caller request (Refused resource) o h = absurd h
 
 -- an answer that tells of the want of memory is that refusal
-lack_is : (answer : Answer) → is_lack_of_memory answer ≡ true → answer ≡ Refused NoMemory
+pub lack_is : (answer : Answer) → is_lack_of_memory answer ≡ true → answer ≡ Refused NoMemory
 lack_is (Served shown) h = absurd (cc)
 lack_is (Denied denial) h = absurd (cc)
 lack_is (Refused NoMemory) h = refl

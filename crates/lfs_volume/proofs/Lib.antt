@@ -1,3 +1,4 @@
+pub mod AskedLemmas
 pub mod CallLemmas
 pub mod CleaningLemmas
 pub mod Crossing

@@ -9,6 +9,7 @@ ghost use Rattle.lfs_model.specs.Counts.{counts_of};
 ghost use Rattle.lfs_model.specs.Rules.{rule_table};
 ghost use Rattle.lfs_model.specs.Runs.{IsUnserved, kept, kept_cleaning, kept_entry, kept_step, kept_steps};
 ghost use Rattle.lfs_model.specs.Steps.{world_after};
+ghost use Rattle.lfs_calls.specs.Asked.{IsAsked};
 ghost use Rattle.lfs_calls.specs.Calls.{LooksOn, OnUnasked};
 ghost use Rattle.lfs_calls.specs.Content.{Shows};
 ghost use Rattle.lfs_calls.specs.Entries.{LeavesEntries, OnServed};
@@ -133,7 +134,9 @@ impl<F: FileStore + Drop> Volume<F> {
 
     /// Makes a user's call: judges it by the rules on the tree that the journal leads to, does it, and enters it. A served
     /// call leaves the entries of directories in their places, and a Sync nothing waiting in the store. A call that looks,
-    /// that a rule denies, or that wants a number or room for a name leaves the store's state as it was.
+    /// that a rule denies, or that wants a number or room for a name leaves the store's state as it was. One that changes
+    /// files is served, or refused for want of space or memory, as the store says to the changes that make it, and does no
+    /// more than they do.
     pub fn call(&mut self, session: u8, cred: &Cred, request: Request) -> Answer
         ensures full { (result ≡ Answer.Refused Resource.JournalFull)
             ↔ (length self.old.journal ≡ self.old.limit) }
@@ -154,6 +157,8 @@ impl<F: FileStore + Drop> Volume<F> {
         ensures unasked { OnUnasked result (F.state self.new.store ≡ F.state self.old.store) }
         ensures synced { request ≡ Request.Sync → result ≡ Answer.Served Served.Done
             → F.is_settled self.new.store }
+        ensures asked { IsAsked F.state F.made self.old.store cred.now request result
+            self.new.store }
         ensures since { self.new.since ≡ self.old.since }
         ensures since_level { self.new.since_level ≡ self.old.since_level }
         ensures limit { self.new.limit ≡ self.old.limit }
@@ -186,6 +191,8 @@ impl<F: FileStore + Drop> Volume<F> {
         ensures unasked { OnUnasked result (F.state self.new.store ≡ F.state self.old.store) }
         ensures synced { request ≡ Request.Sync → result ≡ Answer.Served Served.Done
             → F.is_settled self.new.store }
+        ensures asked { IsAsked F.state F.made self.old.store cred.now request result
+            self.new.store }
         ensures since { self.new.since ≡ self.old.since }
         ensures since_level { self.new.since_level ≡ self.old.since_level }
         ensures limit { self.new.limit ≡ self.old.limit }
@@ -490,6 +497,10 @@ fn answer_twice<F: FileStore>(
     ensures synced { MatchOption result ⊤
         (λ both. request.now ≡ Request.Sync → both.0 ≡ Answer.Served Served.Done
         → F.is_settled store.new) }
+    ensures asked { MatchOption result
+        (IsAsked F.state F.made store.old cred.now request.now
+        (Answer.Refused Resource.NoMemory) store.new)
+        (λ both. IsAsked F.state F.made store.old cred.now request.now both.0 store.new) }
 {
     let answer = answer(alloc, store, level, cred, request);
     if lacks_memory(&answer) {
@@ -514,6 +525,7 @@ fn answer<F: FileStore>(
         level.old level.new cred.now request.now result }
     ensures synced { request.now ≡ Request.Sync → result ≡ Answer.Served Served.Done
         → F.is_settled store.new }
+    ensures asked { IsAsked F.state F.made store.old cred.now request.now result store.new }
 {
     let answer = answered(serve(alloc, store, *level, cred, request));
     *level = level_left(*level, request, &answer);

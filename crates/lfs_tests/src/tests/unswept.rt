@@ -29,6 +29,9 @@ impl FileStore for Unswept {
 
     ghost is_settled = { λ store. ⟦<FlatFiles as FileStore>⟧.is_settled store.files };
 
+    ghost made = { λ old changes by result new.
+        ⟦<FlatFiles as FileStore>⟧.made old.files changes by result new.files };
+
     fn attrs(&self, ino: u32) -> Option<Attrs> {
         self.files.attrs(ino)
     }

@@ -1,6 +1,8 @@
-use Rattle.std.proofs.Common.{List, ℕ, refl}
+use Rattle.std.proofs.Common.{List, [], ◌∷◌, ℕ, refl, subst}
 use Rattle.std.proofs.lemmas.Result.{IfOk-weaker}
 use Rattle.lfs_types.specs.Splicing.{resized}
+use Rattle.lfs_types.specs.declared.store.Change.TheVariants.{SetAttrs, SetLength}
+use Rattle.lfs_calls.proofs.AskedLemmas.{asks_now}
 use Rattle.lfs_calls.proofs.ListedNames.{bytes_keep_names}
 use Rattle.lfs_calls.proofs.ChangeLemmas.{changes_bytes}
 use Rattle.lfs_calls.proofs.CutLemmas.{can_cut}
@@ -11,13 +13,13 @@ apply-requires-clause-can g c =
     can_cut (g.F.FileStore.state c.args.store.now).content c.args.file.now.number c.args.file.now.attrs c.requires.shown c.args.cred.now c.args.len
     c.requires.regular c.requires.fits (g.F.FileStore.state c.args.store.now).shape.numbers c.mode_after-mode.result
 
-pub returns : goal.returns
-returns g c = record {
+pub returns-clause-changes : goal.returns-clause-changes
+returns-clause-changes g c = record {
   ok = IfOk-weaker c.apply.result _ _ (λ _ h. changes_bytes (g.F.FileStore.state c.args.store.now).content c.args.file.now.number c.args.file.now.attrs c.requires.shown c.args.cred.now
-      (λ (old : List ℕ). resized old c.args.len) c.mode_after-mode.result c.mode_after-mode.ensures (g.F.FileStore.state c.apply.new.self).content h) c.apply.ensures.ok;
-  err = c.apply.ensures.err;
-  refused = c.apply.ensures.refused;
-  follows = c.apply.ensures.follows;
+      (λ (old : List ℕ). resized old c.args.len) c.mode_after-mode.result c.mode_after-mode.ensures (g.F.FileStore.state c.apply.new.self).content h) c.apply.ensures.applies.ok;
+  err = c.apply.ensures.applies.err;
+  refused = c.apply.ensures.applies.refused;
+  follows = c.apply.ensures.applies.follows;
 }
 
 pub apply-requires-clause-keeps : goal.apply-requires-clause-keeps
@@ -25,4 +27,12 @@ apply-requires-clause-keeps g c =
     let before = (g.F.FileStore.state c.args.store.now).content in
     let file = c.args.file.now in
     bytes_keep_names before _ file.number file.attrs c.requires.shown c.requires.regular c.args.cred.now (λ (old : List ℕ). resized old c.args.len)
+    (changes_bytes before file.number file.attrs c.requires.shown c.args.cred.now (λ (old : List ℕ). resized old c.args.len) c.mode_after-mode.result c.mode_after-mode.ensures _ refl)
+
+pub returns-clause-asked : goal.returns-clause-asked
+returns-clause-asked g c =
+    let before = (g.F.FileStore.state c.args.store.now).content in
+    let file = c.args.file.now in
+    let attrs = record file.attrs { mode = c.mode_after-mode.result } in
+    asks_now g.F.FileStore.state g.F.FileStore.made (SetLength file.number c.args.len) (SetAttrs file.number attrs ∷ []) c.of.ensures refl c.apply.ensures.made
     (changes_bytes before file.number file.attrs c.requires.shown c.args.cred.now (λ (old : List ℕ). resized old c.args.len) c.mode_after-mode.result c.mode_after-mode.ensures _ refl)

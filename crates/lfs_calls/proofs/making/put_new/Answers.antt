@@ -1,4 +1,6 @@
-use Rattle.std.proofs.Common.{refl}
+use Rattle.std.proofs.Common.{[], ◌∷◌, refl, subst}
+use Rattle.lfs_types.specs.declared.store.Change.{Change}
+use Rattle.lfs_calls.proofs.AskedLemmas.{asks_list}
 use Rattle.std.proofs.lemmas.Result.{IfOk-weaker}
 use Rattle.lfs_calls.proofs.MakeLemmas.{makes_file, can_make, grown_length}
 use Rattle.lfs_types.proofs.Somewhere.{some_and}
@@ -17,13 +19,20 @@ apply_naming-requires g c =
       finds = finds;
     }
 
-pub returns : goal.returns
-returns g c =
+pub returns-clause-changes : goal.returns-clause-changes
+returns-clause-changes g c =
     let d = some_and _ _ c.requires.can.block.directory in
     record {
       ok = IfOk-weaker c.apply_naming.result _ _ (λ _ h. makes_file (g.F.FileStore.state c.args.store.now).content c.args.number c.args.attrs c.args.dir c.args.room.now.off c.args.room.now.block d.value c.requires.can.unused d.is
-          (g.F.FileStore.state c.apply_naming.new.self).content h) c.apply_naming.ensures.ok;
-      err = c.apply_naming.ensures.err;
-      refused = c.apply_naming.ensures.refused;
-      follows = c.apply_naming.ensures.follows;
+          (g.F.FileStore.state c.apply_naming.new.self).content h) c.apply_naming.ensures.applies.ok;
+      err = c.apply_naming.ensures.applies.err;
+      refused = c.apply_naming.ensures.applies.refused;
+      follows = c.apply_naming.ensures.applies.follows;
     }
+
+pub returns-clause-asked : goal.returns-clause-asked
+returns-clause-asked g c =
+    let d = some_and _ _ c.requires.can.block.directory in
+    let room = c.args.room.now in
+    asks_list g.F.FileStore.state g.F.FileStore.made refl refl c.apply_naming.ensures.made
+    (makes_file (g.F.FileStore.state c.args.store.now).content c.args.number c.args.attrs c.args.dir room.off room.block d.value c.requires.can.unused d.is _ refl)

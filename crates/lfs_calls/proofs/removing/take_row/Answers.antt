@@ -8,6 +8,7 @@ use Rattle.lfs_types.specs.Tree.{Content, World}
 use Rattle.lfs_calls.specs.Removes.{HangsAs, IsTaking, TakesFile}
 use Rattle.lfs_calls.proofs.Directories.{lists_name}
 use Rattle.lfs_calls.specs.Volumes.{IsVolume}
+use Rattle.lfs_calls.proofs.AskedLemmas.{asks_list}
 use Rattle.lfs_calls.proofs.CallLemmas.{still}
 use Rattle.lfs_calls.proofs.TakeLemmas.{taking_listed, can_take, loses_name, takes_file}
 use Rattle.lfs_calls.proofs.removing.take_row.Goals as goal
@@ -48,11 +49,11 @@ apply_naming-requires-clause-finds g c =
 
 -- where the store refused, nothing changed
 onerr : (g : _) (c : After-apply_naming g) → OnErr c.apply_naming.result ((g.F.FileStore.state c.apply_naming.new.self).content ≡ (g.F.FileStore.state c.args.store.now).content)
-onerr g c = subst (λ (x : Content). OnErr c.apply_naming.result ((g.F.FileStore.state c.apply_naming.new.self).content ≡ x)) (same_content c.take_name-room.ensures.state) c.apply_naming.ensures.err
+onerr g c = subst (λ (x : Content). OnErr c.apply_naming.result ((g.F.FileStore.state c.apply_naming.new.self).content ≡ x)) (same_content c.take_name-room.ensures.state) c.apply_naming.ensures.applies.err
 
-pub returns : goal.returns
-returns g c =
-    let k = (goal.at.returns g c).After-take_name-room in
+pub returns-clause-changes : goal.returns-clause-changes
+returns-clause-changes g c =
+    let k = (goal.at.returns-clause-changes g c).After-take_name-room in
     let t = at_take g k in
     let same = c.take_name-room.ensures.state in
     record {
@@ -65,8 +66,21 @@ returns g c =
               (takes_file (g.F.FileStore.state c.take_name-room.new.store).content t.0 t.1.0.shows t.1.0.tree c.args.removal.now c.args.name.now t.1.1 c.take_name-room.result c.take_name-room.ensures.room.0 (taken g k) (g.F.FileStore.state c.apply_naming.new.self).content h),
         ),
       ))
-          c.apply_naming.ensures.ok;
+          c.apply_naming.ensures.applies.ok;
       err = onerr g c;
-      refused = subst (λ (s : StoreState). IfErr c.apply_naming.result (MayRefuse s.clean s.shape.can_lack_memory)) same c.apply_naming.ensures.refused;
-      follows = follows_same same c.apply_naming.ensures.follows;
+      refused = subst (λ (s : StoreState). IfErr c.apply_naming.result (MayRefuse s.clean s.shape.can_lack_memory)) same c.apply_naming.ensures.applies.refused;
+      follows = follows_same same c.apply_naming.ensures.applies.follows;
     }
+
+pub returns-clause-asked : goal.returns-clause-asked
+returns-clause-asked g c =
+    let t = c.requires.world in
+    let same = c.take_name-room.ensures.state in
+    asks_list g.F.FileStore.state g.F.FileStore.made refl same c.apply_naming.ensures.made (
+      c.take_name-room.result,
+      c.take_name-room.ensures.room.0,
+      (
+        c.take_name-room.ensures.room.1,
+        takes_file (g.F.FileStore.state c.args.store.now).content t.0 t.1.0.shows t.1.0.tree c.args.removal.now c.args.name.now t.1.1 c.take_name-room.result c.take_name-room.ensures.room.0 c.take_name-room.ensures.room.1 _ refl,
+      ),
+    )

@@ -5,6 +5,7 @@ use Rattle.lfs_types.specs.Stored.{MayRefuse}
 use Rattle.lfs_calls.specs.Makes.{IsBlockOf}
 use Rattle.lfs_calls.specs.Names.{MovesName}
 use Rattle.lfs_calls.specs.Renames.{HasNoRoom, MovesTo, PutsRow, WritesBlocks}
+use Rattle.lfs_calls.proofs.AskedLemmas.{asks_from, on_refusal}
 use Rattle.lfs_calls.proofs.MovedNames.{moves_free}
 use Rattle.lfs_calls.proofs.PlacedBlocks.{new_block, old_block}
 use Rattle.lfs_calls.proofs.MovedPlaces.{somewhere}
@@ -35,8 +36,8 @@ put_blocks-requires-clause-moves g c after writes =
     (moves_free t.1.0.shows t.1.0.tree t.1.1.leaves t.1.1.free c.in-Some.ensures.places after
     (subst (λ x. WritesBlocks x after m.removal.dir.number places.taken m.dir.number places.room) same writes))
 
-pub returns-in_err-put_blocks : goal.returns-in_err-put_blocks
-returns-in_err-put_blocks g c =
+pub returns-in_err-put_blocks-clause-puts : goal.returns-in_err-put_blocks-clause-puts
+returns-in_err-put_blocks-clause-puts g c =
     let t = c.requires.goes in
     let p = err_from_is_err_and c.from_residual.result c.from_residual.ensures.1 in
     let s = g.F.FileStore.state c.args.store.now in
@@ -44,10 +45,38 @@ returns-in_err-put_blocks g c =
     subst (λ r. PutsRow s full (λ after. MovesTo s.content after c.args.planned.now c.args.old.now c.args.new.now) r (g.F.FileStore.state c.put_blocks.new.store)) (sym (p.1 ∙ ap Err p.2))
     (record {
       ok = tt;
-      err = c.in_err-put_blocks.ensures.err ∙ same_content c.find_places.ensures.state;
+      err = c.in_err-put_blocks.ensures.changes.err ∙ same_content c.find_places.ensures.state;
       refused = refused_for s full c.in_err-put_blocks.field-0.0
-          (subst (λ (x : StoreState). MayRefuse x.clean x.shape.can_lack_memory c.in_err-put_blocks.field-0.0) c.find_places.ensures.state c.in_err-put_blocks.ensures.refused)
+          (subst (λ (x : StoreState). MayRefuse x.clean x.shape.can_lack_memory c.in_err-put_blocks.field-0.0) c.find_places.ensures.state c.in_err-put_blocks.ensures.changes.refused)
           (somewhere t.1.0.shows t.1.0.tree t.1.1.leaves c.in-Some.ensures.places.taking.1 c.in-Some.ensures.places.room.1);
       roomless = λ h. not_roomless c.in_err-put_blocks.field-0.0 h;
-      follows = follows_same c.find_places.ensures.state c.in_err-put_blocks.ensures.follows;
+      follows = follows_same c.find_places.ensures.state c.in_err-put_blocks.ensures.changes.follows;
     })
+
+pub returns-in_err-put_blocks-clause-asked : goal.returns-in_err-put_blocks-clause-asked
+returns-in_err-put_blocks-clause-asked g c =
+    let p = err_from_is_err_and c.from_residual.result c.from_residual.ensures.1 in
+    let m = c.args.planned.now in
+    let places = c.in-Some.places in
+    rw (p.1, p.2) (on_refusal _ c.in_err-put_blocks.field-0.0
+    (asks_from g.F.FileStore.state g.F.FileStore.made c.find_places.ensures.state (λ after writes. (
+      places,
+      (
+        c.in-Some.ensures.places,
+        subst (λ x. WritesBlocks x after m.removal.dir.number places.taken m.dir.number places.room) (same_content c.find_places.ensures.state) writes,
+      ),
+    ))
+    c.in_err-put_blocks.ensures.asked))
+
+pub returns-clause-asked : goal.returns-clause-asked
+returns-clause-asked g c =
+    let m = c.args.planned.now in
+    let places = c.in-Some.places in
+    asks_from g.F.FileStore.state g.F.FileStore.made c.find_places.ensures.state (λ after writes. (
+      places,
+      (
+        c.in-Some.ensures.places,
+        subst (λ x. WritesBlocks x after m.removal.dir.number places.taken m.dir.number places.room) (same_content c.find_places.ensures.state) writes,
+      ),
+    ))
+    c.in_ok-put_blocks.ensures.asked

@@ -4,6 +4,7 @@ use Rattle.std.specs.FinMap.{get}
 use Rattle.lfs_calls.specs.Makes.{IsBlockOf}
 use Rattle.lfs_calls.specs.Names.{MovesName}
 use Rattle.lfs_calls.specs.Renames.{SwapsBlocks}
+use Rattle.lfs_calls.proofs.AskedLemmas.{asks_from}
 use Rattle.lfs_calls.proofs.MovedNames.{moves_over}
 use Rattle.lfs_calls.proofs.PlacedBlocks.{old_block, swap_block}
 use Rattle.lfs_calls.proofs.StateLemmas.{same_content}
@@ -37,3 +38,16 @@ put_swapped-requires-clause-used g c =
     let t = c.requires.goes in
     subst (λ x. IsSome (get x c.args.there)) (sym (same_content c.find_swap.ensures.state))
     (child-stored (g.F.FileStore.state c.args.store.now).content t.0 t.1.0.shows c.args.planned.now.dir.number c.args.new.now c.args.there t.1.1.taken)
+
+pub returns-clause-asked : goal.returns-clause-asked
+returns-clause-asked g c =
+    let m = c.args.planned.now in
+    let places = c.find_swap.result in
+    asks_from g.F.FileStore.state g.F.FileStore.made c.find_swap.ensures.state (λ after swaps. (
+      places,
+      (
+        c.find_swap.ensures.places,
+        subst (λ x. SwapsBlocks x after m.removal.dir.number places.taken m.dir.number places.room c.args.there) (same_content c.find_swap.ensures.state) swaps,
+      ),
+    ))
+    c.put_swapped.ensures.asked

@@ -4,6 +4,7 @@ use Rattle.std.proofs.lemmas.Result.{IfOk-weaker}
 use Rattle.lfs_calls.specs.Renames.{block_put, WritesBlocks}
 use Rattle.lfs_calls.proofs.MovedBlocks.{writes_one, can_put_blocks}
 use Rattle.lfs_types.specs.Tree.{Content}
+use Rattle.lfs_calls.proofs.AskedLemmas.{asks_list}
 use Rattle.lfs_calls.specs.Names.{MovesName}
 use Rattle.lfs_calls.proofs.renaming.put_blocks.Goals as goal
 use Rattle.lfs_calls.proofs.renaming.put_blocks.Goals.{Then-taken-room}
@@ -28,14 +29,14 @@ apply_moving-requires-clause-moves g c = one_moves g ((goal.at.apply_moving-requ
 pub apply_moving-requires-2-clause-moves : goal.apply_moving-requires-2-clause-moves
 apply_moving-requires-2-clause-moves g c = c.requires.moves _ (λ q. refl)
 
-pub returns-then-taken-room : goal.returns-then-taken-room
-returns-then-taken-room g c =
-    let k = (goal.at.returns-then-taken-room g c).Then-taken-room in
+pub returns-then-taken-room-clause-changes : goal.returns-then-taken-room-clause-changes
+returns-then-taken-room-clause-changes g c =
+    let k = (goal.at.returns-then-taken-room-clause-changes g c).Then-taken-room in
     record {
-      ok = IfOk-weaker c.apply_moving.result _ _ (λ _ h. one_written g k (g.F.FileStore.state c.apply_moving.new.self).content h) c.apply_moving.ensures.ok;
-      err = c.apply_moving.ensures.err;
-      refused = c.apply_moving.ensures.refused;
-      follows = c.apply_moving.ensures.follows;
+      ok = IfOk-weaker c.apply_moving.result _ _ (λ _ h. one_written g k (g.F.FileStore.state c.apply_moving.new.self).content h) c.apply_moving.ensures.applies.ok;
+      err = c.apply_moving.ensures.applies.err;
+      refused = c.apply_moving.ensures.applies.refused;
+      follows = c.apply_moving.ensures.applies.follows;
     }
 
 pub apply_moving-requires-2-clause-can : goal.apply_moving-requires-2-clause-can
@@ -45,3 +46,11 @@ apply_moving-requires-2-clause-can g c =
 
 pub apply_moving-requires-clause-can : goal.apply_moving-requires-clause-can
 apply_moving-requires-clause-can g c = grind (arith, common_steps)
+
+pub returns-then-taken-room-clause-asked : goal.returns-then-taken-room-clause-asked
+returns-then-taken-room-clause-asked g c =
+    let k = (goal.at.returns-then-taken-room-clause-asked g c).Then-taken-room in
+    asks_list g.F.FileStore.state g.F.FileStore.made refl refl c.apply_moving.ensures.made (one_written g k _ refl)
+
+pub returns-clause-asked : goal.returns-clause-asked
+returns-clause-asked g c = asks_list g.F.FileStore.state g.F.FileStore.made refl refl c.apply_moving-2.ensures.made (λ q. refl)

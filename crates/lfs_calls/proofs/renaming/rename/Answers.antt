@@ -2,15 +2,18 @@ use Rattle.std.proofs.Common.{◌≡◌, ◌≤◌, List, ℕ, length, None, Som
 use Rattle.std.proofs.lemmas.Result.{err_from_is_err_and}
 use Rattle.std.specs.Prelude.{Result}
 use Rattle.lfs_types.specs.StoreStates.{StoreState}
-use Rattle.lfs_types.specs.Tree.{World}
+use Rattle.lfs_types.specs.Tree.{Content, World}
 use Rattle.lfs_types.specs.declared.request.Request.TheVariants.{Rename}
 use Rattle.lfs_model.specs.Rules.{Judges, decide, last, rule_table}
-use Rattle.lfs_calls.specs.Calls.{IsCallAt}
-use Rattle.lfs_calls.specs.Renames.{GoesWith, IsMove, PlacesRow}
+use Rattle.lfs_calls.specs.Calls.{IsCallAt, answered}
+use Rattle.lfs_calls.specs.Renames.{GoesWith, IsMove, PlacedAt, PlacesRow}
 use Rattle.lfs_calls.specs.Volumes.{IsVolume}
 use Rattle.lfs_calls.specs.declared.not_served.NotServed.{NotServed}
+use Rattle.lfs_model.specs.Effects.{effect}
+use Rattle.lfs_calls.specs.Content.{Shows}
+use Rattle.lfs_calls.proofs.AskedLemmas.{asks_placed, on_asked}
 use Rattle.lfs_calls.proofs.CallLemmas.{denied, done_so, still}
-use Rattle.lfs_calls.proofs.RenameOutcomes.{follows_placed, goes_with, halted_volume, halts_so, leaves_volume, no_error, not_listed, nothing_served, placed_none, renamed, stays_so}
+use Rattle.lfs_calls.proofs.RenameOutcomes.{follows_placed, goes_with, halted_volume, halts_so, leaves_volume, no_error, not_listed, nothing_served, placed_at, placed_none, renamed, stays_so}
 use Rattle.lfs_calls.proofs.StateLemmas.{same_content}
 use Rattle.lfs_calls.proofs.renaming.rename.Goals as goal
 use Rattle.lfs_calls.proofs.renaming.rename.Goals.{After-last_name-new}
@@ -93,7 +96,7 @@ returns-in_err-place_row-clause-call g c level =
     let p = err_from_is_err_and c.from_residual-in_err-place_row.result c.from_residual-in_err-place_row.ensures.1 in
     let m = c.in_ok-planned.planned in
     let after = g.F.FileStore.state c.place_row.new.store in
-    let put = placed_so g k (Err c.in_err-place_row.field-0.0) after c.in_err-place_row.ensures in
+    let put = placed_so g k (Err c.in_err-place_row.field-0.0) after c.in_err-place_row.ensures.places in
     let none = placed_none (before g k) m (last c.args.from.now) (last c.args.to.now) m.target c.in_err-place_row.field-0.0 after put in
     let call : IsCallAt level (before g k) after c.args.cred.now (Rename c.args.from.now c.args.to.now) (Err c.in_err-place_row.field-0.0) = record {
       outcome = λ w v at_level. halts_so (before g k) v c.args.cred.now (move g k w v) (judged_so g k w v).0 (short g k c.as_bytes.ensures.bounded) m.target refl c.in_err-place_row.field-0.0 after put;
@@ -112,7 +115,7 @@ returns-in_err-place_row-clause-stays g c w v there allowed =
     let k = (goal.at.returns-in_err-place_row-clause-stays g c).After-last_name-new in
     let m = c.in_ok-planned.planned in
     let after = g.F.FileStore.state c.place_row.new.store in
-    let put = placed_so g k (Err c.in_err-place_row.field-0.0) after c.in_err-place_row.ensures in
+    let put = placed_so g k (Err c.in_err-place_row.field-0.0) after c.in_err-place_row.ensures.places in
     absurd (no_error (stays_so (before g k) v c.args.cred.now (move g k w v) there m.target refl (Err c.in_err-place_row.field-0.0) after put).0)
 
 pub returns-clause-call : goal.returns-clause-call
@@ -120,7 +123,7 @@ returns-clause-call g c level =
     let k = (goal.at.returns-clause-call g c).After-last_name-new in
     let m = c.in_ok-planned.planned in
     let after = g.F.FileStore.state c.place_row.new.store in
-    let put = placed_so g k (Ok tt) after c.in_ok-place_row.ensures in
+    let put = placed_so g k (Ok tt) after c.in_ok-place_row.ensures.places in
     done_so level refl tt
     (λ w v at_level. (((judged_so g k w v).0, (λ none. none), refl), (renamed (before g k) v c.args.cred.now (move g k w v) (judged_so g k w v).0 m.target refl after put).roomy))
     (λ w v. leaves_volume (before g k) v c.args.cred.now (move g k w v) (judged_so g k w v).0 after (renamed (before g k) v c.args.cred.now (move g k w v) (judged_so g k w v).0 m.target refl after put))
@@ -132,5 +135,31 @@ pub returns-clause-stays : goal.returns-clause-stays
 returns-clause-stays g c w v there allowed =
     let k = (goal.at.returns-clause-stays g c).After-last_name-new in
     let after = g.F.FileStore.state c.place_row.new.store in
-    let put = placed_so g k (Ok tt) after c.in_ok-place_row.ensures in
+    let put = placed_so g k (Ok tt) after c.in_ok-place_row.ensures.places in
     (refl, (stays_so (before g k) v c.args.cred.now (move g k w v) there c.in_ok-planned.planned.target refl (Ok tt) after put).1)
+
+-- the changes make the call
+makes : (g : _) (c : After-last_name-new g) (after : Content)
+    → PlacedAt (g.F.FileStore.state c.judge_rename.new.store).content c.in_ok-planned.planned c.last_name-old.result.now c.last_name-new.result.now c.in_ok-planned.planned.target after
+    → (w : World) → IsVolume (g.F.FileStore.state c.args.store.now) w → Shows after (effect (g.F.FileStore.state c.args.store.now).shape.numbers w c.args.cred.now (Rename c.args.from.now c.args.to.now))
+makes g c after at w v =
+    let m = c.in_ok-planned.planned in
+    let mid = g.F.FileStore.state c.judge_rename.new.store in
+    let put = placed_so g c (Ok tt) (record mid { content = after }) (placed_at mid m c.last_name-old.result.now c.last_name-new.result.now m.target after at) in
+    (renamed (before g c) v c.args.cred.now (move g c w v) (judged_so g c w v).0 m.target refl (record mid { content = after }) put).shows
+
+pub returns-in_err-planned-clause-asked : goal.returns-in_err-planned-clause-asked
+returns-in_err-planned-clause-asked g c =
+    let p = err_from_is_err_and c.from_residual.result c.from_residual.ensures.1 in
+    rw (p.1, p.2) tt
+
+pub returns-in_err-place_row-clause-asked : goal.returns-in_err-place_row-clause-asked
+returns-in_err-place_row-clause-asked g c =
+    let k = (goal.at.returns-in_err-place_row-clause-asked g c).After-last_name-new in
+    let p = err_from_is_err_and c.from_residual-in_err-place_row.result c.from_residual-in_err-place_row.ensures.1 in
+    rw (p.1, p.2) (on_asked _ _ (answered (Err c.in_err-place_row.field-0.0)) (λ said. asks_placed g.F.FileStore.state g.F.FileStore.made c.judge_rename.ensures.state c.of.ensures (makes g k)) c.in_err-place_row.ensures.asked)
+
+pub returns-clause-asked : goal.returns-clause-asked
+returns-clause-asked g c =
+    let k = (goal.at.returns-clause-asked g c).After-last_name-new in
+    asks_placed g.F.FileStore.state g.F.FileStore.made c.judge_rename.ensures.state c.of.ensures (makes g k) c.in_ok-place_row.ensures.asked

@@ -8,8 +8,8 @@ use Rattle.lfs_logstore.proofs.files.LogStoreFileStore.apply.Goals as goal
 pub returns-clause-applies : goal.returns-clause-applies
 returns-clause-applies c = search rules
 
-pub returns-clause-made : goal.returns-clause-made
-returns-clause-made c = search rules
+pub returns-clause-makes : goal.returns-clause-makes
+returns-clause-makes c = search rules
 
 on_ok : {T E F : Type 0} (r : Result T E) (s : Result T F) (P : Type 0) → is_ok s ≡ is_ok r → OnOk r P → OnOk s P
 on_ok (Ok x) (Ok y) P same p = p

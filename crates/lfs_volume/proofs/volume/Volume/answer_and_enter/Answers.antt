@@ -6,6 +6,7 @@ use Rattle.lfs_types.specs.declared.answer.Resource.TheVariants.{NoMemory}
 use Rattle.lfs_model.specs.declared.journal.Event.TheVariants.{User}
 use Rattle.lfs_model.specs.Runs.{journaled, kept_entry}
 use Rattle.lfs_model.specs.Steps.{world_after}
+use Rattle.lfs_calls.specs.Asked.{IsAsked}
 use Rattle.lfs_calls.specs.Entries.{LeavesEntries, OnServed}
 use Rattle.lfs_calls.specs.Outcomes.{IsOutcome}
 use Rattle.lfs_volume.specs.Journals.{AtPresent, IsStep}
@@ -94,3 +95,11 @@ returns-clause-entered g c =
 
 pub returns-clause-limit : goal.returns-clause-limit
 returns-clause-limit g c = search rules
+
+pub returns-in_default-clause-asked : goal.returns-in_default-clause-asked
+returns-in_default-clause-asked g c =
+    subst (λ v. IsAsked g.F.FileStore.state g.F.FileStore.made v.store c.args.cred.now c.args.request (Refused NoMemory) c.answer_twice-answers.new.store) c.self.view_is c.in_default.ensures.asked
+
+pub returns-clause-asked : goal.returns-clause-asked
+returns-clause-asked g c =
+    subst (λ v. IsAsked g.F.FileStore.state g.F.FileStore.made v.store c.args.cred.now c.args.request c.in-Some.answer c.answer_twice-answers.new.store) c.self.view_is c.in-Some.ensures.asked

@@ -1,4 +1,5 @@
 use Rattle.std.proofs.Common.{rules, refl, ◌-◌, ◌^◌, ◌<◌, length, subst, arith}
+use Rattle.lfs_calls.proofs.AskedLemmas.{on_change}
 use Rattle.lfs_calls.proofs.CallLemmas.{looks_same}
 use Rattle.lfs_volume.proofs.volume.Volume.call.Goals as goal
 
@@ -89,3 +90,9 @@ returns-clause-limit g c = search rules
 
 pub returns-clause-follows : goal.returns-clause-follows
 returns-clause-follows g c = search rules
+
+pub returns-then-len-self-clause-asked : goal.returns-then-len-self-clause-asked
+returns-then-len-self-clause-asked g c = on_change c.args.request tt
+
+pub returns-clause-asked : goal.returns-clause-asked
+returns-clause-asked g c = search rules
